@@ -24,7 +24,8 @@ abbrev pub transmissions : List Channel → ℕ
 transmissions [] = 0
 transmissions (c ∷ cs) = (if is_transmission c then 1 else 0) + transmissions cs
 
--- how long the transmission of so many bits takes at so many bits per second, in ps, rounded up; none at the rate 0
+-- how long the transmission of so many bits takes at so many bits per second, in ps, rounded up;
+-- none at the rate 0
 abbrev pub duration_of : ℕ → ℕ → ℕ
 duration_of bits rate = if rate == 0 then 0 else (bits * 1000000000000 + (rate - 1)) / rate
 
@@ -80,7 +81,8 @@ walked bits busy (c ∷ cs) way = if c.disabled then Ok (Lost way.busy_until) el
 abbrev pub departing : ℕ → Way
 departing time = record { time = time; duration = 0; busy_until = None }
 
--- THE TRAVEL of a message of so many bits; `busy` is the end of the last transmission on its transmission channel
+-- THE TRAVEL of a message of so many bits; `busy` is the end of the last transmission on its
+-- transmission channel
 abbrev pub travel : List Channel → ℕ → ℕ → Option ℕ → Result Travel ChannelFault
 travel hops departure bits busy =
     if nat_lt 1 (transmissions hops) then Err TwoTransmissionChannels else walked bits busy hops (departing departure)

@@ -6,7 +6,8 @@ ghost use Rattle.channels.specs.declared.travels.Travel.{Travel};
 ghost use Rattle.channels.specs.Travel.{travel, duration_of};
 ghost use Rattle.channels.specs.Laws.{delays, durations, AllEnabled, AnyDisabled};
 
-/// A message that arrives does so after all delays and the transmission, and no channel is disabled.
+/// A message that arrives does so after all delays and the transmission, and no channel is
+/// disabled.
 pub fn arrivals_add_up()
     ensures time { (hops : List Channel) (departure bits : ℕ) (busy until : Option ℕ) (time : ℕ)
         → travel hops departure bits busy ≡ Ok (Travel.Arrival time until) → time ≡ departure + delays hops + durations bits hops }

@@ -1,4 +1,5 @@
-//! How long a message travels over the channels of its path, or why it doesn't arrive (OMNeT++ Simulation Manual, "Channels").
+//! How long a message travels over the channels of its path, or why it doesn't arrive (OMNeT++
+//! Simulation Manual, "Channels").
 #![tactic(auto)]
 
 ghost use Rattle.std.specs.Prelude.{◌≡◌, ◌+◌, ◌*◌, ◌^◌, ◌<◌, ◌≤◌, ℕ, Ok, Err};
@@ -16,8 +17,8 @@ use sim_time::SimTime;
 /// How many ps a second has.
 const PS_PER_SECOND: u128 = 1000000000000;
 
-/// What becomes of a message of so many bits that is sent over these channels at that time. `busy` is
-/// the end of the last transmission on the one that has a datarate, where there was one.
+/// What becomes of a message of so many bits that is sent over these channels at that time. `busy`
+/// is the end of the last transmission on the one that has a datarate, where there was one.
 pub fn travel(
     hops: &[Channel],
     departure: SimTime,
@@ -158,8 +159,8 @@ fn is_busy(time: SimTime, busy: &Option<SimTime>) -> bool
     }
 }
 
-/// How many ps the transmission of so many bits takes, rounded up. No number of bits and no rate is too
-/// large.
+/// How many ps the transmission of so many bits takes, rounded up. No number of bits and no rate is
+/// too large.
 fn duration_of(bits: u64, rate: u64) -> u128
     ensures value { result ≡ duration_of bits rate }
     ensures bound { result < 2 ^ 105 }

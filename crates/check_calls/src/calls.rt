@@ -1,4 +1,5 @@
-//! Runs after edits, with the calls that they take: a desk at a Tick that counts, and lines as a user writes them.
+//! Runs after edits, with the calls that they take: a desk at a Tick that counts, and lines as a
+//! user writes them.
 
 ghost use Rattle.std.specs.Prelude.{◌≤◌, IfOk, codes};
 ghost use Rattle.desk_answers.specs.Turns.{editing_at, IsSettled};
@@ -104,7 +105,8 @@ fn tell(desk: &mut Desk<Stock>, calls: &Cell<u64>, line: &str) -> Result<Told, F
     }
 }
 
-/// A run of a hundred events, which makes the one call of setup and one for each event, and what two further lines are answered.
+/// A run of a hundred events, which makes the one call of setup and one for each event, and what
+/// two further lines are answered.
 fn tell_both(
     desk: &mut Desk<Stock>,
     calls: &Cell<u64>,

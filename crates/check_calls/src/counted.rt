@@ -15,7 +15,8 @@ use std::alloc::Global;
 use std::cell::Cell;
 use std::rc::Rc;
 
-/// A stock module. It counts its calls but those of `finish`, in a counter that it shares with a test.
+/// A stock module. It counts its calls but those of `finish`, in a counter that it shares with a
+/// test.
 #[derive(Drop)]
 pub struct Counted {
     held: StockModule,

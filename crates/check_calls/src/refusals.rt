@@ -1,4 +1,5 @@
-//! Runs for which memory runs out, at each step of their modules in turn: the positions that they leave, and the runs after them.
+//! Runs for which memory runs out, at each step of their modules in turn: the positions that they
+//! leave, and the runs after them.
 
 ghost use Rattle.std.specs.Prelude.{IfOk, codes};
 ghost use Rattle.desk_answers.specs.Turns.{IsSettled};
@@ -18,9 +19,11 @@ use std::process::Abort;
 use std::rc::Rc;
 use std::test::Fail;
 
-/// From which step to which: the positions after a run of twenty events, a position after each third, for which memory runs out at that step, and what
-/// the same run is answered then. Step 1 initializes, step 2 saves the state for the position of event zero; each three events come with the position
-/// after them; steps 27 and 28 are the last two events, 29 saves the state for the last position, and 30 finishes.
+/// From which step to which: the positions after a run of twenty events, a position after each
+/// third, for which memory runs out at that step, and what the same run is answered then. Step 1
+/// initializes, step 2 saves the state for the position of event zero; each three events come with
+/// the position after them; steps 27 and 28 are the last two events, 29 saves the state for the
+/// last position, and 30 finishes.
 const RULE: &[(u64, u64, &str, &str)] = &[
     (1, 2, "positions none", "a box is wanted"),
     (3, 6, "positions 0", "done event-limit from 0 executed 20"),
@@ -105,7 +108,8 @@ fn starve(desk: &mut Desk<Stock>) -> Result<(), Fail>
     }
 }
 
-/// A run of twenty events, for which memory has to run out at that step, and what two further lines are answered.
+/// A run of twenty events, for which memory has to run out at that step, and what two further lines
+/// are answered.
 fn refuse(
     desk: &mut Desk<Stock>,
     alloc: Global,

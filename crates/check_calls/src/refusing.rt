@@ -18,8 +18,8 @@ use std::rc::Rc;
 /// More bytes than there are.
 const TOO_MANY: usize = 1 << 62;
 
-/// A stock module. The last of so many steps, in a counter that it shares with a test, meets lack of memory: a step is a call, or to save the state.
-/// Where none is left no step does.
+/// A stock module. The last of so many steps, in a counter that it shares with a test, meets lack
+/// of memory: a step is a call, or to save the state. Where none is left no step does.
 #[derive(Drop)]
 pub struct Refusing {
     held: StockModule,

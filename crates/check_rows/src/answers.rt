@@ -23,7 +23,8 @@ fn tell_parts(alloc: Global, told: &mut Telling, file: &str, first: &str, rest: 
     }
 }
 
-/// Tells what becomes of a row of several parts, each before a `|`. A row of one part is a comment, of which nothing is told.
+/// Tells what becomes of a row of several parts, each before a `|`. A row of one part is a comment,
+/// of which nothing is told.
 fn tell_parted(alloc: Global, told: &mut Telling, file: &str, row: &str) {
     if let Some((first, rest)) = row.split_once('|') {
         tell_parts(alloc, told, file, first, rest);

@@ -68,7 +68,8 @@ fn tell_of_text(alloc: Global, told: &mut Telling, text: &IniText, config: &str,
     }
 }
 
-/// Tells what a configuration says to a question. After the question come the configuration's name and the ini text.
+/// Tells what a configuration says to a question. After the question come the configuration's name
+/// and the ini text.
 pub fn tell_configuration(alloc: Global, told: &mut Telling, asked: &str, rest: &str) {
     let (config, text) = parted(rest, '|');
     match ini_text(alloc, told, b"", text) {

@@ -1,5 +1,6 @@
-//! Texts as rows write them: `\n`, `\r` and `\t` are LF, CR and tab, `\\` is a backslash, and `\xNN` is the byte of two
-//! hexadecimal digits. After `\*COUNT*TIMES*` the last COUNT bytes stand so many times in all.
+//! Texts as rows write them: `\n`, `\r` and `\t` are LF, CR and tab, `\\` is a backslash, and
+//! `\xNN` is the byte of two hexadecimal digits. After `\*COUNT*TIMES*` the last COUNT bytes stand
+//! so many times in all.
 
 use crate::telling::Telling;
 use std::alloc::{AllocError, Global};
@@ -105,7 +106,8 @@ impl RowBytes {
     }
 }
 
-/// The text that a row writes, after a head. It is cut off where memory runs out, which is then noted.
+/// The text that a row writes, after a head. It is cut off where memory runs out, which is then
+/// noted.
 pub fn unescaped_behind(alloc: Global, told: &mut Telling, head: &[u8], text: &str) -> Vec<u8> {
     let mut written = RowBytes {
         bytes: Vec::new(alloc),

@@ -47,7 +47,8 @@ fn tell_rows<R: Print + AllocGlobal>(rt: &R, file: &str, text: &str) -> anyhow::
     Ok(())
 }
 
-/// Prints the rows of the file whose rows begin with a word that says what they are, and what becomes of each.
+/// Prints the rows of the file whose rows begin with a word that says what they are, and what
+/// becomes of each.
 fn tell_parts<R: Print + AllocGlobal>(rt: &R, file: &str, text: &str) -> anyhow::Result<()> {
     let mut told = String::new(rt.alloc());
     part_rows::tell_rows(rt.alloc(), &mut told, text)?;

@@ -27,8 +27,8 @@ fn tell_asked(
     Ok(())
 }
 
-/// Tells what the table says of what was found: the number and the places that it was asked from, or the fault; how many keys
-/// the table has, and how many evaluations were begun.
+/// Tells what the table says of what was found: the number and the places that it was asked from,
+/// or the fault; how many keys the table has, and how many evaluations were begun.
 fn tell(
     told: &mut String,
     table: &Table<usize, u64>,
@@ -77,7 +77,8 @@ fn ask_both(
     }
 }
 
-/// Tells what is answered to the two questions of a row: the rules, a word each, and after a `|` each two keys.
+/// Tells what is answered to the two questions of a row: the rules, a word each, and after a `|`
+/// each two keys.
 pub fn tell_numbers(alloc: Global, told: &mut String, row: &str) -> Result<(), NoMemory> {
     told.push_str(" ->")?;
     let (words, keys) = first_part(row);

@@ -89,7 +89,8 @@ fn ask(
     Ok(tell_found(told, table, found)?)
 }
 
-/// Tells the value of `x0` by a table of its own, and then those of `x0` and of the last one before the end by one table.
+/// Tells the value of `x0` by a table of its own, and then those of `x0` and of the last one before
+/// the end by one table.
 fn tell_values(
     alloc: Global,
     told: &mut String,
@@ -105,7 +106,8 @@ fn tell_values(
     }
 }
 
-/// Tells values of a chain: how long it is, whether each one refers `once` or `twice` to the next, and what the last one is given.
+/// Tells values of a chain: how long it is, whether each one refers `once` or `twice` to the next,
+/// and what the last one is given.
 pub fn tell_chain(
     alloc: Global,
     told: &mut String,

@@ -4,8 +4,9 @@ use crate::numbers::Rule;
 use crate::part_rows::number;
 use std::alloc::AllocError;
 
-/// The rule that a word is, of the key after that one: a number, `>2` for one more than that of the key 2, `1+2` for the sum of
-/// those of these two, `next` and `twice` for the same of the key before, or `broken`.
+/// The rule that a word is, of the key after that one: a number, `>2` for one more than that of the
+/// key 2, `1+2` for the sum of those of these two, `next` and `twice` for the same of the key
+/// before, or `broken`.
 fn rule_of(word: &str, before: usize) -> Rule {
     if let Some((first, second)) = word.split_once('+') {
         return Rule::Sum(number(first), number(second));

@@ -24,8 +24,8 @@ pub struct Line<'t> {
     pub id: u32,
     pub name: &'t str,
     pub kind: Kind,
-    /// What the NED text gives it: `= E` in the type's section, `body E` in the submodule's body, `default E` in the type's
-    /// section, or nothing.
+    /// What the NED text gives it: `= E` in the type's section, `body E` in the submodule's body,
+    /// `default E` in the type's section, or nothing.
     pub gives: &'t str,
     /// What the ini text says for it, nothing where that is nothing.
     pub entry: &'t str,
@@ -89,7 +89,8 @@ pub fn add(alloc: Global, scene: &mut Rows, line: &Line<'_>) -> Result<(), NedEr
     }
 }
 
-/// Adds `count` of the module 2 as a row gives it, and `late` of the same module; that of the enclosing one is 5.
+/// Adds `count` of the module 2 as a row gives it, and `late` of the same module; that of the
+/// enclosing one is 5.
 fn add_all(alloc: Global, scene: &mut Rows, row: &str) -> Result<(), NedError> {
     let (kind, rest) = first_part(row);
     let (gives, rest) = first_part(rest);

@@ -3,7 +3,8 @@
 use std::io;
 use std::io::{ErrorKind, Read};
 
-/// A reader that gives at most so many bytes in a call, and fails where it has given so many in all: once, or from there on.
+/// A reader that gives at most so many bytes in a call, and fails where it has given so many in
+/// all: once, or from there on.
 #[derive(Drop)]
 pub struct Drip<'a> {
     pub left: &'a [u8],

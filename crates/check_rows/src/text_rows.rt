@@ -43,7 +43,8 @@ fn add_equal(bytes: &mut Vec<u8>, byte: u8, count: usize) -> Result<(), AllocErr
     Ok(())
 }
 
-/// Adds the bytes of a long text from one place to another, of which no part of 251 bytes or fewer is like the next.
+/// Adds the bytes of a long text from one place to another, of which no part of 251 bytes or fewer
+/// is like the next.
 fn add_cycle(bytes: &mut Vec<u8>, from: usize, to: usize) -> Result<(), AllocError> {
     for at in from..to {
         bytes.push((at % 251) as u8)?;
@@ -71,7 +72,8 @@ fn tell_front(told: &mut String, read: &[u8], text: &[u8]) -> Result<(), AllocEr
     }
 }
 
-/// Tells what is read of a text that comes in parts of that length, of a source that fails after so many bytes.
+/// Tells what is read of a text that comes in parts of that length, of a source that fails after so
+/// many bytes.
 fn tell_read(
     alloc: Global,
     told: &mut String,
@@ -127,7 +129,8 @@ fn tell_five(
     Ok(())
 }
 
-/// Tells the lines of a text that comes in parts of that length, of a source that fails once, after so many bytes.
+/// Tells the lines of a text that comes in parts of that length, of a source that fails once, after
+/// so many bytes.
 fn tell_lines(
     alloc: Global,
     told: &mut String,
@@ -173,8 +176,9 @@ fn until(word: &str) -> usize {
     }
 }
 
-/// Tells what is read of a text, or of the lines of one: the most bytes that a call gives, after how many the source fails, and
-/// the text. That of a `cycle` is a part of a long one, from a place to another, and that of `long_lines` is always the same.
+/// Tells what is read of a text, or of the lines of one: the most bytes that a call gives, after
+/// how many the source fails, and the text. That of a `cycle` is a part of a long one, from a place
+/// to another, and that of `long_lines` is always the same.
 pub fn tell_text(alloc: Global, told: &mut String, word: &str, row: &str) -> Result<(), NoMemory> {
     told.push_str(" ->")?;
     let (step, rest) = first_part(row);

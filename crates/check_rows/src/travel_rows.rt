@@ -92,7 +92,8 @@ fn tell(told: &mut Telling, found: &Result<Travel, ChannelFault>) {
     }
 }
 
-/// Tells what becomes of a message that is sent at that time: of so many bits, with the end of the last transmission, over these channels.
+/// Tells what becomes of a message that is sent at that time: of so many bits, with the end of the
+/// last transmission, over these channels.
 pub fn tell_travel(alloc: Global, told: &mut Telling, departure: &str, rest: &str) {
     let (bits, rest) = parted(rest, '|');
     let (busy, words) = parted(rest, '|');

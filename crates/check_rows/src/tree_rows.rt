@@ -99,7 +99,8 @@ fn tell_within(told: &mut Telling, before: &str, text: &str, behind: &str) {
     told.text(behind);
 }
 
-/// Tells the tree of an expression: each operator with its operands in parentheses, the text's own parentheses as braces.
+/// Tells the tree of an expression: each operator with its operands in parentheses, the text's own
+/// parentheses as braces.
 pub fn tell_tree(told: &mut Telling, expression: &Expression) {
     match expression {
         Expression::Literal(value) => tell_literal(told, value),
@@ -197,8 +198,8 @@ fn tell_tokens(alloc: Global, told: &mut Telling, tokens: &[Token]) {
     }
 }
 
-/// Tells the tree of an expression between `<` and `>` and how many tokens are left after it, or how many are left at the first
-/// that can't go on.
+/// Tells the tree of an expression between `<` and `>` and how many tokens are left after it, or
+/// how many are left at the first that can't go on.
 pub fn tell_angled(alloc: Global, told: &mut Telling, row: &str) {
     let text = unescaped(alloc, told, row);
     match tokenize(alloc, text.as_slice()) {

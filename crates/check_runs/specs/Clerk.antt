@@ -1,6 +1,7 @@
--- Modules that record scalars, as examples. A Clerk records one as it begins, emits the greatest value twice and sets a timer; it records a
--- second scalar for a message, and a third at the end of the run. So its scalars say how often each of its methods was called. The name
--- that a Scribe records has a blank in it, which is none of a scalar.
+-- Modules that record scalars, as examples. A Clerk records one as it begins, emits the greatest
+-- value twice and sets a timer; it records a second scalar for a message, and a third at the end of
+-- the run. So its scalars say how often each of its methods was called. The name that a Scribe
+-- records has a blank in it, which is none of a scalar.
 use Rattle.std.specs.Prelude.{ℕ, ℤ, pos, neg_ℤ, Bool, true, false, ◌||◌, List, [], ◌∷◌, IsTrue, codes, refl, if◌then◌else◌}
 use Rattle.std.specs.Str.{bytes_eq}
 use Rattle.module_api.specs.declared.call.Prompt.{Prompt}

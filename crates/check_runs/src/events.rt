@@ -1,4 +1,5 @@
-//! Tests of `event_set`: the order of the events to come, timers that are cancelled, and events of modules that are gone.
+//! Tests of `event_set`: the order of the events to come, timers that are cancelled, and events of
+//! modules that are gone.
 
 ghost use Rattle.std.specs.Prelude.{◌≡◌, ◌+◌, ◌≤◌, ◌<◌, IfOk};
 
@@ -14,7 +15,8 @@ use std::test::Fail;
 /// Five seconds, in picoseconds.
 const FIVE: u64 = 5_000_000_000_000;
 
-/// A timer that is to be set: its time in picoseconds, its priority, its module's id, and its number.
+/// A timer that is to be set: its time in picoseconds, its priority, its module's id, and its
+/// number.
 struct Row(u64, i16, u32, u32);
 
 /// Sets a timer, and answers whether it was not pending yet.
@@ -61,7 +63,8 @@ fn three_timers(alloc: Global) -> Result<EventSet, NoMemory>
     Ok(events)
 }
 
-/// What is told of the first of the events to come: its time in picoseconds, its priority, and its module's id.
+/// What is told of the first of the events to come: its time in picoseconds, its priority, and its
+/// module's id.
 fn first_of(events: &EventSet) -> Option<(u64, i16, u32)> {
     match events.first() {
         Some(coming) => Some((coming.time.ps(), coming.priority, coming.id)),
@@ -83,7 +86,8 @@ fn a_lesser_priority_comes_first_and_then_the_first_inserted(rt: HostRuntime) ->
     Ok(())
 }
 
-/// Timers of the module 7: 0 at five seconds with the least priority, 1 a picosecond earlier with the greatest, and 2 at once.
+/// Timers of the module 7: 0 at five seconds with the least priority, 1 a picosecond earlier with
+/// the greatest, and 2 at once.
 fn timers_by_time(alloc: Global) -> Result<EventSet, NoMemory> {
     let mut events = EventSet::new(alloc);
     set_timer(&mut events, Row(FIVE, -32768, 7, 0))?;
@@ -102,8 +106,8 @@ fn an_earlier_time_comes_before_a_lesser_priority(rt: HostRuntime) -> Result<(),
     Ok(())
 }
 
-/// Whether the timer 0 of the module 7, which is pending, can be set, is cancelled, is pending then, and is cancelled again; and whether
-/// a timer of the module 8 is cancelled, which has none.
+/// Whether the timer 0 of the module 7, which is pending, can be set, is cancelled, is pending
+/// then, and is cancelled again; and whether a timer of the module 8 is cancelled, which has none.
 fn cancel_twice(events: &mut EventSet) -> Result<[bool; 5], NoMemory>
     requires { events.old.next < 5000 }
 {
@@ -135,8 +139,8 @@ fn take_number(events: &mut EventSet) -> Option<(u128, Option<u32>)>
     Some((event.number, timer_of(&event)))
 }
 
-/// Whether the timer 1 of the module 7 is pending before the first event is taken out, whether after it, and whether it can be set then; and
-/// what that event is, and the first one after that.
+/// Whether the timer 1 of the module 7 is pending before the first event is taken out, whether
+/// after it, and whether it can be set then; and what that event is, and the first one after that.
 fn set_again(
     events: &mut EventSet,
 ) -> Result<([bool; 3], [Option<(u128, Option<u32>)>; 2]), NoMemory>
@@ -208,8 +212,8 @@ fn five_hundred_of_a_thousand_come_in_the_order_of_insertion(rt: HostRuntime) ->
     Ok(())
 }
 
-/// The timers that come of a copy, and then those of the set, of which the timer 1 is cancelled after the copy; none where that is not
-/// pending in the set before, or in the copy after it.
+/// The timers that come of a copy, and then those of the set, of which the timer 1 is cancelled
+/// after the copy; none where that is not pending in the set before, or in the copy after it.
 fn timers_of_both(
     alloc: Global,
     events: &mut EventSet,
@@ -306,8 +310,9 @@ fn take_id(events: &mut EventSet) -> Option<u32> {
     }
 }
 
-/// Strikes out what comes first of modules that are gone: of none, of the module 2, and of that once more after the first event. Answers for which
-/// module the first event is each time, and whether the timer of the module 2 is pending before the last time, and after it.
+/// Strikes out what comes first of modules that are gone: of none, of the module 2, and of that
+/// once more after the first event. Answers for which module the first event is each time, and
+/// whether the timer of the module 2 is pending before the last time, and after it.
 fn strike_in_turn(events: &mut EventSet) -> ([Option<u32>; 3], [bool; 2]) {
     events.strike([false, true, true].as_slice());
     let none_gone = first_id(events);

@@ -109,8 +109,9 @@ fn shelf_of(alloc: Global, room: usize, step: usize) -> Shelf {
     }
 }
 
-/// Writes both files, each to a device with room for so many bytes, which takes at most so many in a call. Answers what the writes
-/// answer, and whether the devices have then taken what they have room for.
+/// Writes both files, each to a device with room for so many bytes, which takes at most so many in
+/// a call. Answers what the writes answer, and whether the devices have then taken what they have
+/// room for.
 fn try_device(
     alloc: Global,
     files: &ResultFiles,

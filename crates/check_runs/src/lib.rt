@@ -1,4 +1,5 @@
-//! Tests of `event_set`, `module_stock`, `result_files`, and scalars that modules record, apart from the crates that they test.
+//! Tests of `event_set`, `module_stock`, `result_files`, and scalars that modules record, apart
+//! from the crates that they test.
 #![tactic(auto)]
 
 #[cfg(test)]

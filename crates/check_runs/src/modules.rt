@@ -47,7 +47,8 @@ fn take_fresh<C: Catalogue>(_held: Box<dyn SimpleModule>, kind: &[u8])
     let _kind = kind;
 }
 
-/// Makes a box of that kind and hands it on, as a program does. What it answers is whether the kind is known.
+/// Makes a box of that kind and hands it on, as a program does. What it answers is whether the kind
+/// is known.
 fn hand_over(alloc: Global, kind: &[u8]) -> Result<bool, NoMemory> {
     match StockModule::of_kind(alloc, kind) {
         None => Ok(false),
@@ -85,7 +86,8 @@ fn told(
     Ok(text_of(alloc, &reply)?)
 }
 
-/// What calls a box at a place in a list of calls: the first one initializes it, the others are timers.
+/// What calls a box at a place in a list of calls: the first one initializes it, the others are
+/// timers.
 fn prompt_at(alloc: Global, at: usize) -> Prompt {
     if at == 0 {
         Prompt::Initialize(0)

@@ -30,7 +30,8 @@ fn desk_of(alloc: Global, ned: &str) -> Result<Desk<Office>, Fail>
     Ok(Desk::of_session(alloc, session))
 }
 
-/// Runs, or goes on with the run that waits, and gives it the box that it waits for, which has to be of that kind.
+/// Runs, or goes on with the run that waits, and gives it the box that it waits for, which has to
+/// be of that kind.
 fn supply(desk: &mut Desk<Office>, kind: &[u8], held: Box<dyn SimpleModule>) -> Result<(), Fail>
     requires made { IsFresh office kind.now (meaning held) }
     requires sound { IsSettled office (λ b. ⟦<dyn SimpleModule as SimpleModule>⟧ b.vtable) desk.old }

@@ -60,7 +60,8 @@ struct Player<'a> {
     lines: &'a [Text],
     /// All that the scenario's file has.
     all: &'a str,
-    /// The file that the line asked for that was asked last. Its bytes are told, in place of the answer.
+    /// The file that the line asked for that was asked last. Its bytes are told, in place of the
+    /// answer.
     file: Option<Page>,
     told: Vec<u8>,
     transcript: Transcript,
@@ -116,7 +117,8 @@ impl<'a> Player<'a> {
         }
     }
 
-    /// Writes down an answer, which may tell that files are written. Where a file was asked for, it is there in place of the answer, or there is none.
+    /// Writes down an answer, which may tell that files are written. Where a file was asked for, it
+    /// is there in place of the answer, or there is none.
     fn tell(&mut self, answer: &[u8], is_written: bool) -> Result<(), NoMemory>
         ensures lines { self.new.lines ≡ self.old.lines }
         ensures transcript { self.new.transcript ≡ self.old.transcript }

@@ -12,8 +12,8 @@ const MARK: &str = "--- ";
 /// The interval where a scenario gives none.
 const INTERVAL: u64 = 10;
 
-/// One scenario. Its file has parts, each after a line `--- ini`, `--- ned`, `--- config`, `--- interval`, `--- do` or
-/// `--- file PATH`. What comes before them says what it shows.
+/// One scenario. Its file has parts, each after a line `--- ini`, `--- ned`, `--- config`, `---
+/// interval`, `--- do` or `--- file PATH`. What comes before them says what it shows.
 #[derive(Drop)]
 pub struct Scenario<'a> {
     /// The NED files, in order.
@@ -22,9 +22,11 @@ pub struct Scenario<'a> {
     pub ini: &'a str,
     /// The name of the configuration, `General` where none is named.
     pub config: &'a str,
-    /// A run leaves a position after each multiple of so many events, of 10 where no number is given, or zero.
+    /// A run leaves a position after each multiple of so many events, of 10 where no number is
+    /// given, or zero.
     pub interval: u64,
-    /// What the desk is asked, a line for each. `scalars` and `vectors` ask for the files of the last run.
+    /// What the desk is asked, a line for each. `scalars` and `vectors` ask for the files of the
+    /// last run.
     pub asked: &'a str,
     /// All that the file has.
     pub all: &'a str,

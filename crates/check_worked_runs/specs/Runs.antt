@@ -8,7 +8,8 @@ use Rattle.edit_session.specs.Files.{scalars_of_run, vectors_of_run}
 use Rattle.desk_answers.specs.Turns.{run_answer}
 use Rattle.check_worked_runs.specs.Models.{ticks, given, three_ticks}
 
--- the answer of the run to this limit where no position is stored, its scalar file, and its vector file
+-- the answer of the run to this limit where no position is stored, its scalar file, and its vector
+-- file
 pub record Gives (m : Model) (limit : ℕ) (answer scalars vectors : List ℕ) : Type 0 where
   pub answer_is : run_answer stock m limit [] ≡ answer
   pub scalars_are : scalars_of_run stock m limit ≡ scalars
@@ -38,7 +39,8 @@ TwoModules = Gives (ticks (codes "a" ∷ codes "b" ∷ []) (given (codes "count"
     (header ++ codes "config **.count 2\n\nscalar N.a fired:count 2\nscalar N.a fired:max 2\nscalar N.b fired:count 2\nscalar N.b fired:max 2\n")
     (header ++ codes "config **.count 2\n\nvector 0 N.a fired:vector ETV\nvector 1 N.b fired:vector ETV\n0\t1\t1\t1\n1\t2\t1\t1\n0\t3\t2\t2\n1\t4\t2\t2\n")
 
--- the second tick would come after the greatest time: no module is finished, and so the scalar file is its header
+-- the second tick would come after the greatest time: no module is finished, and so the scalar file
+-- is its header
 abbrev pub TimeOverflow : Type 0
 TimeOverflow =
     Gives (ticks (codes "t" ∷ []) (given (codes "count") (codes "2") (values.Whole (pos 2)) ∷ given (codes "gap") (codes "9223372.036854775807s") (values.Quantity dimension.Time (pos 9223372036854775807)) ∷ [])) 100

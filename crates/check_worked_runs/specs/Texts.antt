@@ -13,8 +13,8 @@ ned_text =
 abbrev pub ini_text : List ℕ
 ini_text = codes "[General]\nnetwork = N\n**.count = 3\n"
 
--- FROM BYTES TO BYTES: the two files make the model of three ticks, and no other. What its run answers, and what it writes,
--- is said by `ThreeTicks`.
+-- FROM BYTES TO BYTES: the two files make the model of three ticks, and no other. What its run
+-- answers, and what it writes, is said by `ThreeTicks`.
 pub record FirstExample : Type 0 where
   pub makes : IsModelOf (ned_text ∷ []) ini_text (codes "General") three_ticks
   pub only : IsOnlyModelOf (ned_text ∷ []) ini_text (codes "General") three_ticks

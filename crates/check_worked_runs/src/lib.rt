@@ -1,5 +1,5 @@
-//! Runs that were worked out by hand, as theorems of the definitions. The functions do nothing: their
-//! contracts say what the definitions give, to the last byte, whatever the code does.
+//! Runs that were worked out by hand, as theorems of the definitions. The functions do nothing:
+//! their contracts say what the definitions give, to the last byte, whatever the code does.
 #![tactic(auto)]
 
 ghost use Rattle.check_worked_runs.specs.Runs.{ThreeTicks, NoTicks, TwoModules, TimeOverflow};

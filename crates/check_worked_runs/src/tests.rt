@@ -74,7 +74,8 @@ fn shelf_of(alloc: Global, room: usize) -> Shelf {
     }
 }
 
-/// Writes the scalar file to a device with room for so many bytes. Answers what the desk says, and what the device took.
+/// Writes the scalar file to a device with room for so many bytes. Answers what the desk says, and
+/// what the device took.
 fn scalars_of<C: Catalogue>(
     alloc: Global,
     desk: &Desk<C>,
@@ -146,8 +147,8 @@ fn tell<C: Catalogue>(desk: &mut Desk<C>, line: &[u8], told: &mut Vec<u8>) -> Re
     Ok(())
 }
 
-/// What the desk answers to an edit that is refused, to one that is made, and to what is no command; and whether a run is done
-/// after the first and after the second.
+/// What the desk answers to an edit that is refused, to one that is made, and to what is no
+/// command; and whether a run is done after the first and after the second.
 fn tell_edits<C: Catalogue>(
     desk: &mut Desk<C>,
     told: &mut Vec<u8>,

@@ -227,7 +227,8 @@ left_after from k m f t e h =
 left_at : (m : ℕ) (f : Bool) (t : Timeline ℕ) → f ≡ false → behind (is_left m f) t (numbers_from (suc m) (m - m)) ≡ paid m f m (behind is_multiple t (numbers_from (suc m) (lasting f m - m)))
 left_at m f t e = let z : m - m ≡ 0 = omega arith in rw e (rw (z, less_not m) refl)
 
--- WHAT A RUN LEAVES after where it went on: those of the multiples up to its last event that did not end in a fault, and the last one, where it is owed
+-- WHAT A RUN LEAVES after where it went on: those of the multiples up to its last event that did
+-- not end in a fault, and the last one, where it is owed
 pub left_is : (from m : ℕ) (f : Bool) (t : Timeline ℕ) → from ≤ m → (f ≡ true → from < m) → Below (suc from) t.stored
     → behind (is_left m f) t (numbers_from (suc from) (m - from)) ≡ paid from f m (behind is_multiple t (numbers_from (suc from) (lasting f m - from)))
 left_is from m f t h g below =

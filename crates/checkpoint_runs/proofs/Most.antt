@@ -92,7 +92,8 @@ rises_has a n (x ∷ xs) r (inr h) = let l = r.0 in let k = rises_has (suc x) n 
 less_or_not : (m n : ℕ) → (m < n) ⊎ (n ≤ m)
 less_or_not m n = ⊎_elim (λ (h : (nat_lt m n ≡ true) × (m < n)). inl h.1) (λ (h : (nat_lt m n ≡ false) × (n < suc m)). inr (let l = h.1 in omega (arith, l))) (leb_tells (suc m) n)
 
--- Where each multiple from one of them on and below a number is there, there are no fewer than those.
+-- Where each multiple from one of them on and below a number is there, there are no fewer than
+-- those.
 all_there : (i : ℕ) → 1 ≤ i → (k c a : ℕ) (xs : List ℕ) → Rises a xs → ((j : ℕ) → k ≤ j → j * i < c → Has (j * i) xs) → c ≤ (k + length xs) * i
 all_there i some k c a [] r h =
     let z : k + 0 ≡ k = omega arith in
@@ -169,7 +170,8 @@ multiples_stay w n (x ∷ xs) b = by (stays w n x) refl (multiples_stay w n xs b
 
 -- ---- each multiple up to the newest is stored
 
--- They rise, below this number of events, and are no more than 64. All multiples of the interval below it are stored, unless that can't be doubled.
+-- They rise, below this number of events, and are no more than 64. All multiples of the interval
+-- below it are stored, unless that can't be doubled.
 record IsDense (n : ℕ) (t : Timeline ℕ) : Type 0 where
   first : 1 ≤ t.first
   some : 1 ≤ t.interval

@@ -18,8 +18,8 @@ use Rattle.checkpoint_runs.specs.declared.running.Runner.{Runner}
 use Rattle.checkpoint_runs.specs.declared.running.Stood.{Stood}
 use Rattle.checkpoint_runs.specs.declared.running.Stood.TheVariants as stood
 
--- A POSITION IS GOOD: the run of the model goes on after its events, it is the position of the world there, whose lists have only grown since, and
--- its modules are those that have boxes.
+-- A POSITION IS GOOD: the run of the model goes on after its events, it is the position of the
+-- world there, whose lists have only grown since, and its modules are those that have boxes.
 pub record IsGood (b : Behaviour) (m : Answers) (seats : List Seat) (w : World) (p : Position) : Type 0 where
   pub world : World
   pub stage : after b m p.count ≡ Running world
@@ -53,12 +53,13 @@ abbrev pub lasting : Bool → ℕ → ℕ
 lasting true last = last - 1
 lasting false last = last
 
--- whether a run that went on from so many events owes a position after its last one: where none is taken there
+-- whether a run that went on from so many events owes a position after its last one: where none is
+-- taken there
 abbrev pub is_owed : ℕ → Bool → ℕ → List ℕ → Bool
 is_owed from faulted last counts = not faulted && (nat_lt from last && not (ends_at last counts))
 
--- A run went on from so many events to its end: after the positions that there were stand those of the multiples. Where it did not end in a fault it
--- could go on from there.
+-- A run went on from so many events to its end: after the positions that there were stand those of
+-- the multiples. Where it did not end in a fault it could go on from there.
 pub record HasGoneOn (b : Behaviour) (m : Answers) (from : ℕ) (before new : Timeline Position) (w : World) (outcome : Outcome) : Type 0 where
   pub grew : from ≤ w.count
   pub faulted : is_fault outcome ≡ true → from < w.count
@@ -71,7 +72,8 @@ pub record HasLeft (from : ℕ) (before new : Timeline Position) (ran : Ran) : T
   pub faulted : is_fault ran.outcome ≡ true → from < ran.world.count
   pub counts : counts_in new ≡ behind (is_left ran.world.count (is_fault ran.outcome)) (counts_in before) (numbers_from (suc from) (ran.world.count - from))
 
--- It has executed so many events, at least this many and no more than its limit; after them stand the multiples among so many numbers.
+-- It has executed so many events, at least this many and no more than its limit; after them stand
+-- the multiples among so many numbers.
 pub record HasGone (b : Behaviour) (m : Answers) (limit from least k more : ℕ) (before new : Timeline Position) : Type 0 where
   pub going : CanGoOn b m k
   pub limited : k ≤ limit
@@ -92,7 +94,8 @@ module _ {C X : Type 0} {Y : X → Type 0} where
   abbrev pub HasGood : Behaviour → Answers → Members X Y → Runner C X Y → Type 0
   HasGood b m members r = AreGood b m (seats_in members r.kernel) (world_in members r.kernel) r.positions.stored
 
-  -- the run of the model goes on from where its kernel stands, which is up to the limit; numbers are far from running out
+  -- the run of the model goes on from where its kernel stands, which is up to the limit; numbers
+  -- are far from running out
   pub record IsGoing (b : Behaviour) (m : Answers) (members : Members X Y) (limit : ℕ) (r : Runner C X Y) : Type 0 where
     pub going : Running (world_in members r.kernel) ≡ after b m (world_in members r.kernel).count
     pub within : (world_in members r.kernel).count ≤ limit
@@ -109,7 +112,8 @@ module _ {C X : Type 0} {Y : X → Type 0} where
   abbrev pub boxes_in : Members X Y → Runner C X Y → List Part
   boxes_in members r = standing (world_in members r.kernel).modules ++ parts_in (waiting_in members r)
 
-  -- Where there is a start the run goes on from there, of the positions those up to it are left, and no box waits; else nothing has changed.
+  -- Where there is a start the run goes on from there, of the positions those up to it are left,
+  -- and no box waits; else nothing has changed.
   abbrev pub IsBack : Behaviour → Answers → Members X Y → ℕ → Runner C X Y → Runner C X Y → Option ℕ → Type 0
   IsBack b m members limit before after None = after ≡ before
   IsBack b m members limit before after (Some start) =

@@ -60,12 +60,13 @@ abbrev pub behind : (ℕ → ℕ → Bool) → Timeline ℕ → List ℕ → Tim
 behind due t [] = t
 behind due t (n ∷ ns) = behind due (passed due t n) ns
 
--- whether a run whose last event was this one leaves a position after that event: after each multiple of the interval, and after its last
--- one unless that ended in a fault
+-- whether a run whose last event was this one leaves a position after that event: after each
+-- multiple of the interval, and after its last one unless that ended in a fault
 abbrev pub is_left : ℕ → Bool → ℕ → ℕ → Bool
 is_left last faulted interval n = if n == last then not faulted else is_multiple interval n
 
--- THE POSITIONS THAT A RUN LEAVES: the old ones are cut to where it began, and after them its own are taken
+-- THE POSITIONS THAT A RUN LEAVES: the old ones are cut to where it began, and after them its own
+-- are taken
 abbrev pub positions_left : Timeline ℕ → Option ℕ → ℕ → Bool → Timeline ℕ
 positions_left old start last faulted =
     behind (is_left last faulted) (cut start old) (numbers_from (first_behind start) (suc last - first_behind start))
@@ -81,7 +82,8 @@ AllStay old start last faulted =
     let own = due_behind start last faulted kept.interval in
     length kept.stored + length own ≤ most_stored → positions_left old start last faulted ≡ record { first = kept.first; interval = kept.interval; stored = kept.stored ++ own }
 
--- the same, of a run that was given up before its end: of its events so many are those after whose multiples one was taken
+-- the same, of a run that was given up before its end: of its events so many are those after whose
+-- multiples one was taken
 abbrev pub positions_begun : Timeline ℕ → Option ℕ → ℕ → Timeline ℕ
 positions_begun old start more = behind is_multiple (cut start old) (numbers_from (first_behind start) more)
 
@@ -95,15 +97,17 @@ positions_after b m limit old =
 abbrev pub CanGoOn : Behaviour → Answers → ℕ → Type 0
 CanGoOn b m k = (w : World) × (Running w ≡ after b m k)
 
--- a run of the model to that limit, which began there, executed so many events, and of its own positions those of so many numbers are stored
+-- a run of the model to that limit, which began there, executed so many events, and of its own
+-- positions those of so many numbers are stored
 pub record HasGoneTo (b : Behaviour) (m : Answers) (limit : ℕ) (old : Timeline ℕ) (start : Option ℕ) (k more : ℕ) (new : Timeline ℕ) : Type 0 where
   pub going : CanGoOn b m k
   pub limited : k ≤ limit
   pub within : starts_within start k
   pub positions : new ≡ positions_begun old start more
 
--- WHAT A RUN LEAVES THAT WAS GIVEN UP, by where it stood when memory ran out. Before event zero was done there are none. After an event there are those
--- that were due up to that one; where its own position could not be taken, those before it. In its end there are all of its own.
+-- WHAT A RUN LEAVES THAT WAS GIVEN UP, by where it stood when memory ran out. Before event zero was
+-- done there are none. After an event there are those that were due up to that one; where its own
+-- position could not be taken, those before it. In its end there are all of its own.
 abbrev pub HasStored : Behaviour → Answers → ℕ → Timeline ℕ → Stood → Timeline ℕ → Type 0
 HasStored b m limit old stood.Before new = (start_of limit old.stored ≡ None) × (new ≡ cut None old)
 HasStored b m limit old (stood.After k) new = HasGoneTo b m limit old (start_of limit old.stored) k (suc k - first_behind (start_of limit old.stored)) new
@@ -112,8 +116,9 @@ HasStored b m limit old stood.Ending new = new ≡ positions_after b m limit old
 
 -- ---- one run and one edit after the other
 
--- WHAT MAY BE STORED, whatever runs and edits came before: nothing at first; of what is stored those up to an event, after an edit, or none, where a run waits; what a
--- run leaves that is done; and what a run leaves that was given up. Each run may be of another model and to another limit.
+-- WHAT MAY BE STORED, whatever runs and edits came before: nothing at first; of what is stored
+-- those up to an event, after an edit, or none, where a run waits; what a run leaves that is done;
+-- and what a run leaves that was given up. Each run may be of another model and to another limit.
 pub data CanBeStored : Timeline ℕ → Type 0 where
   begins : (interval : ℕ) → 1 ≤ interval → CanBeStored (begun interval)
   is_cut : (event : Option ℕ) (t : Timeline ℕ) → CanBeStored t → CanBeStored (cut event t)

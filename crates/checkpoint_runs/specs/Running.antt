@@ -29,7 +29,8 @@ fresh_run b m limit = ending b m (run_to b m limit)
 abbrev pub parts_in : List Seat → List Part
 parts_in seats = standing (map instance_of seats)
 
--- the box that a run needs next once there are these: setup makes the modules, and of those that need one the first without one is asked for
+-- the box that a run needs next once there are these: setup makes the modules, and of those that
+-- need one the first without one is asked for
 abbrev pub wanted_after : Flow → List Part → Option Request
 wanted_after (On w) boxes = missing_of w boxes
 wanted_after (Stopped w) boxes = None
@@ -54,7 +55,8 @@ abbrev pub known_first : Behaviour → List Part → List Part
 known_first b [] = []
 known_first b (p ∷ ps) = if b.known p.kind then p ∷ known_first b ps else []
 
--- where such a one is among them their start can't be made, and the boxes are those that were supplied before it was asked for
+-- where such a one is among them their start can't be made, and the boxes are those that were
+-- supplied before it was asked for
 abbrev pub boxes_unless : Option Part → List Part → List Part → List Part
 boxes_unless None standing supplied = standing
 boxes_unless (Some unknown) standing supplied = supplied
@@ -76,7 +78,8 @@ IsUndeclined Declined = ⊥
 
 -- ---- where a run stands
 
--- A network that was set up, and is not started: no module has a state, and the boxes that wait are those of the first modules that need one.
+-- A network that was set up, and is not started: no module has a state, and the boxes that wait are
+-- those of the first modules that need one.
 pub record IsFilled (b : Behaviour) (m : Answers) (w : World) (waiting : List Seat) : Type 0 where
   pub prepared_is : On w ≡ prepared m
   pub next : w.next ≡ 0
@@ -108,7 +111,8 @@ pub record CanStart (b : Behaviour) (m : Answers) (w : World) (waiting : List Se
 abbrev pub whole_run : Behaviour → Answers → ℕ → World → Outcome → Type 0
 whole_run b m n w outcome = fresh_run b m n ≡ record { world = w; outcome = outcome }
 
--- A run of the model, stopped after at most so many events, left this; numbers are far from running out.
+-- A run of the model, stopped after at most so many events, left this; numbers are far from running
+-- out.
 pub record IsStopped (b : Behaviour) (m : Answers) (limit : ℕ) (ran : Ran) : Type 0 where
   pub room : HasRoom ran.world
   pub count : ran.world.count < 2 ^ 64
@@ -124,7 +128,8 @@ Stands b m kept w waiting (stands.Missing request) =
     IsFilled b m w waiting × (missing_of w (parts_in waiting) ≡ Some request) × (parts_in waiting ≡ kept)
 Stands b m kept w waiting stands.Ready = CanStart b m w waiting
 
--- what it waits for is what its model wants after so many boxes; it doesn't go on while there is such a box
+-- what it waits for is what its model wants after so many boxes; it doesn't go on while there is
+-- such a box
 abbrev pub Wants : Answers → List Part → Phase → Standing → Type 0
 Wants m kept phase (stands.Missing request) = IsUndeclined phase × (wanted_by m kept ≡ Some request)
 Wants m kept phase (stands.Over outcome) = (phase ≡ Declined) ⊎ (wanted_by m kept ≡ None)

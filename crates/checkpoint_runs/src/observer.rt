@@ -2,7 +2,8 @@
 
 use sim_time::SimTime;
 
-/// Is told of the events of a run while it goes on. Nothing is asked of it and nothing rests on it: a run does the same whoever observes it.
+/// Is told of the events of a run while it goes on. Nothing is asked of it and nothing rests on it:
+/// a run does the same whoever observes it.
 pub trait Observer {
     /// A run goes on after so many events, up to its limit.
     fn begin(&mut self, count: u64, limit: u64);

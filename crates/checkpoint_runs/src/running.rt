@@ -43,7 +43,8 @@ pub enum Point {
 pub enum Phase {
     /// No run waits.
     Idle,
-    /// A run waits for the box of a module, at that point. It began at a position of so many events, or with setup.
+    /// A run waits for the box of a module, at that point. It began at a position of so many
+    /// events, or with setup.
     Waiting(Option<u64>, Point),
     /// There is no box for the module that the run waited for.
     Declined,
@@ -226,7 +227,8 @@ impl<C: Catalogue> Runner<C> {
         }
     }
 
-    /// Supplies the box of the module of that id, or hands it back where memory runs out. All that wait are of smaller ids.
+    /// Supplies the box of the module of that id, or hands it back where memory runs out. All that
+    /// wait are of smaller ids.
     pub fn supply(
         &mut self,
         id: u32,
@@ -254,7 +256,8 @@ impl<C: Catalogue> Runner<C> {
 
     // ---- positions
 
-    /// Stores the position where the run stands, if it is due, and notes where that is. Where memory runs out the stored ones stay.
+    /// Stores the position where the run stands, if it is due, and notes where that is. Where
+    /// memory runs out the stored ones stay.
     fn keep_if(&mut self, alloc: Global, due: bool) -> Result<(), NoMemory>
         requires below { due ≡ true
             → AreBelow (world_in SimpleModule-box self.old.kernel).count self.old.positions.stored }
@@ -280,7 +283,8 @@ impl<C: Catalogue> Runner<C> {
         Ok(())
     }
 
-    /// Goes back to the last position up to the limit, and gives up those after it; where there is none, nothing changes.
+    /// Goes back to the last position up to the limit, and gives up those after it; where there is
+    /// none, nothing changes.
     fn go_back<M: ModelMarker>(
         &mut self,
         alloc: Global,
@@ -305,7 +309,8 @@ impl<C: Catalogue> Runner<C> {
         self.stood = Stood::After(start);
         let back = self.kernel.go_back(alloc, position);
         self.positions.cut_after(start);
-        // No box is missing: no module comes or goes while a run goes on, so its boxes are those of each position that it left.
+        // No box is missing: no module comes or goes while a run goes on, so its boxes are those of
+        // each position that it left.
         back?;
         Ok(Some(start))
     }
@@ -322,8 +327,8 @@ impl<C: Catalogue> Runner<C> {
         }
     }
 
-    /// Cuts the lists that only grow to what the last position has of them, and answers its count of events. Where there is no position
-    /// nothing changes.
+    /// Cuts the lists that only grow to what the last position has of them, and answers its count
+    /// of events. Where there is no position nothing changes.
     pub fn cut_back(&mut self) -> Option<u64>
         requires { HasKinds C.behaviour SimpleModule-box self.old.kernel }
         ensures seats { seats_in SimpleModule-box self.new.kernel
@@ -350,8 +355,8 @@ impl<C: Catalogue> Runner<C> {
         observer.event(self.kernel.count(), self.kernel.clock());
     }
 
-    /// Goes on to the limit or to an end, and tells the observer of each event. After each one whose number is a multiple of the interval as it
-    /// is then, a position is stored.
+    /// Goes on to the limit or to an end, and tells the observer of each event. After each one
+    /// whose number is a multiple of the interval as it is then, a position is stored.
     fn go_on<A: Answers, W: Observer>(
         &mut self,
         alloc: Global,
@@ -391,8 +396,9 @@ impl<C: Catalogue> Runner<C> {
         Ok(self.kernel.outcome_of(None))
     }
 
-    /// Goes on to the limit or to an end, and ends the run. A position is stored after its last event too, unless that ended in a fault. The
-    /// observer is told where it begins, and of each event.
+    /// Goes on to the limit or to an end, and ends the run. A position is stored after its last
+    /// event too, unless that ended in a fault. The observer is told where it begins, and of each
+    /// event.
     fn run_on<A: Answers, W: Observer>(
         &mut self,
         alloc: Global,
@@ -463,7 +469,8 @@ impl<C: Catalogue> Runner<C> {
         }
     }
 
-    /// Runs from setup, or finds the box that is needed first. There is no position after which it could begin.
+    /// Runs from setup, or finds the box that is needed first. There is no position after which it
+    /// could begin.
     fn begin<M: ModelMarker, W: Observer>(
         &mut self,
         alloc: Global,
@@ -502,8 +509,8 @@ impl<C: Catalogue> Runner<C> {
         }
     }
 
-    /// Runs the model for at most so many events, from the last position up to there or from setup, or finds the box that is needed first. The
-    /// observer is told of each event that is executed.
+    /// Runs the model for at most so many events, from the last position up to there or from setup,
+    /// or finds the box that is needed first. The observer is told of each event that is executed.
     pub fn carry_on<W: Observer>(
         &mut self,
         alloc: Global,
@@ -531,8 +538,9 @@ impl<C: Catalogue> Runner<C> {
         self.carry_on_as::<Brand, W>(alloc, model, phase, limit, observer)
     }
 
-    /// Runs the model M for at most so many events, from the last position up to there or from setup, or finds the box that is needed first. The
-    /// observer is told of each event that is executed.
+    /// Runs the model M for at most so many events, from the last position up to there or from
+    /// setup, or finds the box that is needed first. The observer is told of each event that is
+    /// executed.
     fn carry_on_as<M: ModelMarker, W: Observer>(
         &mut self,
         alloc: Global,
@@ -582,7 +590,8 @@ fn is_multiple(interval: u64, count: u64) -> bool
     count % interval == 0
 }
 
-/// Whether a run that went on from so many events owes a position after its last one: where none is taken there.
+/// Whether a run that went on from so many events owes a position after its last one: where none is
+/// taken there.
 fn is_owed(from: u64, fault: bool, last: u64, ends_there: bool) -> bool
     ensures { result ≡ not fault && (nat_lt from last && not ends_there) }
 {

@@ -22,7 +22,8 @@ abbrev pub AreRising : List Position → Type 0
 AreRising [] = Unit {0}
 AreRising (p ∷ ps) = AreAbove p.count ps × AreRising ps
 
--- Positions that are stored: they rise, beside them stand their counts, and the intervals are 1 at least.
+-- Positions that are stored: they rise, beside them stand their counts, and the intervals are 1 at
+-- least.
 pub record AreStored (held : List Position) (counts : List ℕ) (first interval : ℕ) : Type 0 where
   pub rising : AreRising held
   pub counts_are : counts ≡ counts_of held
@@ -49,8 +50,8 @@ number_up_to event (n ∷ ns) = if nat_le n event then suc (number_up_to event n
 
 -- ---- how far apart
 
--- WHAT IS STORED of a run at rising counts of events (its positions, or their counts alone), and after each multiple of how many events one is due: where
--- nothing is stored, and as it is now
+-- WHAT IS STORED of a run at rising counts of events (its positions, or their counts alone), and
+-- after each multiple of how many events one is due: where nothing is stored, and as it is now
 pub record Timeline (A : Type 0) : Type 0 where
   pub first : ℕ
   pub interval : ℕ
@@ -79,11 +80,13 @@ doubled interval = min (2 * interval) (2 ^ 62)
 abbrev pub is_multiple : ℕ → ℕ → Bool
 is_multiple interval n = n % interval == 0
 
--- whether one of so many events stays where there is one too many: a multiple of the interval, and the newest
+-- whether one of so many events stays where there is one too many: a multiple of the interval, and
+-- the newest
 abbrev pub stays : ℕ → ℕ → ℕ → Bool
 stays interval newest n = is_multiple interval n || n == newest
 
--- Where one too many is stored the interval is doubled, and of all those stay that are multiples of that, and the newest.
+-- Where one too many is stored the interval is doubled, and of all those stay that are multiples of
+-- that, and the newest.
 abbrev pub thinned : {A : Type 0} → (A → ℕ) → ℕ → Timeline A → Timeline A
 thinned count newest t =
     if nat_lt most_stored (length t.stored)

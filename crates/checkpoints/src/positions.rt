@@ -18,8 +18,8 @@ pub const MOST_STORED: usize = 64;
 /// The greatest interval to which one is doubled.
 const GREATEST: u64 = 1 << 62;
 
-/// Stored positions, by rising counts of events, and after each multiple of how many events one is due. Contracts see their list and
-/// the interval.
+/// Stored positions, by rising counts of events, and after each multiple of how many events one is
+/// due. Contracts see their list and the interval.
 pub struct Positions {
     /// The interval where none is stored.
     first: u64,
@@ -67,9 +67,9 @@ impl Positions {
         }
     }
 
-    /// Stores a position after the others, which are of smaller counts. Where it is one too many, the interval is doubled, up to
-    /// 2^62, and of all positions those stay that are at its multiples, and this one. After NoMemory it is dropped, and nothing has
-    /// changed.
+    /// Stores a position after the others, which are of smaller counts. Where it is one too many,
+    /// the interval is doubled, up to 2^62, and of all positions those stay that are at its
+    /// multiples, and this one. After NoMemory it is dropped, and nothing has changed.
     pub fn take(&mut self, position: Position) -> Result<(), NoMemory>
         requires { AreBelow position.count self.old.stored }
         ensures ok { OnOk result (self.new ≡ with_position position self.old) }
@@ -97,8 +97,8 @@ impl Positions {
         }
     }
 
-    /// Where there is one too many, doubles the interval and drops those that are at no multiple of it, but for the newest. It takes
-    /// no memory.
+    /// Where there is one too many, doubles the interval and drops those that are at no multiple of
+    /// it, but for the newest. It takes no memory.
     fn thin(&mut self, newest: u64)
         ensures { self.new ≡ thinned (λ (p : Position). p.count) newest self.old }
     {
@@ -111,7 +111,8 @@ impl Positions {
         keep_counts(&mut self.counts, interval, newest);
     }
 
-    /// Drops those after an event. Where none is left the interval is again the first. It takes no memory.
+    /// Drops those after an event. Where none is left the interval is again the first. It takes no
+    /// memory.
     pub fn cut_after(&mut self, event: u64)
         ensures { self.new ≡ cut_after event self.old }
     {

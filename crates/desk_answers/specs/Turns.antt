@@ -40,13 +40,15 @@ module _ {C X : Type 0} {Y : X → Type 0} where
 
 -- ---- runs
 
--- the answer of a fresh run of the model that begins there: how it ends, and how many events are executed after that
+-- the answer of a fresh run of the model that begins there: how it ends, and how many events are
+-- executed after that
 abbrev pub answer_from : Behaviour → Model → ℕ → Option ℕ → List ℕ
 answer_from b m limit start =
     let ran = fresh_run b (answers_of m) limit in
     done_text ran.outcome start (events_behind start ran.world.count)
 
--- THE ANSWER TO `run N` where these positions are stored: that of a fresh run of the model, which begins at the greatest of them up to N
+-- THE ANSWER TO `run N` where these positions are stored: that of a fresh run of the model, which
+-- begins at the greatest of them up to N
 abbrev pub run_answer : Behaviour → Model → ℕ → List ℕ → List ℕ
 run_answer b m limit old = answer_from b m limit (start_of limit old)
 
@@ -67,14 +69,15 @@ abbrev pub IsRunTurn : Behaviour → Editing → ℕ → DeskTurn → Editing �
 IsRunTurn b before limit (turn.Text answer) after = HasRun b before limit answer.text after
 IsRunTurn b before limit (turn.Want request) after = WaitsFor before limit request after
 
--- What lack of memory leaves after a run to that limit: no run is done, and the positions are those that it stored; or this one is done.
+-- What lack of memory leaves after a run to that limit: no run is done, and the positions are those
+-- that it stored; or this one is done.
 abbrev pub MayBeDone : Behaviour → Editing → ℕ → Editing → Type 0
 MayBeDone b before limit after = IsGivenUp b before limit after ⊎ IsDone b before limit after
 
 -- ---- edits
 
--- The edit is made: the model is the one that it makes, and it makes no other. It is told up to which event a run of the old model, of which so many
--- events are known, is one of the new model.
+-- The edit is made: the model is the one that it makes, and it makes no other. It is told up to
+-- which event a run of the old model, of which so many events are known, is one of the new model.
 pub record IsMade (b : Behaviour) (m : Model) (known : Option ℕ) (e : Edit) (text : List ℕ) (new : Model) (valid : Option ℕ) : Type 0 where
   pub text_is : text ≡ edited_text valid (number_given e m)
   pub valid_to : IsValidTo b (answers_of m) (answers_of new) known valid
@@ -88,7 +91,8 @@ pub record IsRefused (m : Model) (e : Edit) (text : List ℕ) : Type 0 where
   pub due : Refuses m e why
   pub none : (new : Model) → IsEditOf m e new → ⊥
 
--- The edit is made: no run waits or is done, and the positions stay up to which the last run stays valid. Or it is refused, and nothing changed.
+-- The edit is made: no run waits or is done, and the positions stay up to which the last run stays
+-- valid. Or it is refused, and nothing changed.
 abbrev pub AnswersEdit : Behaviour → Editing → Edit → List ℕ → Editing → Type 0
 AnswersEdit b before e text after =
     ((valid : Option ℕ) × IsMade b before.model before.known e text after.model valid
@@ -121,7 +125,8 @@ AnswersCommand b before command.TooLarge answer after = IsTextOf answer (λ text
 abbrev pub AnswersLine : Behaviour → Editing → List ℕ → DeskTurn → Editing → Type 0
 AnswersLine b before line answer after = AnswersCommand b before (command_of line) answer after
 
--- WHAT LACK OF MEMORY LEAVES after a command: of a run the model and what it stored; and of all else everything as it was
+-- WHAT LACK OF MEMORY LEAVES after a command: of a run the model and what it stored; and of all
+-- else everything as it was
 abbrev pub Forgoes : Behaviour → Command → Editing → Editing → Type 0
 Forgoes b (command.Run limit) before after = MayBeDone b before limit after × (after.model ≡ before.model)
 Forgoes b _ before after = after ≡ before

@@ -73,9 +73,10 @@ impl<C: Catalogue> Desk<C> {
         }
     }
 
-    /// Answers a command line. One that asks to write files, or names a file that is to be read, is no command here: who asks does
-    /// these. Where memory runs out the line has no answer: the model is what it was, and a line that asks for no
-    /// run changed nothing; one that asks for a run left what that left.
+    /// Answers a command line. One that asks to write files, or names a file that is to be read, is
+    /// no command here: who asks does these. Where memory runs out the line has no answer: the
+    /// model is what it was, and a line that asks for no run changed nothing; one that asks for a
+    /// run left what that left.
     pub fn line<W: Observer>(&mut self, line: &[u8], observer: &mut W) -> Result<DeskTurn, NoMemory>
         requires sound { IsSettled C.behaviour SimpleModule-box self.old }
         ensures sound { IsSettled C.behaviour SimpleModule-box self.new }
@@ -104,7 +105,8 @@ impl<C: Catalogue> Desk<C> {
         }
     }
 
-    /// Changes the model as the edit says, or answers why not. Where memory runs out the edit isn't made.
+    /// Changes the model as the edit says, or answers why not. Where memory runs out the edit isn't
+    /// made.
     pub fn edit(&mut self, edit: Edit) -> Result<Answer, NoMemory>
         requires sound { IsSettled C.behaviour SimpleModule-box self.old }
         ensures sound { IsSettled C.behaviour SimpleModule-box self.new }
@@ -130,7 +132,8 @@ impl<C: Catalogue> Desk<C> {
         }
     }
 
-    /// Changes the NED file of that number, counted from 0, to be this text, or answers why not. Where memory runs out the edit isn't made.
+    /// Changes the NED file of that number, counted from 0, to be this text, or answers why not.
+    /// Where memory runs out the edit isn't made.
     pub fn ned(&mut self, file: u64, text: Text) -> Result<Answer, NoMemory>
         requires sound { IsSettled C.behaviour SimpleModule-box self.old }
         ensures sound { IsSettled C.behaviour SimpleModule-box self.new }
@@ -144,9 +147,9 @@ impl<C: Catalogue> Desk<C> {
         self.edit(Edit::ReplaceNed(file as usize, text))
     }
 
-    /// Runs the model for at most so many events, from the greatest stored position up to there or from setup, or goes on with the
-    /// run that waits. The observer is told of each event that is executed. Where memory runs out there is no answer: no run is done, or this
-    /// one is.
+    /// Runs the model for at most so many events, from the greatest stored position up to there or
+    /// from setup, or goes on with the run that waits. The observer is told of each event that is
+    /// executed. Where memory runs out there is no answer: no run is done, or this one is.
     pub fn run<W: Observer>(&mut self, limit: u64, observer: &mut W) -> Result<DeskTurn, NoMemory>
         requires sound { IsSettled C.behaviour SimpleModule-box self.old }
         ensures kept { StaysSettled C.behaviour SimpleModule-box self.old self.new }
@@ -166,7 +169,8 @@ impl<C: Catalogue> Desk<C> {
         }
     }
 
-    /// Goes on with the last run. Where memory runs out there is no answer: no run is done, or this one is.
+    /// Goes on with the last run. Where memory runs out there is no answer: no run is done, or this
+    /// one is.
     pub fn go_on<W: Observer>(&mut self, observer: &mut W) -> Result<DeskTurn, NoMemory>
         requires sound { IsSettled C.behaviour SimpleModule-box self.old }
         ensures kept { StaysSettled C.behaviour SimpleModule-box self.old self.new }

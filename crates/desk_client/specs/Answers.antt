@@ -57,7 +57,8 @@ outcome_text outcome.TimeLimit = codes "time-limit"
 outcome_text (outcome.Fault event path f) =
     codes "fault " ++ (decimal event ++ (codes " " ++ (path ++ (codes " " ++ (fault_name f ++ fault_detail f)))))
 
--- THE ANSWER of a run that is done: how it ended, where it began, and how many events were executed after that
+-- THE ANSWER of a run that is done: how it ended, where it began, and how many events were executed
+-- after that
 abbrev pub start_text : Option ℕ → List ℕ
 start_text None = codes "start"
 start_text (Some event) = decimal event
@@ -68,7 +69,8 @@ done_text o from executed =
 
 -- ---- edits
 
--- THE ANSWER of an edit that is made: up to which event the last run stays valid, and the number of the injection that is added
+-- THE ANSWER of an edit that is made: up to which event the last run stays valid, and the number of
+-- the injection that is added
 abbrev pub valid_text : Option ℕ → List ℕ
 valid_text None = codes "none"
 valid_text (Some event) = decimal event
@@ -104,7 +106,8 @@ type_fault_name types.InheritanceCircle = codes "InheritanceCircle"
 type_fault_name types.KindClash = codes "KindClash"
 type_fault_name types.Interface = codes "Interface"
 
--- THE ANSWER of an edit that is refused: its name, and the line where it is known. Lack of memory has no text: it is handed on.
+-- THE ANSWER of an edit that is refused: its name, and the line where it is known. Lack of memory
+-- has no text: it is handed on.
 abbrev pub edit_refusal_text : Refusal → Option (List ℕ)
 edit_refusal_text edit.TooLarge = Some (codes "refused TooLarge")
 edit_refusal_text edit.NoSuchLine = Some (codes "refused NoSuchLine")
@@ -122,8 +125,8 @@ edit_refusal_text (edit.NoMemory _) = None
 
 -- ---- what an answer tells
 
--- THE TEXT TELLS THAT: of a run how it ended, of an edit the number of the message that it put in, or why it is refused; of another command its text is
--- what such a command is answered
+-- THE TEXT TELLS THAT: of a run how it ended, of an edit the number of the message that it put in,
+-- or why it is refused; of another command its text is what such a command is answered
 abbrev pub IsTold : Told → List ℕ → Type 0
 IsTold (told.Done o) text = (from : Option ℕ) × (executed : ℕ) × (text ≡ done_text o from executed)
 IsTold (told.Edited injection) text = (valid_to : Option ℕ) × (text ≡ edited_text valid_to injection)

@@ -4,7 +4,8 @@ use Rattle.desk_client.specs.declared.clients.Page.{Page}
 use Rattle.desk_client.specs.declared.clients.Stop.{Stop}
 use Rattle.desk_client.specs.declared.clients.Stop.TheVariants as stop
 
--- what is true at each reason: that nothing more is asked, that the client can't go on, or what comes of a device that failed
+-- what is true at each reason: that nothing more is asked, that the client can't go on, or what
+-- comes of a device that failed
 abbrev pub at_stop : Type 0 → Type 0 → (Page → ℕ → Type 0) → Stop → Type 0
 at_stop over gone lost stop.End = over
 at_stop over gone lost stop.Gone = gone

@@ -81,7 +81,8 @@ pub trait Client<O: Out + Drop> {
         ensures asked { asked self.new ≡ asked self.old }
         ensures left { left self.new ≡ left self.old };
 
-    /// Hears that memory ran out, in place of an answer. Who says so hands on the error that it met.
+    /// Hears that memory ran out, in place of an answer. Who says so hands on the error that it
+    /// met.
     fn hear_no_memory(&mut self, error: NoMemory) -> Result<(), Gone>
         requires kept { keeps self.old }
         ensures kept { keeps self.new }
@@ -103,7 +104,8 @@ pub trait Client<O: Out + Drop> {
         ensures asked { asked self.new ≡ asked self.old }
         ensures left { left self.new ≡ left self.old };
 
-    /// Devices for the files of a run of the configuration of that name, which took nothing yet and never failed.
+    /// Devices for the files of a run of the configuration of that name, which took nothing yet and
+    /// never failed.
     fn open(&mut self, config: &[u8]) -> Result<Pages<O>, Gone>
         requires kept { keeps self.old }
         ensures kept { keeps self.new }

@@ -36,7 +36,8 @@ ini_edit_of rest = or_else (insertion_of rest) (or_else (replacement_of rest) (r
 abbrev pub selection_of : List ℕ → Option Edit
 selection_of line = option_map edit.SelectConfig (option_and_then word_of (behind (codes "config ") line))
 
--- the connection of `TYPE PLACE TEXT`, after `connect `: TEXT is all the rest, its bytes as they are
+-- the connection of `TYPE PLACE TEXT`, after `connect `: TEXT is all the rest, its bytes as they
+-- are
 abbrev pub connection_at : List ℕ × List ℕ → Option Edit
 connection_at p = option_map (λ q. edit.AddConnection p.0 q.0 q.1) (numbered p.1)
 

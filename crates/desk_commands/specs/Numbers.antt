@@ -6,8 +6,8 @@ use Rattle.std.specs.Option.{option_and_then}
 abbrev pub is_no_digit : ℕ → Bool
 is_no_digit d = nat_lt d 48 || nat_lt 57 d
 
--- The number that further digits make, where the digits so far made this one: none where a byte is no digit, or where it
--- has more than 64 bits.
+-- The number that further digits make, where the digits so far made this one: none where a byte is
+-- no digit, or where it has more than 64 bits.
 abbrev pub number_after : ℕ → List ℕ → Option ℕ
 number_after n [] = Some n
 number_after n (d ∷ ds) =
@@ -37,7 +37,8 @@ from_zero n = if nat_lt (2 ^ 15 - 1) n then None else Some (pos n)
 abbrev pub below_zero : ℕ → Option ℤ
 below_zero n = if nat_lt (2 ^ 15) n then None else Some (neg_ℤ (pos n))
 
--- the number that a word of decimal digits writes, with a `-` before them where it is below zero: none where 16 bits do not hold it
+-- the number that a word of decimal digits writes, with a `-` before them where it is below zero:
+-- none where 16 bits do not hold it
 unfoldable pub signed_of : List ℕ → Option ℤ
 signed_of [] = None
 signed_of (b ∷ bs) =

@@ -20,10 +20,12 @@ pub const MAX_LINE: usize = 65_536;
 pub enum Command {
     /// `run N`: run for at most N events.
     Run(u64),
-    /// `ini insert L TEXT`, `ini replace L TEXT`, `ini remove L`, `config NAME`,
-    /// `connect TYPE PLACE TEXT`, `disconnect TYPE PLACE`, `inject PATH TIME PRIORITY KIND BITS HEX`, `withdraw K`: an edit of the model.
+    /// `ini insert L TEXT`, `ini replace L TEXT`, `ini remove L`, `config NAME`, `connect TYPE
+    /// PLACE TEXT`, `disconnect TYPE PLACE`, `inject PATH TIME PRIORITY KIND BITS HEX`, `withdraw
+    /// K`: an edit of the model.
     Edit(Edit),
-    /// `ned FILE PATH`: an edit of the model, by which the NED file of number FILE, counted from 0, is what the file of that path holds.
+    /// `ned FILE PATH`: an edit of the model, by which the NED file of number FILE, counted from 0,
+    /// is what the file of that path holds.
     Ned(u64, Text),
     /// `positions`: say after which events positions are stored.
     Positions,
@@ -233,8 +235,8 @@ fn other_command(alloc: Global, line: &[u8]) -> Result<Command, AllocError>
     }
 }
 
-/// The command that a line asks for. `NoMemory` comes of an edit alone, where memory ran out for the copy of its TEXT, NAME or
-/// PATH, or for the bytes of its HEX.
+/// The command that a line asks for. `NoMemory` comes of an edit alone, where memory ran out for
+/// the copy of its TEXT, NAME or PATH, or for the bytes of its HEX.
 pub fn command_of(alloc: Global, line: &[u8]) -> Result<Command, NoMemory>
     ensures command { IfOk result (λ command. command ≡ command_of line.now) }
     ensures memory { OnErr result (IsEdit (command_of line.now)) }

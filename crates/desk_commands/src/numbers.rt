@@ -71,7 +71,8 @@ fn below_zero(number: u64) -> Option<i16>
     Some((-(number as i32)) as i16)
 }
 
-/// The number of 16 bits that a word of decimal digits writes, with a `-` before them where it is below zero.
+/// The number of 16 bits that a word of decimal digits writes, with a `-` before them where it is
+/// below zero.
 #[tactic(auto, unfolding(crate::specs::Numbers::signed_of))]
 pub(crate) fn signed_of(word: &[u8]) -> Option<i16>
     ensures { result ≡ signed_of word.now }

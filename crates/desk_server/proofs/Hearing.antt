@@ -98,7 +98,8 @@ tells_run b limit before after text n asked may running stays ran heard = tells_
   at_done b limit before.editing after.editing s stays ran.done same,
 ))
 
--- Memory ran out for a run, and none is done: the positions are those that it stored up to where it stood, and nothing is known but the events up to the last of them.
+-- Memory ran out for a run, and none is done: the positions are those that it stored up to where it
+-- stood, and nothing is known but the events up to the last of them.
 pub record LeavesNone (b : Behaviour) (before : Editing) (limit : ℕ) (after : Editing) : Type 0 where
   pub done : after.done ≡ None
   pub known : after.known ≡ last_count after.positions.stored

@@ -12,7 +12,8 @@ use Rattle.desk_client.specs.declared.clients.Stop.{Stop}
 
 module _ {O K X : Type 0} {Y : X → Type 0} {R : Type 0} {b : Behaviour} {members : Members X Y} {asked_of : K → List Asked} {heard_of : K → List Heard} {may_ask : K → ℕ}
     {keeps : K → Type 0} {label_of : K → ℕ} {stops_of : K → Stop → Type 0} {may_stop : (Stop → Type 0) → R → Type 0} {is_step : Seen → Seen → R → Type 0} where
-  -- It serves as its relation says, where the desk keeps what it keeps and the client's label is that from before, when the client is told.
+  -- It serves as its relation says, where the desk keeps what it keeps and the client's label is
+  -- that from before, when the client is told.
   pub serves_told : {what : Heard} {goes_on : Option ℕ} {before middle after : Server O K X Y} {n : Next} {answer : R}
       → Tells asked_of heard_of may_ask keeps label_of stops_of what goes_on middle after n → may_stop (stops_of after.client) answer
       → IsServer b members middle → label_of middle.client ≡ label_of before.client

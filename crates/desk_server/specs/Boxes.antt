@@ -26,7 +26,8 @@ boxes_lacking m boxes = lacking_after (prepared (answers_of m)) boxes
 abbrev pub most_boxes : ℕ
 most_boxes = 65536
 
--- How many turns a run takes at most: a turn for each box that it doesn't hold yet, and one more where a box may be declined.
+-- How many turns a run takes at most: a turn for each box that it doesn't hold yet, and one more
+-- where a box may be declined.
 abbrev pub left_of : Phase → Model → List Part → ℕ
 left_of Idle m boxes = boxes_lacking m [] + 2
 left_of (Waiting from at) m boxes = boxes_lacking m boxes + 1

@@ -19,8 +19,9 @@ use Rattle.transcripts.specs.Heard.{Answer, Files, Heard, OutOfMemory, Read}
 use Rattle.transcripts.specs.declared.asked.Asked.{Asked}
 use Rattle.transcripts.specs.declared.asked.Asked.TheVariants as asked
 
--- THE PLAIN MACHINE holds a model, the limit of the last run that is done, if there is one, how many boxes there are, of how many events of a run of
--- the model the questions are known, and after which events a position is stored, with the interval. It keeps nothing else of a run.
+-- THE PLAIN MACHINE holds a model, the limit of the last run that is done, if there is one, how
+-- many boxes there are, of how many events of a run of the model the questions are known, and after
+-- which events a position is stored, with the interval. It keeps nothing else of a run.
 pub record Machine : Type 0 where
   pub model : Model
   pub last : Option ℕ
@@ -37,7 +38,8 @@ abbrev pub command_asked : Asked → Command
 command_asked (asked.Line text) = command_of text
 command_asked asked.TooLong = command.TooLarge
 
--- the machine after a run to that limit: all events of it are known, and there are as many boxes as it leaves, and its positions
+-- the machine after a run to that limit: all events of it are known, and there are as many boxes as
+-- it leaves, and its positions
 abbrev pub behind_run : Behaviour → Machine → ℕ → Machine
 behind_run b s limit = record {
   model = s.model;
@@ -47,8 +49,9 @@ behind_run b s limit = record {
   positions = positions_after b (answers_of s.model) limit s.positions;
 }
 
--- Memory ran out for a run to that limit, and none is done: its positions are those that it stored up to where it stood, known are the events up to the
--- last of them, and nothing is said of the boxes.
+-- Memory ran out for a run to that limit, and none is done: its positions are those that it stored
+-- up to where it stood, known are the events up to the last of them, and nothing is said of the
+-- boxes.
 pub record GivesUpRun (b : Behaviour) (s : Machine) (limit : ℕ) (s' : Machine) : Type 0 where
   pub model : s'.model ≡ s.model
   pub last : s'.last ≡ None
@@ -56,14 +59,15 @@ pub record GivesUpRun (b : Behaviour) (s : Machine) (limit : ℕ) (s' : Machine)
   pub stood : Stood
   pub positions : HasStored b (answers_of s.model) limit s.positions stood s'.positions
 
--- A RUN is answered as a fresh run of the model that begins at the greatest position up to the limit. Or memory ran out: the run may be done nevertheless.
+-- A RUN is answered as a fresh run of the model that begins at the greatest position up to the
+-- limit. Or memory ran out: the run may be done nevertheless.
 abbrev pub HearsRun : Behaviour → Machine → ℕ → List Heard → Machine → Type 0
 HearsRun b s limit heard s' =
     ((heard ≡ Answer (run_answer b s.model limit s.positions.stored) ∷ []) × (s' ≡ behind_run b s limit))
     ⊎ ((heard ≡ OutOfMemory ∷ []) × (GivesUpRun b s limit s' ⊎ (s' ≡ behind_run b s limit)))
 
--- AN EDIT is made, and then no run is done, the boxes stay, and so do the positions up to which the last run stays valid; or it is refused, or memory ran
--- out, and then nothing changed.
+-- AN EDIT is made, and then no run is done, the boxes stay, and so do the positions up to which the
+-- last run stays valid; or it is refused, or memory ran out, and then nothing changed.
 abbrev pub HearsEdit : Behaviour → Machine → Edit → List Heard → Machine → Type 0
 HearsEdit b s e heard s' =
     ((text : List ℕ) × (heard ≡ Answer text ∷ [])
@@ -71,7 +75,8 @@ HearsEdit b s e heard s' =
     × (s'.positions ≡ cut s'.known s.positions)) ⊎ (IsRefused s.model e text × (s' ≡ s))))
     ⊎ ((heard ≡ OutOfMemory ∷ []) × (s' ≡ s))
 
--- A NED FILE is read that a command names, and then an edit is answered by which the file of that number is what was read; or memory ran out before.
+-- A NED FILE is read that a command names, and then an edit is answered by which the file of that
+-- number is what was read; or memory ran out before.
 abbrev pub HearsNed : Behaviour → Machine → ℕ → List ℕ → List Heard → Machine → Type 0
 HearsNed b s number path heard s' =
     ((text : List ℕ) × (rest : List Heard) × (heard ≡ Read path text ∷ rest) × HearsEdit b s (edit.ReplaceNed number text) rest s')
@@ -85,8 +90,8 @@ HearsPositions positions heard = (heard ≡ Answer (positions_text positions) �
 abbrev pub HearsHeld : ℕ → List Heard → Type 0
 HearsHeld held heard = (heard ≡ Answer (held_text held) ∷ []) ⊎ (heard ≡ OutOfMemory ∷ [])
 
--- THE FILES of the last run are those of a fresh run of the model to its limit, and of the configuration that the model selects. Where no run is done there
--- are none.
+-- THE FILES of the last run are those of a fresh run of the model to its limit, and of the
+-- configuration that the model selects. Where no run is done there are none.
 abbrev pub HearsFiles : Behaviour → Model → Option ℕ → List Heard → Type 0
 HearsFiles b m None heard = heard ≡ Answer (codes "refused NotDone") ∷ []
 HearsFiles b m (Some limit) heard = heard ≡ Files m.config (scalars_of_run b m limit) (vectors_of_run b m limit) ∷ Answer (codes "written") ∷ []
@@ -102,7 +107,8 @@ Hears b s command.Write heard s' = HearsFiles b s.model s.last heard × (s' ≡ 
 Hears b s command.Unknown heard s' = (heard ≡ Answer (codes "refused Command") ∷ []) × (s' ≡ s)
 Hears b s command.TooLarge heard s' = (heard ≡ Answer (codes "refused TooLarge") ∷ []) × (s' ≡ s)
 
--- WHAT IS HEARD OF ALL that was asked, one after the other: each by the machine that all before it left
+-- WHAT IS HEARD OF ALL that was asked, one after the other: each by the machine that all before it
+-- left
 abbrev pub AreHeard : Behaviour → Machine → List Asked → List Heard → Machine → Type 0
 AreHeard b s [] heard s' = (heard ≡ []) × (s' ≡ s)
 AreHeard b s (a ∷ more) heard s' = (front rest : List Heard) × (mid : Machine)

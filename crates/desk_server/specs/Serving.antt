@@ -24,8 +24,8 @@ use Rattle.desk_client.specs.declared.clients.Stop.TheVariants as stop
 use Rattle.desk_server.specs.declared.serving.Turn.{Turn}
 use Rattle.desk_server.specs.declared.serving.Turn.TheVariants as turn
 
--- what is seen of a desk with a client: its session; what the client asked and heard, and how often it may still ask; and the limit of the run that
--- is going on, if there is one
+-- what is seen of a desk with a client: its session; what the client asked and heard, and how often
+-- it may still ask; and the limit of the run that is going on, if there is one
 pub record Seen : Type 0 where
   pub editing : Editing
   pub asked : List Asked
@@ -46,8 +46,8 @@ pub record IsAt (b : Behaviour) (e : Editing) (s : Machine) : Type 0 where
   pub known : e.known ≡ s.known
   pub positions : e.positions ≡ s.positions
 
--- A run to that limit is the same of the session and of the plain machine: of the same model, it begins at the same position, and up to there the same
--- ones stay, with the same interval.
+-- A run to that limit is the same of the session and of the plain machine: of the same model, it
+-- begins at the same position, and up to there the same ones stay, with the same interval.
 pub record RunsAlike (limit : ℕ) (e : Editing) (s : Machine) : Type 0 where
   pub model : e.model ≡ s.model
   pub start : start_of limit e.positions.stored ≡ start_of limit s.positions.stored
@@ -59,8 +59,8 @@ pub record IsServed (b : Behaviour) (s : Machine) (v : Seen) : Type 0 where
   pub at : IsAt b v.editing machine
   pub heard : AreHeard b s v.asked v.heard machine
 
--- A run to that limit was asked last, and goes on; all before is heard. It began with setup, and where the machine has positions, all after the limit,
--- the session has none any more.
+-- A run to that limit was asked last, and goes on; all before is heard. It began with setup, and
+-- where the machine has positions, all after the limit, the session has none any more.
 pub record IsGoing (b : Behaviour) (s : Machine) (limit : ℕ) (v : Seen) : Type 0 where
   pub before : List Asked
   pub last : Asked
@@ -91,7 +91,8 @@ going (Some limit) left = left + 1
 abbrev pub left_in_run : Editing → ℕ
 left_in_run e = left_of e.phase e.model e.boxes
 
--- how many turns are left at most: for each thing that may be asked, as many as a model may need boxes, and four more
+-- how many turns are left at most: for each thing that may be asked, as many as a model may need
+-- boxes, and four more
 abbrev pub left_seen : Seen → ℕ
 left_seen v = v.may * (most_boxes + 4) + going v.running (left_in_run v.editing)
 
@@ -192,8 +193,8 @@ module _ {O K X : Type 0} {Y : X → Type 0} where
     -- the client keeps true of itself what it says
     pub kept : keeps server.client
 
-  -- What each step comes to, by what the client says of itself. The step's own relation, and which of its answers end it, are handed over: it answers a
-  -- `Next` or a `Turn`.
+  -- What each step comes to, by what the client says of itself. The step's own relation, and which
+  -- of its answers end it, are handed over: it answers a `Next` or a `Turn`.
   pub record Serves {R : Type 0} (b : Behaviour) (members : Members X Y) (asked_of : K → List Asked) (heard_of : K → List Heard) (may_ask : K → ℕ)
       (keeps : K → Type 0) (label_of : K → ℕ) (stops_of : K → Stop → Type 0) (may_stop : (Stop → Type 0) → R → Type 0) (is_step : Seen → Seen → R → Type 0)
       (before after : Server O K X Y) (answer : R) : Type 0 where
@@ -208,7 +209,8 @@ module _ {O K X : Type 0} {Y : X → Type 0} where
     -- what is seen before and after the step, and what it answers, are as its relation says
     pub comes : is_step (seen_in members asked_of heard_of may_ask before) (seen_in members asked_of heard_of may_ask after) answer
 
-  -- The client hears this, an answer or that memory ran out, or is gone, and nothing else changes but which run goes on.
+  -- The client hears this, an answer or that memory ran out, or is gone, and nothing else changes
+  -- but which run goes on.
   pub record Tells (asked_of : K → List Asked) (heard_of : K → List Heard) (may_ask : K → ℕ) (keeps : K → Type 0) (label_of : K → ℕ)
       (stops_of : K → Stop → Type 0) (told : Heard) (goes_on : Option ℕ) (before after : Server O K X Y) (answer : Next) : Type 0 where
     -- the client keeps true of itself what it says
@@ -246,8 +248,8 @@ IsMetIn b before after (turn.Need made) = (after ≡ before) × IsFor b (wanted_
 IsMetIn b before after (turn.Over next.GoOn) = after ≡ record before { phase = Declined }
 IsMetIn b before after (turn.Over (next.Stop why)) = ⊥
 
--- A run to that limit is done and its answer is heard, or memory ran out; it waits for a box of what is made, or was told that there is none; or the
--- client is gone.
+-- A run to that limit is done and its answer is heard, or memory ran out; it waits for a box of
+-- what is made, or was told that there is none; or the client is gone.
 abbrev pub IsRunIn : Behaviour → ℕ → Seen → Seen → Turn → Type 0
 IsRunIn b limit before after (turn.Need made) =
     WaitsIn before after limit × IsFor b (wanted_of after.editing) (module_of made) × IsSome (wanted_of after.editing)
@@ -258,7 +260,8 @@ IsRunIn b limit before after (turn.Over next.GoOn) =
 IsRunIn b limit before after (turn.Over (next.Stop stop.Gone)) = IsCutOff b (command.Run limit) (RunsAlike limit before.editing) before after
 IsRunIn b limit before after (turn.Over (next.Stop _)) = ⊥
 
--- What a command comes to that is asked where no run goes on: a run goes on or is heard; all else is heard at once.
+-- What a command comes to that is asked where no run goes on: a run goes on or is heard; all else
+-- is heard at once.
 abbrev pub ComesTo : Behaviour → Command → Seen → Seen → Turn → Type 0
 ComesTo b (command.Run limit) before after t = IsRunIn b limit before after t
 ComesTo b c before after (turn.Over n) = HearsNext b c before after n

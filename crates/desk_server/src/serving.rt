@@ -1,4 +1,5 @@
-//! A client at a desk with boxes of the stock modules: it asks one thing after the other, and hears what comes of it.
+//! A client at a desk with boxes of the stock modules: it asks one thing after the other, and hears
+//! what comes of it.
 
 ghost use Rattle.std.specs.Prelude.{◌≡◌, ◌<◌, ◌≤◌, ℕ, [], ◌∷◌, ◌++◌, Some, None, IsSome, OnOk, IfOk, IfErr};
 ghost use Rattle.model_data.specs.declared.model.Model.{Model};
@@ -143,7 +144,8 @@ impl<O: Out + Drop, K: Client<O> + Drop> Server<O, K> {
         }
     }
 
-    /// Changes the NED file of that number to what the file of that path holds, which the client reads; or tells why not.
+    /// Changes the NED file of that number to what the file of that path holds, which the client
+    /// reads; or tells why not.
     fn ned(&mut self, number: u64, path: Text) -> Next
         requires { IsReady stock SimpleModule-box K.keeps self.old }
         ensures { Serves stock SimpleModule-box K.asked K.heard K.left K.keeps K.label K.stops
@@ -334,9 +336,10 @@ impl<O: Out + Drop, K: Client<O> + Drop> Server<O, K> {
     }
 }
 
-/// Serves a client at a desk of the model that these texts make with the configuration of that name, with boxes of the stock modules,
-/// until it asks nothing more, can't go on, or a device of a file fails. A run leaves a position after each multiple of `interval`
-/// events. The observer is told of the events of each run. Answers the client, and why; or why the texts make no model.
+/// Serves a client at a desk of the model that these texts make with the configuration of that
+/// name, with boxes of the stock modules, until it asks nothing more, can't go on, or a device of a
+/// file fails. A run leaves a position after each multiple of `interval` events. The observer is
+/// told of the events of each run. Answers the client, and why; or why the texts make no model.
 pub fn serve<O: Out + Drop, K: Client<O> + Drop, W: Observer>(
     alloc: Global,
     texts: &NedTexts,
@@ -354,8 +357,9 @@ pub fn serve<O: Out + Drop, K: Client<O> + Drop, W: Observer>(
     ensures served { IfOk result (λ r. (model : Model)
         × IsModelOf texts.now ini.now config.now model
         × Ends stock (fresh_machine model interval) (K.asked r.0) (K.heard r.0) r.1) }
-    // It is served no more only where that is true of it which it says of the reason: it has nothing more to ask, can't go on, or
-    // heard that a device failed, which one, and after how many bytes.
+    // It is served no more only where that is true of it which it says of the reason: it has
+    // nothing more to ask, can't go on, or heard that a device failed, which one, and after how
+    // many bytes.
     ensures stopped { IfOk result (λ r. K.stops r.0 r.1) }
     // The client keeps true of itself what it says.
     ensures kept { IfOk result (λ r. K.keeps r.0) }

@@ -65,7 +65,8 @@ known_done b m limit w outcome whole =
 
 -- ---- an edit
 
--- where two lists of questions say the same of the events up to the last one, they have the same agreement
+-- where two lists of questions say the same of the events up to the last one, they have the same
+-- agreement
 same_agreement : (m n : Answers) (k : ℕ) (rs ss : List Record) (qs xs : List Asked)
     → ((u : ℕ) → u ≤ k → AgreesUpTo u m n rs qs → AgreesUpTo u m n ss xs) → ((u : ℕ) → u ≤ k → AgreesUpTo u m n ss xs → AgreesUpTo u m n rs qs)
     → (found : Option ℕ) → IsAgreement m n rs k qs found → IsAgreement m n ss k xs found

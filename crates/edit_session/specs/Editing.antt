@@ -29,7 +29,8 @@ use Rattle.checkpoint_runs.specs.Positions.{cut, events_behind, last_count, posi
 use Rattle.checkpoint_runs.specs.Running.{boxes_left, fresh_run, kept_boxes, needed_by, wanted_by, whole_run, IsLive, IsUndeclined}
 use Rattle.edit_session.specs.Reuse.{IsKnown, IsValidTo}
 
--- a run that is done: its limit, its outcome, and what is known of its result files before they are written
+-- a run that is done: its limit, its outcome, and what is known of its result files before they are
+-- written
 pub record Completed : Type 0 where
   pub limit : ℕ
   pub outcome : Outcome
@@ -45,9 +46,10 @@ completed b m limit =
     let ran = fresh_run b (answers_of m) limit in
     record { limit = limit; outcome = ran.outcome; files = files_in m ran.world }
 
--- what callers see of a session: the model; the last run, where it is done; where a run stands that isn't; the modules whose boxes it holds, by their
--- ids and kinds; the last event of a run of the model whose questions are known, where there is one; and the positions that are stored, by their counts
--- of events, with the interval
+-- what callers see of a session: the model; the last run, where it is done; where a run stands that
+-- isn't; the modules whose boxes it holds, by their ids and kinds; the last event of a run of the
+-- model whose questions are known, where there is one; and the positions that are stored, by their
+-- counts of events, with the interval
 pub record Editing : Type 0 where
   pub model : Model
   pub done : Option Completed
@@ -113,8 +115,9 @@ abbrev pub IsUnknown : Behaviour → Option Request → Type 0
 IsUnknown b None = Unit {0}
 IsUnknown b (Some request) = b.known request.kind ≡ false
 
--- WHAT A RUN THAT IS DONE TELLS, and what is kept of it: a fresh run of the model. It began at the greatest position up to its limit, or with setup where
--- there is none; after that it executed all events of the fresh run, and it left its positions. It needs no box, or none that there is.
+-- WHAT A RUN THAT IS DONE TELLS, and what is kept of it: a fresh run of the model. It began at the
+-- greatest position up to its limit, or with setup where there is none; after that it executed all
+-- events of the fresh run, and it left its positions. It needs no box, or none that there is.
 pub record IsFreshRun (b : Behaviour) (before : Editing) (limit : ℕ) (report : Report) (after : Editing) : Type 0 where
   pub outcome : report.outcome ≡ (fresh_run b (answers_of before.model) limit).outcome
   pub started_from : report.started_from ≡ start_of limit before.positions.stored
@@ -125,8 +128,9 @@ pub record IsFreshRun (b : Behaviour) (before : Editing) (limit : ℕ) (report :
   pub positions : after.positions ≡ positions_after b (answers_of before.model) limit before.positions
   pub needs_none : (before.phase ≡ Declined) ⊎ (needed before limit ≡ None)
 
--- It waits for the box that its model wants next, with those that it kept, and none is done. It began with setup, as there was no position up to its
--- limit, and there is none now. No box was declined before.
+-- It waits for the box that its model wants next, with those that it kept, and none is done. It
+-- began with setup, as there was no position up to its limit, and there is none now. No box was
+-- declined before.
 pub record WaitsFor (before : Editing) (limit : ℕ) (request : Request) (after : Editing) : Type 0 where
   pub undeclined : IsUndeclined before.phase
   pub start : start_of limit before.positions.stored ≡ None
@@ -138,16 +142,16 @@ abbrev pub last_used : ℕ → Option ℕ → Option ℕ
 last_used last None = None
 last_used last (Some number) = Some last
 
--- WHAT AN EDIT CHANGES: the model is then the one that the edit makes, and it makes no other; the last run stays that of the model up to the event
--- that is told
+-- WHAT AN EDIT CHANGES: the model is then the one that the edit makes, and it makes no other; the
+-- last run stays that of the model up to the event that is told
 pub record IsChangeBy (b : Behaviour) (before : Editing) (e : Edit) (change : Change) : Type 0 where
   pub model : IsEditOf before.model e change.model
   pub only : IsOnlyEditOf before.model e change.model
   pub valid_to : IsValidTo b (answers_of before.model) (answers_of change.model) before.known change.edited.valid_to
   pub injection : change.edited.injection ≡ number_given e before.model
 
--- what it leaves. No run waits and none is done; boxes stay until the next run. Of the last run those events are known that stay valid, and those
--- positions stay that are not after them.
+-- what it leaves. No run waits and none is done; boxes stay until the next run. Of the last run
+-- those events are known that stay valid, and those positions stay that are not after them.
 abbrev pub edited_by : Editing → Change → Editing
 edited_by before change = record {
   model = change.model;
@@ -165,8 +169,9 @@ pub record IsAccepted (b : Behaviour) (before : Editing) (e : Edit) (edited : Ed
   pub told : edited ≡ change.edited
   pub left : after ≡ edited_by before change
 
--- WHAT LACK OF MEMORY LEAVES of a run: none waits, and none is done. The positions are those that it stored after where it began, up to where it stood,
--- and nothing is known but the events up to the last of them.
+-- WHAT LACK OF MEMORY LEAVES of a run: none waits, and none is done. The positions are those that
+-- it stored after where it began, up to where it stood, and nothing is known but the events up to
+-- the last of them.
 pub record IsGivenUp (b : Behaviour) (before : Editing) (limit : ℕ) (after : Editing) : Type 0 where
   pub stood : Stood
   pub done : after.done ≡ None

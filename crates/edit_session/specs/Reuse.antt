@@ -6,14 +6,16 @@ use Rattle.run_semantics.specs.Agreement.{AgreesUpTo, IsAgreement}
 use Rattle.run_semantics.specs.Run.{IsReached, after, world_at}
 use Rattle.run_semantics.specs.World.{World}
 
--- UP TO WHICH EVENT a run of the old model, of which so many events are known, is that of the new one: the greatest event such that both answer all
--- questions up to it alike; none where nothing is known, or where they differ on a question of event zero
+-- UP TO WHICH EVENT a run of the old model, of which so many events are known, is that of the new
+-- one: the greatest event such that both answer all questions up to it alike; none where nothing is
+-- known, or where they differ on a question of event zero
 abbrev pub IsValidTo : Behaviour → Answers → Answers → Option ℕ → Option ℕ → Type 0
 IsValidTo b old new None valid = valid ≡ None
 IsValidTo b old new (Some known) valid =
     IsAgreement old new (world_at (after b old known)).records known (world_at (after b old known)).questions valid
 
--- The questions of this world are those of a run of a model that agrees with this one on the events up to v.
+-- The questions of this world are those of a run of a model that agrees with this one on the events
+-- up to v.
 pub record IsAskedUpTo (b : Behaviour) (m : Answers) (w : World) (v : ℕ) : Type 0 where
   pub origin : Answers
   pub last : ℕ

@@ -43,7 +43,8 @@ module _ {C X : Type 0} {Y : X → Type 0} where
     pub sound : IsSound b members after
     pub model : (editing_of members after).model ≡ (editing_of members before).model
 
-  -- The change is what the edit makes of this session. Up to where it says the questions stay known and the positions good.
+  -- The change is what the edit makes of this session. Up to where it says the questions stay known
+  -- and the positions good.
   pub record IsChangeOf (b : Behaviour) (members : Members X Y) (s : Session C X Y) (e : Edit) (change : Change) : Type 0 where
     pub by : IsChangeBy b (editing_of members s) e change
     pub known : IsKnown b (answers_of change.model) (world_in members s.runner.kernel) change.edited.valid_to

@@ -75,7 +75,8 @@ pub enum Progress {
 /// What an accepted edit tells.
 #[derive(Clone, Copy, PartialEq, Eq)]
 pub struct Edited {
-    /// The greatest event up to which the last run stays that of the model as edited. None: the next run begins with setup.
+    /// The greatest event up to which the last run stays that of the model as edited. None: the
+    /// next run begins with setup.
     pub valid_to: Option<u64>,
     /// The number of the injection that was added, where one was.
     pub injection: Option<u32>,
@@ -151,9 +152,10 @@ impl<C: Catalogue> Drop for Session<C> {
 }
 
 impl<C: Catalogue> Session<C> {
-    /// A session of the model that these texts make, or why they make none. A run leaves a position after each multiple of
-    /// `interval` events, to which a later one can go back. At most 64 are stored: where there would be one more, the interval is
-    /// doubled, up to 2^62, and of all those stay that are at its multiples, and the newest. Where none is left it is again the first.
+    /// A session of the model that these texts make, or why they make none. A run leaves a position
+    /// after each multiple of `interval` events, to which a later one can go back. At most 64 are
+    /// stored: where there would be one more, the interval is doubled, up to 2^62, and of all those
+    /// stay that are at its multiples, and the newest. Where none is left it is again the first.
     pub fn begin(
         alloc: Global,
         texts: &NedTexts,
@@ -185,8 +187,8 @@ impl<C: Catalogue> Session<C> {
     {
         Session {
             alloc,
-            // A runner's parts are put together here: a function of its crate that made one would hand out boxes that it
-            // did not take.
+            // A runner's parts are put together here: a function of its crate that made one would
+            // hand out boxes that it did not take.
             runner: Runner {
                 kernel: Kernel::new(alloc, Tree::new(alloc)),
                 waiting: Tree::new(alloc),
@@ -202,18 +204,20 @@ impl<C: Catalogue> Session<C> {
         }
     }
 
-    /// Changes the model as the edit says, or tells why not. An accepted edit gives up a run that waits, and no run is done
-    /// until the next one.
+    /// Changes the model as the edit says, or tells why not. An accepted edit gives up a run that
+    /// waits, and no run is done until the next one.
     pub fn edit(&mut self, edit: Edit) -> Result<Edited, Refusal>
         requires sound { IsSound C.behaviour SimpleModule-box self.old }
         ensures sound { IsSound C.behaviour SimpleModule-box self.new }
 
-        // The session's model is then the one that the edit makes; it is told up to which event the last run stays valid.
+        // The session's model is then the one that the edit makes; it is told up to which event the
+        // last run stays valid.
         ensures accepted { let before = editing_of SimpleModule-box self.old in
             let after = editing_of SimpleModule-box self.new in
             IfOk result (λ edited. IsAccepted C.behaviour before edit edited after) }
 
-        // A refusal has its reason, in its order; none comes where the edit makes a model, unless memory runs out.
+        // A refusal has its reason, in its order; none comes where the edit makes a model, unless
+        // memory runs out.
         ensures refused { let before = editing_of SimpleModule-box self.old in
             IfErr result (λ r. RefusesEdit before.model edit r) }
         ensures complete { let before = editing_of SimpleModule-box self.old in
@@ -230,11 +234,13 @@ impl<C: Catalogue> Session<C> {
     pub fn change(&self, edit: Edit) -> Result<Change, Refusal>
         requires sound { IsSound C.behaviour SimpleModule-box self.now }
 
-        // The model of the change is the one that the edit makes; it tells up to which event the last run stays valid.
+        // The model of the change is the one that the edit makes; it tells up to which event the
+        // last run stays valid.
         ensures changed { IfOk result (λ change.
             IsChangeOf C.behaviour SimpleModule-box self.now edit change) }
 
-        // A refusal has its reason, in its order; none comes where the edit makes a model, unless memory runs out.
+        // A refusal has its reason, in its order; none comes where the edit makes a model, unless
+        // memory runs out.
         ensures refused { let before = editing_of SimpleModule-box self.now in
             IfErr result (λ r. RefusesEdit before.model edit r) }
         ensures complete { let before = editing_of SimpleModule-box self.now in
@@ -249,7 +255,8 @@ impl<C: Catalogue> Session<C> {
         }
     }
 
-    /// The change to this model, in which the injection of that number was added, if one was. Where the values of the session's model stay, none is found anew.
+    /// The change to this model, in which the injection of that number was added, if one was. Where
+    /// the values of the session's model stay, none is found anew.
     fn change_to(&self, model: Model, stay: bool, given: Option<u64>) -> Result<Change, NoMemory>
         requires sound { IsSound C.behaviour SimpleModule-box self.now }
         requires stay { stay ≡ true → setting_of model ≡ setting_of self.now.model }
@@ -303,8 +310,8 @@ impl<C: Catalogue> Session<C> {
         )
     }
 
-    /// Makes a change, which takes no memory. A run that waits is given up, and no run is done until the next one. Of the stored
-    /// positions those stay up to which the last run stays valid.
+    /// Makes a change, which takes no memory. A run that waits is given up, and no run is done
+    /// until the next one. Of the stored positions those stay up to which the last run stays valid.
     pub fn accept(&mut self, change: Change) -> Edited
         requires sound { IsSound C.behaviour SimpleModule-box self.old }
         requires changed { (edit : Edit)
@@ -322,7 +329,8 @@ impl<C: Catalogue> Session<C> {
         edited
     }
 
-    /// The number that this edit would give to the injection that it adds, where it adds one. No number is given twice.
+    /// The number that this edit would give to the injection that it adds, where it adds one. No
+    /// number is given twice.
     pub fn number_given(&self, edit: &Edit) -> Option<u64>
         ensures { let editing = editing_of SimpleModule-box self.now in
             result ≡ number_given edit.now editing.model }
@@ -346,9 +354,10 @@ impl<C: Catalogue> Session<C> {
         self.model.model().config.as_bytes()
     }
 
-    /// Runs the model for at most so many events, from the greatest stored position up to there, or from setup, or goes on with the run
-    /// that waits; or answers which module needs a box first, of those without one the one of the least id. The observer is told of each
-    /// event that is executed.
+    /// Runs the model for at most so many events, from the greatest stored position up to there, or
+    /// from setup, or goes on with the run that waits; or answers which module needs a box first,
+    /// of those without one the one of the least id. The observer is told of each event that is
+    /// executed.
     pub fn run<W: Observer>(&mut self, limit: u64, observer: &mut W) -> Result<Progress, NoMemory>
         requires sound { IsSound C.behaviour SimpleModule-box self.old }
         ensures kept { KeepsModel C.behaviour SimpleModule-box self.old self.new }
@@ -365,7 +374,8 @@ impl<C: Catalogue> Session<C> {
             IfOk result (λ progress.
             IfWant progress (λ request. WaitsFor before limit request after)) }
 
-        // After lack of memory no run waits, and none is done; the positions that it stored stay, up to where it stood.
+        // After lack of memory no run waits, and none is done; the positions that it stored stay,
+        // up to where it stood.
         ensures memory { let before = editing_of SimpleModule-box self.old in
             OnErr result (IsGivenUp C.behaviour before limit
             (editing_of SimpleModule-box self.new)) }
@@ -439,15 +449,16 @@ impl<C: Catalogue> Session<C> {
         }
     }
 
-    /// Where the run stood that was asked for last, where memory ran out for it: up to there its positions are stored.
+    /// Where the run stood that was asked for last, where memory ran out for it: up to there its
+    /// positions are stored.
     pub fn stood(&self) -> Stood
         ensures { result ≡ stood_in self.now }
     {
         self.runner.stood
     }
 
-    /// Gives the module that the run waits for its box, or hands the box back: where no run waits for
-    /// one, or where memory runs out, and then the run waits still.
+    /// Gives the module that the run waits for its box, or hands the box back: where no run waits
+    /// for one, or where memory runs out, and then the run waits still.
     pub fn supply(&mut self, held: Box<dyn SimpleModule>) -> Result<(), SupplyFault>
         requires wanted { let editing = editing_of SimpleModule-box self.old in
             IsFor C.behaviour (wanted_of editing) (meaning held) }
@@ -473,8 +484,8 @@ impl<C: Catalogue> Session<C> {
         }
     }
 
-    /// Says that there is no box for the module that the run waits for: its start then has the fault
-    /// UnknownClass, without a further question.
+    /// Says that there is no box for the module that the run waits for: its start then has the
+    /// fault UnknownClass, without a further question.
     pub fn decline(&mut self) -> Result<(), NotWanted>
         requires unknown { let editing = editing_of SimpleModule-box self.old in
             IsUnknown C.behaviour (wanted_of editing) }
@@ -539,7 +550,8 @@ impl<C: Catalogue> Session<C> {
         }
     }
 
-    /// The positions that are stored, by their counts of events, which rise. Whatever edits and runs came before, there are at most 64.
+    /// The positions that are stored, by their counts of events, which rise. Whatever edits and
+    /// runs came before, there are at most 64.
     pub fn positions(&self) -> &[u64]
         ensures are { result.now ≡ (editing_of SimpleModule-box self.now).positions.stored }
         ensures few { IsSound C.behaviour SimpleModule-box self.now → length result.now ≤ most_stored }
@@ -547,8 +559,8 @@ impl<C: Catalogue> Session<C> {
         self.runner.positions.counts()
     }
 
-    /// The last event whose questions are known, where there is one: of a run that is done its last one, after an edit the one that it
-    /// told, after lack of memory that of the last position.
+    /// The last event whose questions are known, where there is one: of a run that is done its last
+    /// one, after an edit the one that it told, after lack of memory that of the last position.
     pub fn known_to(&self) -> Option<u64>
         ensures { result ≡ (editing_of SimpleModule-box self.now).known }
     {

@@ -20,7 +20,8 @@ pub fn keeps_values(edit: &Edit) -> bool
     }
 }
 
-/// A model, with the values of the one before, where they stay, or with those that are found for it.
+/// A model, with the values of the one before, where they stay, or with those that are found for
+/// it.
 pub fn evaluated(
     alloc: Global,
     before: &EvaluatedModel,

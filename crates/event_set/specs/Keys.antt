@@ -80,7 +80,8 @@ AreApart f g = (t : TimerKey) (k : Key) → f t ≡ Some k → g t ≡ None
 abbrev pub place_at : Slots → TimerKey → Option Key
 place_at s t = option_or (first_at s.firsts t) (other_at s.others t)
 
--- each timer of the events stands at its place, and nothing else does; and numbers are below the next
+-- each timer of the events stands at its place, and nothing else does; and numbers are below the
+-- next
 pub record AreSound (es : List (Key × Entry)) (at : TimerKey → Option Key) (next : ℕ) : Type 0 where
   pub ordered : IsStrictlySortedBy key_order (keys_of es)
   pub below : Each (λ (e : Key × Entry). e.0.number < next) es

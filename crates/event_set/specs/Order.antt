@@ -2,7 +2,8 @@
 use Rattle.std.specs.Prelude.{◌≢◌, nat_lt, int_lt, ◌==◌, Bool, true, false, IsTrue, List, [], ◌∷◌, if◌then◌else◌}
 use Rattle.event_set.specs.declared.pending.Pending.{Pending}
 
--- by time, then priority, then insertion number (OMNeT++ Simulation Manual, "Message Scheduling and Priority")
+-- by time, then priority, then insertion number (OMNeT++ Simulation Manual, "Message Scheduling and
+-- Priority")
 abbrev pub comes_before : Pending → Pending → Bool
 comes_before a b =
     if a.time == b.time

@@ -8,8 +8,9 @@ use sim_values::text::Text;
 use sqlite_items::Boxed;
 use std::alloc::{AllocError, Global};
 
-/// The module of an event, and what is to happen. A payload and a message are boxed, and the fields stand in an order in which they
-/// leave no room between them: so a node of the tree, with fifteen entries and their places, is a block that is small.
+/// The module of an event, and what is to happen. A payload and a message are boxed, and the fields
+/// stand in an order in which they leave no room between them: so a node of the tree, with fifteen
+/// entries and their places, is a block that is small.
 #[derive(Drop)]
 pub(crate) enum Entry {
     /// A self-message.

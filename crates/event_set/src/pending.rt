@@ -50,7 +50,8 @@ impl Delivery {
 pub struct Pending {
     pub time: SimTime,
     pub priority: i16,
-    /// The number of its insertion: of events of one time and priority the first inserted comes first.
+    /// The number of its insertion: of events of one time and priority the first inserted comes
+    /// first.
     pub number: u128,
     /// The id of the module that it is for.
     pub id: u32,

@@ -2,7 +2,8 @@
 
 use sim_time::SimTime;
 
-/// The place of an event in the order (OMNeT++ Simulation Manual, "Message Scheduling and Priority").
+/// The place of an event in the order (OMNeT++ Simulation Manual, "Message Scheduling and
+/// Priority").
 #[derive(Clone, Copy, PartialEq, Eq, PartialOrd, Ord, Drop)]
 pub(crate) struct Key {
     pub(crate) time: SimTime,

@@ -30,8 +30,8 @@ pub struct Coming {
     pub id: u32,
 }
 
-/// The events to come, ordered by time, priority and number of insertion, which contracts see as their
-/// list and the number of the next one.
+/// The events to come, ordered by time, priority and number of insertion, which contracts see as
+/// their list and the number of the next one.
 pub struct EventSet {
     events: BTreeMap<Key, Entry>,
     /// Where the timers stand that are pending.
@@ -94,8 +94,8 @@ impl EventSet {
         self.timers.find(TimerKey { id, timer }).is_some()
     }
 
-    /// Puts an event in its place, with the next number, or changes nothing where memory runs out. No
-    /// timer of a module is pending twice.
+    /// Puts an event in its place, with the next number, or changes nothing where memory runs out.
+    /// No timer of a module is pending twice.
     pub fn insert(
         &mut self,
         time: SimTime,

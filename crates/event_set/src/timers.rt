@@ -12,12 +12,13 @@ use std::alloc::{AllocError, Global};
 use std::collections::BTreeMap;
 use std::marker::Model;
 
-/// So many modules have a slot of their own for a timer. A timer of a module with a greater id stands in the tree, whoever
-/// calls with that id: the slots never take more memory than so many do.
+/// So many modules have a slot of their own for a timer. A timer of a module with a greater id
+/// stands in the tree, whoever calls with that id: the slots never take more memory than so many
+/// do.
 const SLOTS: u32 = 1 << 20;
 
-/// A module's slot for a timer: none is in it, or this one, which stands at that place. The priority and the timer's number lie in
-/// one word with the tag.
+/// A module's slot for a timer: none is in it, or this one, which stands at that place. The
+/// priority and the timer's number lie in one word with the tag.
 #[derive(Clone, Copy, Drop)]
 pub(crate) enum First {
     Free,
@@ -32,8 +33,8 @@ pub(crate) enum First {
 // A slot has four words.
 const _: () = prove!(size_of::<First>() == 32);
 
-/// Where the timers stand that are pending: one of each module in the module's slot, found by its id at once, and all others in a
-/// tree. Contracts see the slots, and what the tree has.
+/// Where the timers stand that are pending: one of each module in the module's slot, found by its
+/// id at once, and all others in a tree. Contracts see the slots, and what the tree has.
 pub(crate) struct Timers {
     firsts: Vec<First>,
     others: BTreeMap<TimerKey, Key>,

@@ -37,7 +37,8 @@ struct Left {
     paths: usize,
 }
 
-/// Adds what a part of the compound module of that path and type has, and its path to those that are left where it is a compound module too.
+/// Adds what a part of the compound module of that path and type has, and its path to those that
+/// are left where it is a compound module too.
 fn push_part(
     paths: &mut Paths,
     left: &mut Left,
@@ -62,7 +63,8 @@ fn push_part(
     Ok(())
 }
 
-/// Adds what these parts of the compound module of that path and type have, until there are too many paths.
+/// Adds what these parts of the compound module of that path and type have, until there are too
+/// many paths.
 fn push_submodules(
     paths: &mut Paths,
     left: &mut Left,
@@ -82,8 +84,8 @@ fn push_submodules(
     Ok(())
 }
 
-/// Adds what the parts of the inside of the module of that path have, of which the first is that module itself. Answers whether these are not too many
-/// modules, with not too many paths.
+/// Adds what the parts of the inside of the module of that path have, of which the first is that
+/// module itself. Answers whether these are not too many modules, with not too many paths.
 fn push_parts(
     paths: &mut Paths,
     left: &mut Left,
@@ -105,7 +107,8 @@ fn push_parts(
     Ok(paths.count <= left.paths)
 }
 
-/// Adds what is inside of the compound module of that path. Answers whether it can be built, of not too many modules and with not too many paths.
+/// Adds what is inside of the compound module of that path. Answers whether it can be built, of not
+/// too many modules and with not too many paths.
 fn push_inside(
     paths: &mut Paths,
     left: &mut Left,
@@ -131,7 +134,8 @@ fn push_inside(
     }
 }
 
-/// Adds what is inside of the compound modules that are left. Answers whether all can be built, of not too many modules and with not too many paths.
+/// Adds what is inside of the compound modules that are left. Answers whether all can be built, of
+/// not too many modules and with not too many paths.
 fn push_insides(
     paths: &mut Paths,
     left: &mut Left,
@@ -153,7 +157,8 @@ fn push_insides(
     Ok(false)
 }
 
-/// Adds what the network of that type and all modules in it have. Answers whether it can be built, of not too many modules and with not too many paths.
+/// Adds what the network of that type and all modules in it have. Answers whether it can be built,
+/// of not too many modules and with not too many paths.
 fn push_network(
     paths: &mut Paths,
     alloc: Global,
@@ -173,7 +178,8 @@ fn push_network(
     push_insides(paths, &mut left, alloc, setting, &mut table)
 }
 
-/// What keys can be for in the network of a model; none where that can't be built, or has too many modules or parameters for so many lines.
+/// What keys can be for in the network of a model; none where that can't be built, or has too many
+/// modules or parameters for so many lines.
 fn paths_of(alloc: Global, model: &Model, lines: usize) -> Result<Option<Paths>, NoMemory> {
     let Some(network) = model.network() else {
         return Ok(None);
@@ -195,8 +201,8 @@ pub fn names_in(alloc: Global, types: &[TypeDeclaration]) -> Result<Paths, NoMem
     Ok(names)
 }
 
-/// What keys can be for in a model of these types, of an ini text of so many lines: by paths where they are known, or else by the names that the
-/// types declare.
+/// What keys can be for in a model of these types, of an ini text of so many lines: by paths where
+/// they are known, or else by the names that the types declare.
 pub fn paths_in(
     alloc: Global,
     model: &Model,

@@ -111,7 +111,8 @@ fn begin(told: &mut Explanation, sources: &Sources<'_>, line: usize, name: &[u8]
     told.say(" extends ");
 }
 
-/// How many chains are looked for, at most, until it is known which configurations can't be put in order.
+/// How many chains are looked for, at most, until it is known which configurations can't be put in
+/// order.
 const MOST_CHAINS: usize = 16;
 
 /// Whether a configuration has no chain.
@@ -123,7 +124,8 @@ fn is_faulty(alloc: Global, text: &IniText, name: &[u8]) -> Result<bool, NoMemor
     }
 }
 
-/// The first of these configurations that has no chain, where so many chains may still be looked for. One base alone is always in order.
+/// The first of these configurations that has no chain, where so many chains may still be looked
+/// for. One base alone is always in order.
 fn faulty_base<'a>(
     alloc: Global,
     text: &IniText,
@@ -155,8 +157,8 @@ fn missing_base<'a>(sections: &SectionNames<'_>, bases: &'a [Text]) -> Option<&'
     None
 }
 
-/// Says which configurations the one of that name extends, and that they can't be put in order; where no more chains may be looked for,
-/// perhaps only others that these extend.
+/// Says which configurations the one of that name extends, and that they can't be put in order;
+/// where no more chains may be looked for, perhaps only others that these extend.
 fn tell_unordered(told: &mut Explanation, bases: &[Text], left: usize) {
     let mut before = "";
     for base in bases {
@@ -174,7 +176,8 @@ fn tell_unordered(told: &mut Explanation, bases: &[Text], left: usize) {
     );
 }
 
-/// Says that the configuration of that name extends one in that line that isn't there, and which there are.
+/// Says that the configuration of that name extends one in that line that isn't there, and which
+/// there are.
 fn tell_missing(
     told: &mut Explanation,
     sources: &Sources<'_>,
@@ -192,7 +195,8 @@ fn tell_missing(
     }
 }
 
-/// The configuration with no chain that the one of that name extends; says what is wrong where that is with this one.
+/// The configuration with no chain that the one of that name extends; says what is wrong where that
+/// is with this one.
 fn followed<'a>(
     told: &mut Explanation,
     sources: &Sources<'_>,

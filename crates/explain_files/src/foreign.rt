@@ -60,7 +60,8 @@ fn copied(alloc: Global, name: &[u8]) -> Result<String, NoMemory> {
     Ok(String::from_str(alloc, explain_types::names::shown(name))?)
 }
 
-/// What a name may be at which a text can't go on: after another name, which declares a parameter; or a recording mode.
+/// What a name may be at which a text can't go on: after another name, which declares a parameter;
+/// or a recording mode.
 fn own_name(alloc: Global, before: Option<&Token>, name: &[u8]) -> Result<Own, NoMemory> {
     match before {
         Some(Token::Name(kind)) => Ok(Own::Kind(copied(alloc, kind.as_bytes())?)),
@@ -105,7 +106,8 @@ pub fn own_of(alloc: Global, tokens: &[Token], left: usize, line: &[u8]) -> Resu
     }
 }
 
-/// Says what is OMNeT++'s own in a line at which a text can't go on, where that is. Answers whether it is.
+/// Says what is OMNeT++'s own in a line at which a text can't go on, where that is. Answers whether
+/// it is.
 pub fn tell_own(told: &mut Explanation, own: Result<Own, NoMemory>, line: &[u8]) -> bool {
     match own {
         Ok(Own::Nothing) => return false,

@@ -8,7 +8,8 @@ use sim_values::NoMemory;
 use sim_values::text::{Text, spells};
 use std::alloc::Global;
 
-/// Whether an entry gives the parameter of that path a value, or the submodule its type whose path stands before `typename`, where no entry before it does.
+/// Whether an entry gives the parameter of that path a value, or the submodule its type whose path
+/// stands before `typename`, where no entry before it does.
 fn gives(entry: &Entry, path: &str) -> bool {
     let is_type = spells(last_name(path.as_bytes()), b"typename");
     match &entry.meaning {
@@ -28,7 +29,8 @@ fn giving_in<'a>(entries: &[Numbered<'a>], path: &str) -> Option<Numbered<'a>> {
     None
 }
 
-/// The entry of these lines that gives what has that path its value: the first along the chain that matches.
+/// The entry of these lines that gives what has that path its value: the first along the chain that
+/// matches.
 pub fn entry_giving<'a>(
     alloc: Global,
     lines: &'a [IniLine],

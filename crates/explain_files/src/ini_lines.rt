@@ -32,7 +32,8 @@ fn tell_key(told: &mut Explanation, line: &[u8]) {
     told.say(" is no pattern: a '{' or '[' is not closed, or nothing stands in it");
 }
 
-/// Says what of the value of a line can't be read, and why: what is OMNeT++'s own, a number, or that it is nested too deep.
+/// Says what of the value of a line can't be read, and why: what is OMNeT++'s own, a number, or
+/// that it is nested too deep.
 fn tell_unread(told: &mut Explanation, value: &[u8]) {
     if !tell_braces(told, value) && !tell_foreign(told, value) {
         tell_depth_of_value(told, value);

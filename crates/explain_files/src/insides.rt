@@ -59,7 +59,8 @@ fn words_of(fault: Fault) -> &'static str {
     }
 }
 
-/// Says what is wrong with the inside of the compound module of that path, or with its submodule, and what would be right.
+/// Says what is wrong with the inside of the compound module of that path, or with its submodule,
+/// and what would be right.
 pub fn tell_inside(told: &mut Explanation, path: &str, fault: Fault) {
     told.say_front(path.as_bytes());
     told.say(": ");

@@ -33,7 +33,8 @@ fn items_in(order: &[&TypeDeclaration]) -> usize {
     count
 }
 
-/// How many of its items a type keeps, where these types together keep the first so many; one that is none of them keeps all.
+/// How many of its items a type keeps, where these types together keep the first so many; one that
+/// is none of them keeps all.
 fn kept_of(order: &[&TypeDeclaration], it: &TypeDeclaration, count: usize) -> usize {
     let mut left = count;
     for of in order {
@@ -96,8 +97,9 @@ fn has_with(alloc: Global, all: Faulted<'_>, count: usize) -> Result<bool, NoMem
     has_fault(alloc, &model, all.path, all.fault)
 }
 
-/// The number of the item of connections with which the fault comes, counted from 0 in the flat type; none where it comes without any. The items
-/// are halved again and again, so it takes as many insides as their number has binary digits.
+/// The number of the item of connections with which the fault comes, counted from 0 in the flat
+/// type; none where it comes without any. The items are halved again and again, so it takes as many
+/// insides as their number has binary digits.
 pub fn item_at_fault(alloc: Global, all: Faulted<'_>) -> Result<Option<usize>, NoMemory> {
     let mut without = 0usize;
     let mut with = items_in(all.order);

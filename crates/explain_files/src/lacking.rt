@@ -84,7 +84,8 @@ fn hears_nothing(
     leads_nowhere(alloc, it, &question)
 }
 
-/// Whether the gate of that index isn't connected where it has to be: a submodule's on its outer side, a module's own on its inner one.
+/// Whether the gate of that index isn't connected where it has to be: a submodule's on its outer
+/// side, a module's own on its inner one.
 fn lacks(alloc: Global, it: Seen<'_>, gate: &Gate, index: u32) -> Result<bool, NoMemory> {
     let (sends, hears) = if it.own { ("$i", "$o") } else { ("$o", "$i") };
     match (gate.direction, it.own) {
@@ -122,7 +123,8 @@ pub struct Lacking {
     pub own: bool,
 }
 
-/// The first of these gates that isn't connected, but those that these lines let stay free: its name and its index.
+/// The first of these gates that isn't connected, but those that these lines let stay free: its
+/// name and its index.
 fn lacking_among(
     alloc: Global,
     it: Seen<'_>,
@@ -208,7 +210,8 @@ fn lacking_of(
     }
 }
 
-/// The first gate in the inside of the module of that path and type that has to be connected and isn't.
+/// The first gate in the inside of the module of that path and type that has to be connected and
+/// isn't.
 pub fn lacking_gate(
     alloc: Global,
     answers: &PlainAnswers<'_>,

@@ -1,6 +1,7 @@
 //! What is wrong with the files of a run, and what would be right: diagnostics, `path:line: ..`.
 //!
-//! Everything here looks at the files once more, after they were refused or run. It decides nothing.
+//! Everything here looks at the files once more, after they were refused or run. It decides
+//! nothing.
 #![tactic(auto)]
 
 mod built;

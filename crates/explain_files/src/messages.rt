@@ -136,8 +136,8 @@ fn tell_standing(told: &mut Explanation, path: &[u8], standing: Standing) {
     told.say(": as the model is now, the message is discarded");
 }
 
-/// What is said of a message to that path in a model of these files: that it is discarded, where no simple module stands there. Empty where one does,
-/// or the files make no model.
+/// What is said of a message to that path in a model of these files: that it is discarded, where no
+/// simple module stands there. Empty where one does, or the files make no model.
 pub fn discarded_line(
     alloc: Global,
     sources: &Sources<'_>,

@@ -51,7 +51,8 @@ pub fn declared_at<'a>(
     }
 }
 
-/// Records of one module, of id 1, which has that path. So a question about that id is one about the module of the path.
+/// Records of one module, of id 1, which has that path. So a question about that id is one about
+/// the module of the path.
 pub fn record_of(alloc: Global, path: &[u8]) -> Result<Items<Record>, NoMemory> {
     let mut records = Items::new(alloc);
     records.push(Record {
@@ -72,7 +73,8 @@ pub fn module_of(alloc: Global, path: &[u8]) -> Result<Module, NoMemory> {
     })
 }
 
-/// What comes of the inside of the module of that path, or its first fault with the path that it is told with.
+/// What comes of the inside of the module of that path, or its first fault with the path that it is
+/// told with.
 pub fn placed_at(
     alloc: Global,
     setting: &ModelSetting<'_>,

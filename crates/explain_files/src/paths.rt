@@ -18,8 +18,8 @@ pub const MOST_TRIES: usize = 4_000_000;
 /// The names of the parameters of the built-in channels.
 const BUILT_IN: &str = "delay\ndisabled\ndatarate\nber\nper\n";
 
-/// What a key can be for, each on a line: paths in the network, or else the names that types declare, where the network can't be built or has
-/// very many modules.
+/// What a key can be for, each on a line: paths in the network, or else the names that types
+/// declare, where the network can't be built or has very many modules.
 #[derive(Drop)]
 pub struct Paths {
     /// The parameters to which no NED file gives a fixed value.
@@ -119,7 +119,8 @@ fn add_fixed<'a>(names: &mut Names<'a>, lines: &'a [SectionLine]) -> Result<(), 
 pub enum Standing<'a> {
     /// A parameter, perhaps, whose value it gives.
     Open,
-    /// Parameters alone that entries before it in its section are for: the path of the first of them, and the line of the entry that is first for it.
+    /// Parameters alone that entries before it in its section are for: the path of the first of
+    /// them, and the line of the entry that is first for it.
     Hidden(&'a str, usize),
     /// Parameters alone that have a fixed value: the first of them, by its path or its name.
     Fixed(&'a str),
@@ -139,14 +140,16 @@ pub struct OptionEntry<'a> {
 #[derive(Clone, Copy)]
 pub enum Recorded<'a> {
     There,
-    /// Statistics alone that entries before it in its section give the option: the path of the first of them, and the line of the entry that is first for it.
+    /// Statistics alone that entries before it in its section give the option: the path of the
+    /// first of them, and the line of the entry that is first for it.
     Hidden(&'a str, usize),
     /// A statistic, but the option is for other names of it.
     Misnamed,
     Nowhere,
 }
 
-/// What may stand after the name of a statistic, with blanks between: nothing, or what makes the names of the scalars and the vector of it.
+/// What may stand after the name of a statistic, with blanks between: nothing, or what makes the
+/// names of the scalars and the vector of it.
 const ENDINGS: &str = " :count :sum :min :max :last :vector";
 
 /// What stands after the name of a statistic where that option is for it.
@@ -158,7 +161,8 @@ fn endings_of(option: &str) -> &'static str {
     }
 }
 
-/// For how many names of a statistic there are options: for five of scalars, and one of each other option.
+/// For how many names of a statistic there are options: for five of scalars, and one of each other
+/// option.
 pub const NAMES: usize = 8;
 
 /// How many of these names are numbered before those of that option.
@@ -199,7 +203,8 @@ fn matching<'a>(lines: &'a str, pattern: &Pattern) -> Option<&'a str> {
     None
 }
 
-/// The line of the entry that was first for the parameter, or the name of a statistic, of that number. Where none was, 0, and then the one of this line is.
+/// The line of the entry that was first for the parameter, or the name of a statistic, of that
+/// number. Where none was, 0, and then the one of this line is.
 fn first_for(taken: &mut [usize], number: usize, line: usize) -> usize {
     match taken.get_mut(number) {
         Some(it) => {
@@ -213,7 +218,8 @@ fn first_for(taken: &mut [usize], number: usize, line: usize) -> usize {
     }
 }
 
-/// What there is for an entry, with one more parameter or statistic that it matches, for which the entry of that line is first, or none where that is 0.
+/// What there is for an entry, with one more parameter or statistic that it matches, for which the
+/// entry of that line is first, or none where that is 0.
 fn with_match<'a>(standing: Standing<'a>, path: &'a str, first: usize) -> Standing<'a> {
     if first == 0 {
         return Standing::Open;
@@ -258,7 +264,8 @@ impl Paths {
         }
     }
 
-    /// Adds what a line of a type declares, at that path, where parameters of these names have a fixed value.
+    /// Adds what a line of a type declares, at that path, where parameters of these names have a
+    /// fixed value.
     fn push_line(
         &mut self,
         path: &str,
@@ -343,7 +350,8 @@ impl Paths {
         Ok(())
     }
 
-    /// Adds what can be said of these types alone: whether a submodule leaves its type open, and what channels may have.
+    /// Adds what can be said of these types alone: whether a submodule leaves its type open, and
+    /// what channels may have.
     pub fn push_open(&mut self, types: &[TypeDeclaration]) -> Result<(), NoMemory> {
         self.open = has_open(types);
         if has_connections(types) {
@@ -352,13 +360,14 @@ impl Paths {
         Ok(())
     }
 
-    /// Whether an entry may be for the parameter of a channel, by the last name of its key. The paths of channels are not looked at.
+    /// Whether an entry may be for the parameter of a channel, by the last name of its key. The
+    /// paths of channels are not looked at.
     fn may_be_of_channel(&self, name: &[u8]) -> bool {
         !self.channels.is_empty() && is_named(self.channels.as_str(), name)
     }
 
-    /// The parameters that a pattern matches, where they are paths: whether the entry of that line is the first for one of them, of those of its
-    /// section. It is noted for which it is.
+    /// The parameters that a pattern matches, where they are paths: whether the entry of that line
+    /// is the first for one of them, of those of its section. It is noted for which it is.
     fn matched(&self, pattern: &Pattern, line: usize, taken: &mut [usize]) -> Standing<'_> {
         let mut standing = Standing::Nowhere;
         let mut number: usize = 0;
@@ -382,8 +391,9 @@ impl Paths {
         fixed_or_none(named(self.fixed.as_str(), name))
     }
 
-    /// What there is for the entry for parameters in that line, of that key and pattern. `taken` are the lines of the first entries of its section for
-    /// each parameter, 0 where there is none yet.
+    /// What there is for the entry for parameters in that line, of that key and pattern. `taken`
+    /// are the lines of the first entries of its section for each parameter, 0 where there is none
+    /// yet.
     pub fn parameter_for(
         &self,
         key: &[u8],
@@ -402,7 +412,8 @@ impl Paths {
         standing
     }
 
-    /// Whether an option is for a statistic with one of these endings after its name, by a key of that pattern.
+    /// Whether an option is for a statistic with one of these endings after its name, by a key of
+    /// that pattern.
     fn has_ending(
         &self,
         alloc: Global,
@@ -418,8 +429,8 @@ impl Paths {
         Ok(false)
     }
 
-    /// The statistics that get the option of an entry, where they are paths: whether the entry is the first for a name of one of them, of those of its
-    /// section. It is noted for which it is.
+    /// The statistics that get the option of an entry, where they are paths: whether the entry is
+    /// the first for a name of one of them, of those of its section. It is noted for which it is.
     fn recorded(
         &self,
         alloc: Global,
@@ -465,8 +476,8 @@ impl Paths {
         Recorded::Misnamed
     }
 
-    /// What there is for the option of an entry. `taken` are the lines of the first entries of its section for each name of each statistic, 0 where there
-    /// is none yet.
+    /// What there is for the option of an entry. `taken` are the lines of the first entries of its
+    /// section for each name of each statistic, 0 where there is none yet.
     pub fn statistic_for(
         &self,
         alloc: Global,
@@ -489,7 +500,8 @@ impl Paths {
         None
     }
 
-    /// Says the path of the first parameter of that name; or, where there is none, the first whose name is near, as a question.
+    /// Says the path of the first parameter of that name; or, where there is none, the first whose
+    /// name is near, as a question.
     pub fn say_near(&self, told: &mut Explanation, name: &[u8]) {
         if let Some(path) = self.path_named(name) {
             told.say("; one of that name is '");
@@ -533,7 +545,8 @@ fn is_for_statistic(
     Ok(false)
 }
 
-/// What there is for an entry, with one more statistic, the first of whose names for its option has that number.
+/// What there is for an entry, with one more statistic, the first of whose names for its option has
+/// that number.
 fn with_names<'a>(
     alloc: Global,
     before: Standing<'a>,

@@ -1,4 +1,5 @@
-//! Ini texts each of whose entries has an effect, as a few looks tell. Then no line is to be said, and the paths of the network need not be found.
+//! Ini texts each of whose entries has an effect, as a few looks tell. Then no line is to be said,
+//! and the paths of the network need not be found.
 
 use crate::configurations::is_among;
 use crate::sections::{Numbered, Sections, sections_of};
@@ -75,7 +76,8 @@ fn has_statistic(lines: &[SectionLine]) -> bool {
     false
 }
 
-/// The type of a submodule of which there is one in each network of that type, where the type extends no other.
+/// The type of a submodule of which there is one in each network of that type, where the type
+/// extends no other.
 fn type_of_certain<'a>(it: Network<'a>, submodule: &'a Submodule) -> Option<&'a TypeDeclaration> {
     if submodule.condition.is_some() || submodule.size.is_some() {
         return None;
@@ -183,8 +185,9 @@ fn is_chain_plain(
     Ok(true)
 }
 
-/// Whether a few looks tell that each entry of a chain of these lines, which selects that network, has an effect: each is for all parameters of its name, or for all
-/// statistics, each has a key of its own in its section, and one of the first submodules has such a parameter, or a statistic.
+/// Whether a few looks tell that each entry of a chain of these lines, which selects that network,
+/// has an effect: each is for all parameters of its name, or for all statistics, each has a key of
+/// its own in its section, and one of the first submodules has such a parameter, or a statistic.
 pub fn all_have_effect(
     alloc: Global,
     lines: &[IniLine],

@@ -117,7 +117,8 @@ pub fn bad_line(
     told.said()
 }
 
-/// Why a text is neither a connection nor a group of connections, and what would be right: a diagnostic.
+/// Why a text is neither a connection nor a group of connections, and what would be right: a
+/// diagnostic.
 pub fn bad_connection(alloc: Global, text: &[u8]) -> Result<String, NoMemory> {
     let mut told = Explanation::new(alloc);
     told.say("the connection: ");

@@ -30,7 +30,8 @@ use run_semantics::outcome::Fault;
 use sim_values::NoMemory;
 use std::alloc::Global;
 
-/// A module of a model that answers: its path, its type, and its declaration, which the network has none of.
+/// A module of a model that answers: its path, its type, and its declaration, which the network has
+/// none of.
 #[derive(Clone, Copy)]
 struct Found<'a> {
     answers: &'a PlainAnswers<'a>,
@@ -86,8 +87,8 @@ fn has_fault(
     }
 }
 
-/// The first parameter of a module whose value has that fault. One to which no NED text gives a value goes before those that may
-/// refer to it.
+/// The first parameter of a module whose value has that fault. One to which no NED text gives a
+/// value goes before those that may refer to it.
 fn blamed<'a>(
     alloc: Global,
     it: &Found<'a>,
@@ -128,7 +129,8 @@ fn is_given_in_ini(alloc: Global, it: &Found<'_>, name: &[u8]) -> Result<bool, N
     Ok(matches!(entry, Some(EntryValue::Given(_))))
 }
 
-/// The value that a NED file gives a parameter of that name of a module, where no entry of the ini text goes before it.
+/// The value that a NED file gives a parameter of that name of a module, where no entry of the ini
+/// text goes before it.
 fn given_in_ned<'a>(
     alloc: Global,
     it: &Found<'a>,
@@ -162,7 +164,8 @@ fn say_path(told: &mut Explanation, it: Faulty<'_>) {
     told.say_front(it.declaration.name.as_bytes());
 }
 
-/// Says that something is so of the value of a parameter, which an entry of the ini text gives where there is one.
+/// Says that something is so of the value of a parameter, which an entry of the ini text gives
+/// where there is one.
 fn say_of_value(
     told: &mut Explanation,
     before: &str,
@@ -214,7 +217,8 @@ fn say_mismatch(
     }
 }
 
-/// Says that a parameter has no value, though an entry of the ini text stands for the one in the NED file, or none does.
+/// Says that a parameter has no value, though an entry of the ini text stands for the one in the
+/// NED file, or none does.
 fn say_unassigned(told: &mut Explanation, it: Faulty<'_>, entry: Option<&Entry>) {
     told.say("'");
     say_path(told, it);
@@ -229,7 +233,8 @@ fn say_unassigned(told: &mut Explanation, it: Faulty<'_>, entry: Option<&Entry>)
     told.say(", or a default in the NED file");
 }
 
-/// Says what is wrong with the value of a parameter, which an entry of the ini text or that expression gives.
+/// Says what is wrong with the value of a parameter, which an entry of the ini text or that
+/// expression gives.
 fn tell_wrong(
     told: &mut Explanation,
     it: Faulty<'_>,
@@ -293,7 +298,8 @@ fn expression_in(entry: &Entry) -> Option<&Expression> {
     }
 }
 
-/// Says what is wrong with the value of a parameter that no NED file gives: with that of an entry of the ini text, where there is one, and its line.
+/// Says what is wrong with the value of a parameter that no NED file gives: with that of an entry
+/// of the ini text, where there is one, and its line.
 fn tell_wrong_in_ini(
     told: &mut Explanation,
     sources: &Sources<'_>,
@@ -317,7 +323,8 @@ fn tell_wrong_in_ini(
     Ok(())
 }
 
-/// Says where the type of that name, or what it extends, gives a parameter its value: `path:line: `.
+/// Says where the type of that name, or what it extends, gives a parameter its value: `path:line:
+/// `.
 fn tell_given(told: &mut Explanation, sources: &Sources<'_>, name: &[u8], of: Parameter<'_>) {
     match read_types(told.alloc(), sources) {
         Ok(types) => {
@@ -348,7 +355,8 @@ fn tell_place(told: &mut Explanation, sources: &Sources<'_>, it: &Found<'_>, nam
     }
 }
 
-/// Says what is wrong with a parameter, which a NED file gives its value by that expression where there is one.
+/// Says what is wrong with a parameter, which a NED file gives its value by that expression where
+/// there is one.
 fn tell_faulty(
     told: &mut Explanation,
     sources: &Sources<'_>,
@@ -413,7 +421,8 @@ fn tell_declared(told: &mut Explanation, of: &TypeDeclaration) {
     tell_parameters(told, of);
 }
 
-/// Says that a simple module reads a gate that its type doesn't declare, or sends through one by which nothing leaves.
+/// Says that a simple module reads a gate that its type doesn't declare, or sends through one by
+/// which nothing leaves.
 fn tell_gates(told: &mut Explanation, of: &TypeDeclaration) {
     told.say("the class ");
     told.say_name(class_of(of));
@@ -479,7 +488,8 @@ fn tell_call(
     }
 }
 
-/// Says what led to a fault of a simple module, where it is one of its calls. Answers whether it is.
+/// Says what led to a fault of a simple module, where it is one of its calls. Answers whether it
+/// is.
 fn tell_of_call(
     told: &mut Explanation,
     fault: ToldFault<'_>,
@@ -579,8 +589,9 @@ fn tell_run(
     }
 }
 
-/// What led to the fault that ended a run, which is reported with that path, and what to change: a diagnostic. Empty where there is no more
-/// to say. `classes` are those that the program has modules of.
+/// What led to the fault that ended a run, which is reported with that path, and what to change: a
+/// diagnostic. Empty where there is no more to say. `classes` are those that the program has
+/// modules of.
 pub fn fault_line(
     alloc: Global,
     path: &[u8],

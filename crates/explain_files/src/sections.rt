@@ -31,7 +31,8 @@ fn empty_lists<'a>(alloc: Global, count: usize) -> Result<Vec<Vec<Numbered<'a>>>
     Ok(lists)
 }
 
-/// Adds the entry of the line of that number, where it is one, to those of the section in which it stands.
+/// Adds the entry of the line of that number, where it is one, to those of the section in which it
+/// stands.
 fn add_entry<'a>(
     sections: &mut Sections<'a>,
     section: Option<&[u8]>,

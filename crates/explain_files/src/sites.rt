@@ -50,7 +50,8 @@ struct Case<'a> {
     fault: Fault,
 }
 
-/// Says where the connection stands with which the fault comes, of the module of that type, and whether there is one.
+/// Says where the connection stands with which the fault comes, of the module of that type, and
+/// whether there is one.
 fn tell_item(told: &mut Explanation, it: Case<'_>, of: &TypeDeclaration) -> Result<bool, NoMemory> {
     let alloc = told.alloc();
     let order = order_of(alloc, it.files.types, of)?;
@@ -128,7 +129,8 @@ fn say_gate(told: &mut Explanation, of: &TypeDeclaration, gate: &Lacking) {
     told.say("'");
 }
 
-/// Says where a gate of the module itself is declared, of that type, or the submodule whose gate it is.
+/// Says where a gate of the module itself is declared, of that type, or the submodule whose gate it
+/// is.
 fn tell_gate_place(
     told: &mut Explanation,
     it: Case<'_>,
@@ -155,7 +157,8 @@ fn say_whose(told: &mut Explanation, gate: &Lacking) {
     }
 }
 
-/// Says which gate in the inside of the module of that type isn't connected, and whether there is one.
+/// Says which gate in the inside of the module of that type isn't connected, and whether there is
+/// one.
 fn tell_unconnected(
     told: &mut Explanation,
     it: Case<'_>,
@@ -175,7 +178,8 @@ fn tell_unconnected(
     Ok(true)
 }
 
-/// The name in the first of these lines that gives a size to what is no gate vector of a type with these gates.
+/// The name in the first of these lines that gives a size to what is no gate vector of a type with
+/// these gates.
 fn misplaced_in<'a>(
     alloc: Global,
     of: &TypeDeclaration,
@@ -195,7 +199,8 @@ fn say_misplaced(told: &mut Explanation, path: &str, of: &TypeDeclaration, name:
     told.say(": leave the size out, or declare the gate with '[]'");
 }
 
-/// Says where the body of a submodule of that type gives a size to what is no gate vector, and whether it does.
+/// Says where the body of a submodule of that type gives a size to what is no gate vector, and
+/// whether it does.
 fn tell_misplaced_in_body(
     told: &mut Explanation,
     it: Case<'_>,
@@ -214,7 +219,8 @@ fn tell_misplaced_in_body(
     Ok(true)
 }
 
-/// Says where a size is given to what is no gate vector of the module of that type, and whether one is.
+/// Says where a size is given to what is no gate vector of the module of that type, and whether one
+/// is.
 fn tell_misplaced_of(
     told: &mut Explanation,
     it: Case<'_>,
@@ -246,7 +252,8 @@ fn is_open(declared: Declared<'_>) -> bool {
     }
 }
 
-/// Says which entry of the ini text chooses the type of the submodule of the fault's path, where one does.
+/// Says which entry of the ini text chooses the type of the submodule of the fault's path, where
+/// one does.
 fn tell_choice(told: &mut Explanation, it: Case<'_>) -> Result<(), NoMemory> {
     let alloc = told.alloc();
     let path = path_under(alloc, it.told.path.as_bytes(), b"typename")?;
@@ -262,7 +269,8 @@ fn tell_choice(told: &mut Explanation, it: Case<'_>) -> Result<(), NoMemory> {
     Ok(())
 }
 
-/// Says what is wrong with the inside of a compound module, or with a submodule of one: `path:line: `, the module, and what would be right.
+/// Says what is wrong with the inside of a compound module, or with a submodule of one: `path:line:
+/// `, the module, and what would be right.
 fn tell_case(
     told: &mut Explanation,
     it: Case<'_>,
@@ -282,7 +290,8 @@ fn tell_case(
     }
 }
 
-/// Says where a size is given to what is no gate vector of the module of a fault's path, which has that type, and whether one is.
+/// Says where a size is given to what is no gate vector of the module of a fault's path, which has
+/// that type, and whether one is.
 pub fn tell_misplaced(
     told: &mut Explanation,
     sources: &Sources<'_>,
@@ -304,8 +313,8 @@ pub fn tell_misplaced(
     tell_misplaced_of(told, it, of)
 }
 
-/// Says what is wrong with the inside of the compound module of that type, or with the submodule of a fault's path. The type is none where the submodule
-/// has none.
+/// Says what is wrong with the inside of the compound module of that type, or with the submodule of
+/// a fault's path. The type is none where the submodule has none.
 pub fn tell_fault_inside(
     told: &mut Explanation,
     sources: &Sources<'_>,

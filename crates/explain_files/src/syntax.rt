@@ -12,15 +12,16 @@ use sim_values::NoMemory;
 use sqlite_items::Items;
 use std::alloc::Global;
 
-/// What a text can go on with, as it is written: words and marks, `1` for an expression, `+` for an operator and `x` for a name.
+/// What a text can go on with, as it is written: words and marks, `1` for an expression, `+` for an
+/// operator and `x` for a name.
 const GOES_ON: &str =
     "; } { = ( ) [ ] : , parameters gates types submodules connections allowunconnected simple module network channel moduleinterface channelinterface package import extends like if for input output inout bool int string double volatile default @ . .. < > --> <-- <--> ++ $i $o 1 + x";
 
 /// The recording modes, one of which is wanted after `record=`.
 const MODES: &str = "count sum min max last vector";
 
-/// How many tokens are left at the first with which no file goes on, where this stands after the tokens; none where they
-/// are a file with it.
+/// How many tokens are left at the first with which no file goes on, where this stands after the
+/// tokens; none where they are a file with it.
 fn left_behind(
     alloc: Global,
     tokens: &mut Items<Token>,
@@ -32,7 +33,8 @@ fn left_behind(
     Ok(left?)
 }
 
-/// What ends a text that goes on with anything: an import ends with `;`, a property's body with `)`.
+/// What ends a text that goes on with anything: an import ends with `;`, a property's body with
+/// `)`.
 fn end_of_any(alloc: Global, tokens: &mut Items<Token>) -> Result<&'static str, NoMemory> {
     match left_behind(alloc, tokens, ";")? {
         None => Ok(";"),
@@ -86,8 +88,9 @@ fn count_angles(found: &[&str]) -> usize {
     count
 }
 
-/// What is wanted after the tokens: what they can go on with, but where an expression is wanted not what it begins with, where
-/// an operator is wanted no comparison, where anything may stand only what ends that, and where nothing of all that may stand a recording mode.
+/// What is wanted after the tokens: what they can go on with, but where an expression is wanted not
+/// what it begins with, where an operator is wanted no comparison, where anything may stand only
+/// what ends that, and where nothing of all that may stand a recording mode.
 fn wanted(alloc: Global, tokens: &mut Items<Token>) -> Result<Vec<&'static str>, NoMemory> {
     let mut found = found_behind(alloc, tokens, GOES_ON)?;
     if found.is_empty() {
@@ -149,7 +152,8 @@ fn cut(tokens: &mut Items<Token>, left: usize) {
     }
 }
 
-/// Says what is wrong with tokens that are no NED, of which so many are left at the first that can't go on.
+/// Says what is wrong with tokens that are no NED, of which so many are left at the first that
+/// can't go on.
 fn tell_tokens(told: &mut Explanation, tokens: &mut Items<Token>, left: usize) {
     let before = tokens.len().saturating_sub(left);
     tell_blamed(told, tokens.get(before));
@@ -171,8 +175,9 @@ fn wants(told: &mut Explanation, tokens: &mut Items<Token>, written: &'static st
     }
 }
 
-/// Whether something of OMNeT++'s own is in place: a unit or a pattern where the tokens can go on with a property, a value in braces where they can with a value, and one for a
-/// path where they can with that of a parameter.
+/// Whether something of OMNeT++'s own is in place: a unit or a pattern where the tokens can go on
+/// with a property, a value in braces where they can with a value, and one for a path where they
+/// can with that of a parameter.
 fn wants_own(
     told: &mut Explanation,
     tokens: &mut Items<Token>,
@@ -246,8 +251,8 @@ fn parts_at_end(tokens: &[Token]) -> usize {
 /// How deep an expression is nested at most.
 const MOST_DEEP: usize = 64;
 
-/// Whether it may be that tokens can't go on, of which so many are left, as an expression would be nested too deep: an operator or a parenthesis stands there, after
-/// as many others.
+/// Whether it may be that tokens can't go on, of which so many are left, as an expression would be
+/// nested too deep: an operator or a parenthesis stands there, after as many others.
 fn may_be_deep(tokens: &[Token], left: usize) -> bool {
     let place = tokens.len().saturating_sub(left);
     let (Some(before), Some(blamed)) = (tokens.get(..place), tokens.get(place)) else {
@@ -263,7 +268,8 @@ fn tell_deep(told: &mut Explanation) {
     told.say(" deep: give a part of it to a parameter of its own, or write its value");
 }
 
-/// Says what of a line is OMNeT++'s own, where it is in place after the tokens; or else that an expression is nested too deep, where that may be.
+/// Says what of a line is OMNeT++'s own, where it is in place after the tokens; or else that an
+/// expression is nested too deep, where that may be.
 fn tell_why(
     told: &mut Explanation,
     tokens: &mut Items<Token>,
@@ -277,7 +283,8 @@ fn tell_why(
     }
 }
 
-/// Says what is wrong with tokens that are no NED, of which so many are left at the first that can't go on, and what of the line on which they stop is OMNeT++'s own.
+/// Says what is wrong with tokens that are no NED, of which so many are left at the first that
+/// can't go on, and what of the line on which they stop is OMNeT++'s own.
 fn tell_stopped(told: &mut Explanation, tokens: &mut Items<Token>, left: usize, line: &[u8]) {
     let own = own_of(told.alloc(), tokens.as_slice(), left, line);
     let is_deep = may_be_deep(tokens.as_slice(), left);
@@ -285,7 +292,8 @@ fn tell_stopped(told: &mut Explanation, tokens: &mut Items<Token>, left: usize, 
     tell_why(told, tokens, own, line, is_deep);
 }
 
-/// Says what is wrong with tokens that are no NED, and what of the line on which they stop is OMNeT++'s own.
+/// Says what is wrong with tokens that are no NED, and what of the line on which they stop is
+/// OMNeT++'s own.
 fn tell_list(told: &mut Explanation, tokens: &mut Items<Token>, line: &[u8]) {
     match tokens_left(told.alloc(), tokens.as_slice()) {
         Ok(left) => tell_stopped(told, tokens, left.unwrap_or(0), line),
@@ -320,7 +328,8 @@ pub fn tell_depth_of_value(told: &mut Explanation, value: &[u8]) {
     }
 }
 
-/// Says what is wrong with a text that is no NED, and what could stand there. It can't go on at the line of that number.
+/// Says what is wrong with a text that is no NED, and what could stand there. It can't go on at the
+/// line of that number.
 pub fn tell_syntax(told: &mut Explanation, text: &[u8], number: usize) {
     if has_mark(text) {
         return tell_mark(told);
@@ -348,7 +357,8 @@ fn count_of(text: &[u8], wanted: u8) -> usize {
     count
 }
 
-/// What is wanted after the tokens of a connection, which the brace that ends the connections of its module is not.
+/// What is wanted after the tokens of a connection, which the brace that ends the connections of
+/// its module is not.
 fn wanted_of_connection(
     alloc: Global,
     tokens: &mut Items<Token>,
@@ -361,7 +371,8 @@ fn wanted_of_connection(
     Ok(found)
 }
 
-/// Says what is wrong with the text of a connection, of these tokens, and what of it is OMNeT++'s own.
+/// Says what is wrong with the text of a connection, of these tokens, and what of it is OMNeT++'s
+/// own.
 fn tell_tokens_of_connection(
     told: &mut Explanation,
     text: &[u8],
@@ -381,7 +392,8 @@ fn tell_tokens_of_connection(
     Ok(())
 }
 
-/// Says what is wrong with a text that is neither a connection nor a group of connections, and what could stand there.
+/// Says what is wrong with a text that is neither a connection nor a group of connections, and what
+/// could stand there.
 pub fn tell_connection(told: &mut Explanation, text: &[u8]) {
     if count_of(text, b'}') > count_of(text, b'{') {
         return told.say("a '}' closes nothing");

@@ -55,7 +55,8 @@ const MOST_PLACES: usize = 16;
 struct Seen {
     /// Of how many fixed values the line in the NED file may still be looked for.
     places: usize,
-    /// For each parameter the line of the first entry of the section that is for it, 0 where there is none.
+    /// For each parameter the line of the first entry of the section that is for it, 0 where there
+    /// is none.
     parameters: Vec<usize>,
     /// The same for each name of each statistic.
     statistics: Vec<usize>,
@@ -136,7 +137,8 @@ const PARAMETER_HIDDEN: &str =
 const STATISTIC_HIDDEN: &str =
     "each statistic that it matches gets the option from an entry before it in the same section, as '";
 
-/// Says that an entry has no effect, as entries before it in its section are for all that it matches: for that of the path the entry of line `first` is first.
+/// Says that an entry has no effect, as entries before it in its section are for all that it
+/// matches: for that of the path the entry of line `first` is first.
 fn tell_hidden(
     told: &mut Explanation,
     sources: &Sources<'_>,
@@ -208,7 +210,8 @@ fn tell_object(
     tell_statistic(told, it, entry, seen);
 }
 
-/// Says where a type gives a parameter a value, or what it extends: `path:line`. Answers whether it does.
+/// Says where a type gives a parameter a value, or what it extends: `path:line`. Answers whether it
+/// does.
 fn tell_value_of(
     told: &mut Explanation,
     it: Case<'_>,
@@ -222,7 +225,8 @@ fn tell_value_of(
     tell_line_of_value(told, &files, of.name.as_bytes(), parameter)
 }
 
-/// A submodule as the files declare it, and the type in which it is, which may extend the one that declares it.
+/// A submodule as the files declare it, and the type in which it is, which may extend the one that
+/// declares it.
 #[derive(Clone, Copy)]
 struct Site<'a> {
     around: &'a TypeDeclaration,
@@ -240,7 +244,8 @@ pub(crate) fn type_within<'a>(
     }
 }
 
-/// Says where the type of a submodule, or its body, gives the parameter of that name a value: `path:line`. Answers whether one does.
+/// Says where the type of a submodule, or its body, gives the parameter of that name a value:
+/// `path:line`. Answers whether one does.
 fn tell_value_within(told: &mut Explanation, it: Case<'_>, site: Site<'_>, name: &[u8]) -> bool {
     if last_value(name, site.submodule.body.lines.as_slice()).is_some() {
         let parameter = Parameter {
@@ -300,7 +305,8 @@ fn site_below<'a>(
     }
 }
 
-/// The declaration of the module of that path, where it is below the network and no module around it leaves its type open.
+/// The declaration of the module of that path, where it is below the network and no module around
+/// it leaves its type open.
 fn site_at<'a>(alloc: Global, it: Case<'a>, path: &str) -> Result<Option<Site<'a>>, NoMemory> {
     let mut found = None;
     let mut below = false;
@@ -316,7 +322,8 @@ fn site_at<'a>(alloc: Global, it: Case<'a>, path: &str) -> Result<Option<Site<'a
     Ok(found)
 }
 
-/// Says where a NED file gives the parameter of that path a value: `path:line`. Answers whether one is known that does.
+/// Says where a NED file gives the parameter of that path a value: `path:line`. Answers whether one
+/// is known that does.
 fn tell_value_at(told: &mut Explanation, it: Case<'_>, path: &[u8]) -> Result<bool, NoMemory> {
     let name = last_name(path);
     let around = before_last(path).unwrap_or(b"".as_slice());
@@ -343,7 +350,8 @@ fn declares_fixed(lines: &[SectionLine], name: &[u8]) -> bool {
     false
 }
 
-/// Says where a type declares the parameter of that name with a fixed value: `path:line`. Answers whether one does.
+/// Says where a type declares the parameter of that name with a fixed value: `path:line`. Answers
+/// whether one does.
 fn tell_value_named(told: &mut Explanation, it: Case<'_>, name: &[u8]) -> bool {
     for of in it.types {
         if declares_fixed(of.lines.as_slice(), name) {
@@ -357,7 +365,8 @@ fn tell_value_named(told: &mut Explanation, it: Case<'_>, name: &[u8]) -> bool {
     false
 }
 
-/// Says where a NED file gives the parameter of that path or name a fixed value: `path:line`. Answers whether it is known.
+/// Says where a NED file gives the parameter of that path or name a fixed value: `path:line`.
+/// Answers whether it is known.
 fn tell_fixed_place(told: &mut Explanation, it: Case<'_>, path: &str) -> bool {
     if !it.paths.exact {
         return tell_value_named(told, it, path.as_bytes());
@@ -371,7 +380,8 @@ fn tell_fixed_place(told: &mut Explanation, it: Case<'_>, path: &str) -> bool {
     }
 }
 
-/// Says that an entry has no effect as the NED files give the parameter of that path or name a fixed value; and where, for the first few such entries.
+/// Says that an entry has no effect as the NED files give the parameter of that path or name a
+/// fixed value; and where, for the first few such entries.
 fn tell_fixed(
     told: &mut Explanation,
     it: Case<'_>,
@@ -469,7 +479,8 @@ fn widest_key(alloc: Global, key: &[u8]) -> Result<Vec<u8>, NoMemory> {
     Ok(wide)
 }
 
-/// Whether an entry is for parameters, types or statistics by a pattern, and not an option of the run.
+/// Whether an entry is for parameters, types or statistics by a pattern, and not an option of the
+/// run.
 fn has_pattern(entry: &Entry) -> bool {
     matches!(
         entry.meaning,
@@ -477,7 +488,8 @@ fn has_pattern(entry: &Entry) -> bool {
     )
 }
 
-/// The line of the first entry with the key that is for everything of the last name of an entry's, where it has a pattern.
+/// The line of the first entry with the key that is for everything of the last name of an entry's,
+/// where it has a pattern.
 fn line_of_wider(
     alloc: Global,
     lines: &FirstLines<'_>,
@@ -490,7 +502,8 @@ fn line_of_wider(
     Ok(lines.get(wide.as_slice()).copied())
 }
 
-/// The entry of a section before this one that takes its effect. Where there is none this one is noted. One of an option without effect is not noted.
+/// The entry of a section before this one that takes its effect. Where there is none this one is
+/// noted. One of an option without effect is not noted.
 fn entry_before<'a>(
     alloc: Global,
     lines: &mut FirstLines<'a>,
@@ -530,7 +543,8 @@ fn tell_earlier(told: &mut Explanation, sources: &Sources<'_>, it: Numbered<'_>,
     }
 }
 
-/// Says a line for each of the entries of a section that has no effect. Where the names are too many, only for those whose effect an earlier one takes.
+/// Says a line for each of the entries of a section that has no effect. Where the names are too
+/// many, only for those whose effect an earlier one takes.
 fn tell_section(
     told: &mut Explanation,
     it: Case<'_>,
@@ -585,7 +599,8 @@ fn tell_sections(
     }
 }
 
-/// Says a line for each entry of a chain that has no effect; where the names are too many for the lines, only for those whose effect an earlier one takes.
+/// Says a line for each entry of a chain that has no effect; where the names are too many for the
+/// lines, only for those whose effect an earlier one takes.
 fn tell_chain(told: &mut Explanation, it: Case<'_>, lines: &[IniLine], chain: &[Text]) {
     let looks = it.paths.count.saturating_mul(lines.len()) <= MOST_TRIES;
     match sections_of(told.alloc(), lines) {
@@ -603,7 +618,8 @@ fn selected<'a>(
     type_named(types, last_name(network_entry(lines, chain)?))
 }
 
-/// What keys can be for in the network that the configuration selects, of an ini text of so many lines.
+/// What keys can be for in the network that the configuration selects, of an ini text of so many
+/// lines.
 fn paths_for(
     alloc: Global,
     sources: &Sources<'_>,
@@ -633,7 +649,8 @@ fn tell_network(
     }
 }
 
-/// Says a line for each entry without effect of a chain, which selects that network, by the paths in the network.
+/// Says a line for each entry without effect of a chain, which selects that network, by the paths
+/// in the network.
 fn tell_by_paths(
     told: &mut Explanation,
     sources: &Sources<'_>,
@@ -685,10 +702,13 @@ fn tell_text(told: &mut Explanation, sources: &Sources<'_>, text: &IniText) {
     }
 }
 
-/// Diagnostics on the entries of the configuration that have no effect at all: unknown options; keys that no parameter or statistic of the network has, or
-/// only parameters with a fixed value; and entries of which earlier ones of the same section take the effect: as one has the same key, or `**.` and the same
-/// last name, or as for each parameter that the entry matches one comes first. Where the network can't be built, or has more than 10,000 modules or
-/// very many parameters and lines, those whose last name no type declares, or each only with a fixed value. The files make a model.
+/// Diagnostics on the entries of the configuration that have no effect at all: unknown options;
+/// keys that no parameter or statistic of the network has, or only parameters with a fixed value;
+/// and entries of which earlier ones of the same section take the effect: as one has the same key,
+/// or `**.` and the same last name, or as for each parameter that the entry matches one comes
+/// first. Where the network can't be built, or has more than 10,000 modules or very many parameters
+/// and lines, those whose last name no type declares, or each only with a fixed value. The files
+/// make a model.
 pub fn warning_lines(alloc: Global, sources: &Sources<'_>) -> Result<String, NoMemory> {
     let mut told = Explanation::new(alloc);
     match lines_of(alloc, sources) {

@@ -49,7 +49,8 @@ struct Step<'a> {
     done: usize,
 }
 
-/// A way along types, each of which extends the next, and those that are done, each after all that it extends.
+/// A way along types, each of which extends the next, and those that are done, each after all that
+/// it extends.
 #[derive(Drop)]
 struct Way<'a, 'n> {
     types: &'a [TypeDeclaration],
@@ -75,7 +76,8 @@ fn go_to(way: &mut Way<'_, '_>, name: &[u8]) -> Result<(), AllocError> {
     Ok(())
 }
 
-/// Goes on from the last type on the way, to the next that it extends, or back where there is none. Answers whether there was a last one.
+/// Goes on from the last type on the way, to the next that it extends, or back where there is none.
+/// Answers whether there was a last one.
 fn go_on(way: &mut Way<'_, '_>) -> Result<bool, AllocError> {
     let Some(last) = way.steps.pop() else {
         return Ok(false);

@@ -100,7 +100,8 @@ fn begin(told: &mut Explanation, files: &Files<'_>, site: Site<'_>) {
     begin_behind(told, files, site.it, site.arrows);
 }
 
-/// Says where the item of that number of the flat type of the last of these types stands, which are all that it extends, the root first: `path:line: `.
+/// Says where the item of that number of the flat type of the last of these types stands, which are
+/// all that it extends, the root first: `path:line: `.
 pub fn tell_place_of_item(
     told: &mut Explanation,
     files: &Files<'_>,
@@ -262,7 +263,8 @@ fn tell_words(
     }
 }
 
-/// Says what is wrong with the line of that number in the block of a channel of that type, which is the last of these, or a built-in one.
+/// Says what is wrong with the line of that number in the block of a channel of that type, which is
+/// the last of these, or a built-in one.
 fn tell_line(
     told: &mut Explanation,
     files: &Files<'_>,
@@ -289,7 +291,8 @@ fn tell_line(
     tell_words(told, clash, order, of, name_in(line));
 }
 
-/// Says what is wrong with the line of the last number in the block of the channel of a connection, of the flat type of the last of these types.
+/// Says what is wrong with the line of the last number in the block of the channel of a connection,
+/// of the flat type of the last of these types.
 pub fn tell_block(
     told: &mut Explanation,
     files: &Files<'_>,

@@ -8,8 +8,8 @@ use std::fmt::Write;
 /// How many names of a list are said, at most.
 const MOST_LISTED: usize = 100;
 
-/// What is said to a person so far. A call that says more never fails: where memory runs out, `said` answers that, and
-/// nothing of the text.
+/// What is said to a person so far. A call that says more never fails: where memory runs out,
+/// `said` answers that, and nothing of the text.
 #[derive(Drop)]
 pub struct Explanation {
     text: String,
@@ -73,7 +73,8 @@ impl Explanation {
         self.say_number(line);
     }
 
-    /// Says names, with commas between them, and how many more there are than are said; `none` where there are none.
+    /// Says names, with commas between them, and how many more there are than are said; `none`
+    /// where there are none.
     pub fn say_list(&mut self, names: &[&[u8]]) {
         if names.is_empty() {
             self.say("none");

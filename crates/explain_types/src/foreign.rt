@@ -209,7 +209,8 @@ fn exponent_length(bytes: &[u8]) -> usize {
     before.saturating_add(name_length(behind(bytes, before)))
 }
 
-/// How long the number at the front is: digits after `0x`, or an amount with a unit, an exponent or neither.
+/// How long the number at the front is: digits after `0x`, or an amount with a unit, an exponent or
+/// neither.
 fn number_length(bytes: &[u8]) -> usize {
     if is_hexadecimal(bytes) {
         return name_length(bytes);
@@ -227,7 +228,8 @@ fn is_quantity(number: &[u8]) -> bool {
     !is_hexadecimal(number) && digits_length(number) < number.len()
 }
 
-/// How long the number at the front is, or the quantities, which may stand in a row with blanks between them.
+/// How long the number at the front is, or the quantities, which may stand in a row with blanks
+/// between them.
 fn row_length(bytes: &[u8]) -> usize {
     let mut length = number_length(bytes);
     if !is_quantity(front(bytes, length)) {
@@ -258,7 +260,8 @@ fn unit_in(number: &[u8]) -> &[u8] {
     behind(number, amount_length(number))
 }
 
-/// Whether the digits after the point of a number make a whole number of ps, bps or b with its unit.
+/// Whether the digits after the point of a number make a whole number of ps, bps or b with its
+/// unit.
 fn is_whole_behind_point(alloc: Global, number: &[u8]) -> Result<bool, NoMemory> {
     let mut part = Vec::from_slice(alloc, b"0".as_slice())?;
     part.extend_from_slice(behind(number, digits_length(number)))?;
@@ -380,7 +383,8 @@ fn tell_numbers(told: &mut Explanation, row: &[u8]) {
     }
 }
 
-/// Says what is foreign at the front of an expression, which begins with a digit or a letter. Answers how many bytes that is, and whether it was said.
+/// Says what is foreign at the front of an expression, which begins with a digit or a letter.
+/// Answers how many bytes that is, and whether it was said.
 fn tell_front(told: &mut Explanation, text: &[u8]) -> (usize, bool) {
     if !begins_number(text) {
         let length = name_length(text);
@@ -413,7 +417,8 @@ fn quoted_length(text: &[u8]) -> usize {
     count
 }
 
-/// Says the first thing in an expression that is OMNeT++'s own, with what to write instead, or the first number in it that is not read, and why. Answers whether there is one.
+/// Says the first thing in an expression that is OMNeT++'s own, with what to write instead, or the
+/// first number in it that is not read, and why. Answers whether there is one.
 pub fn tell_foreign(told: &mut Explanation, expression: &[u8]) -> bool {
     let mut rest = expression;
     for _byte in 0..expression.len() {

@@ -92,7 +92,8 @@ fn tell_lacking(
     files.tell_place(told, interface, Spot::first(lacking.sign, lacking.name));
 }
 
-/// Says that a type lacks the member of that number of the flat type of an interface, the last of these.
+/// Says that a type lacks the member of that number of the flat type of an interface, the last of
+/// these.
 fn tell_member(
     told: &mut Explanation,
     files: &Files<'_>,
@@ -115,7 +116,8 @@ fn interface_at<'a>(files: &Files<'a>, origin: Origin<'_, '_>) -> Option<&'a Typ
     type_named(files.types, name.as_bytes())
 }
 
-/// Says that the flat type of the last of these types lacks the member of the second number of the interface of the first.
+/// Says that the flat type of the last of these types lacks the member of the second number of the
+/// interface of the first.
 pub fn tell_lacked(
     told: &mut Explanation,
     files: &Files<'_>,

@@ -1,4 +1,5 @@
-//! What is wrong with a text among the files of a run, and what would be right, in words for a person.
+//! What is wrong with a text among the files of a run, and what would be right, in words for a
+//! person.
 //!
 //! Everything here looks at the texts once more, after they were refused. It decides nothing.
 #![tactic(auto)]

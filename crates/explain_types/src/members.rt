@@ -62,7 +62,8 @@ fn declared_in<'a>(types: &[&'a TypeDeclaration], name: &[u8]) -> Option<&'a Typ
     None
 }
 
-/// That the parameter has a fixed value in the last of the types that gives it one, or else before in the section itself.
+/// That the parameter has a fixed value in the last of the types that gives it one, or else before
+/// in the section itself.
 pub fn fixed_in<'a>(types: &[&'a TypeDeclaration], name: &[u8]) -> Clash<'a> {
     for it in types.iter().rev() {
         if is_fixed(it.lines.as_slice(), name) {
@@ -166,7 +167,8 @@ fn tell_declared(
     }
 }
 
-/// Says that the line of that number declares a parameter a second time, of the flat type of the last of these types.
+/// Says that the line of that number declares a parameter a second time, of the flat type of the
+/// last of these types.
 pub fn tell_declared_again(
     told: &mut Explanation,
     files: &Files<'_>,
@@ -189,7 +191,8 @@ pub fn tell_declared_again(
     }
 }
 
-/// Says that the line of that number gives a value to a parameter that isn't declared, of the flat type of the last of these types.
+/// Says that the line of that number gives a value to a parameter that isn't declared, of the flat
+/// type of the last of these types.
 pub fn tell_undeclared(
     told: &mut Explanation,
     files: &Files<'_>,
@@ -201,7 +204,8 @@ pub fn tell_undeclared(
     }
 }
 
-/// Says that the line of that number gives a value to a parameter with a fixed one, of the flat type of the last of these types.
+/// Says that the line of that number gives a value to a parameter with a fixed one, of the flat
+/// type of the last of these types.
 pub fn tell_given_again(
     told: &mut Explanation,
     files: &Files<'_>,
@@ -263,7 +267,8 @@ fn tell_body_words(
     }
 }
 
-/// What is wrong with a line of the body of a submodule, over the lines of its type, the last of these.
+/// What is wrong with a line of the body of a submodule, over the lines of its type, the last of
+/// these.
 pub fn clash_over<'a>(order: &[&'a TypeDeclaration], line: &SectionLine) -> Clash<'a> {
     let name = name_in(line);
     match declared_in(order, name) {
@@ -274,7 +279,8 @@ pub fn clash_over<'a>(order: &[&'a TypeDeclaration], line: &SectionLine) -> Clas
     }
 }
 
-/// Says what is wrong with the line of that number in the body of a submodule, whose type is the last of these.
+/// Says what is wrong with the line of that number in the body of a submodule, whose type is the
+/// last of these.
 fn tell_body_line(
     told: &mut Explanation,
     files: &Files<'_>,
@@ -304,8 +310,9 @@ fn tell_body_line(
     tell_body_words(told, clash, order, type_name(submodule), name);
 }
 
-/// Says what is wrong with the line of the second number in the body of the submodule of the first, of the flat type of the last of these types:
-/// that the body gives a parameter with a fixed value another, or that it can't stand over the lines of the submodule's type.
+/// Says what is wrong with the line of the second number in the body of the submodule of the first,
+/// of the flat type of the last of these types: that the body gives a parameter with a fixed value
+/// another, or that it can't stand over the lines of the submodule's type.
 pub fn tell_body(
     told: &mut Explanation,
     files: &Files<'_>,
@@ -337,7 +344,8 @@ pub fn tell_body(
     }
 }
 
-/// Says that the line of the second number declares a gate in the body of the submodule of the first, of the flat type of the last of these types.
+/// Says that the line of the second number declares a gate in the body of the submodule of the
+/// first, of the flat type of the last of these types.
 pub fn tell_body_gate(
     told: &mut Explanation,
     files: &Files<'_>,

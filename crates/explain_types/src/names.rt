@@ -24,7 +24,8 @@ fn goes_on_at(bytes: &[u8], at: usize) -> bool {
     }
 }
 
-/// Where the last of the characters ends that are shown of a longer text: a character has at most four bytes.
+/// Where the last of the characters ends that are shown of a longer text: a character has at most
+/// four bytes.
 fn end_of_shown(bytes: &[u8]) -> usize
     ensures { result ≤ 200 }
 {

@@ -34,7 +34,8 @@ pub fn place_of(types: &[TypeDeclaration], name: &[u8]) -> Option<usize> {
     None
 }
 
-/// Whether a text may write the name of that type anywhere: it is of that kind, and within no other.
+/// Whether a text may write the name of that type anywhere: it is of that kind, and within no
+/// other.
 pub fn is_anywhere(it: &TypeDeclaration, kind: TypeKind) -> bool {
     it.kind == kind && !is_inner(it.name.as_bytes())
 }

@@ -52,7 +52,8 @@ fn counts(it: &TypeDeclaration, kind: Kind) -> (usize, usize) {
     }
 }
 
-/// How many lines a flat type has before those of its bases: a simple type that extends another has one for its class.
+/// How many lines a flat type has before those of its bases: a simple type that extends another has
+/// one for its class.
 fn class_lines(order: &[&TypeDeclaration], kind: Kind) -> usize {
     match (kind, order.last()) {
         (Kind::Line, Some(it)) if it.kind == TypeKind::Simple && it.base.is_some() => 1,
@@ -60,7 +61,8 @@ fn class_lines(order: &[&TypeDeclaration], kind: Kind) -> usize {
     }
 }
 
-/// Where the member of that number is declared, of the flat type of the last of these, which are all that it extends, the root first.
+/// Where the member of that number is declared, of the flat type of the last of these, which are
+/// all that it extends, the root first.
 pub fn origin_of<'o, 'a>(
     order: &'o [&'a TypeDeclaration],
     kind: Kind,
@@ -99,7 +101,8 @@ pub fn has_parameter(channel: &[u8], name: &[u8]) -> bool {
     spells(channel, b"DelayChannel") && is_of_delay(name)
 }
 
-/// The built-in channel that declares the parameter for types that extend the first of these, where there is one.
+/// The built-in channel that declares the parameter for types that extend the first of these, where
+/// there is one.
 pub fn declaring_channel<'a>(order: &[&'a TypeDeclaration], name: &[u8]) -> Option<&'a [u8]> {
     let channel = order.first()?.base.as_ref()?.as_bytes();
     if has_parameter(channel, name) {

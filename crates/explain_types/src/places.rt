@@ -11,7 +11,8 @@ use std::alloc::Global;
 pub enum Sign {
     /// The word that begins the type.
     Type,
-    /// `NAME :` or `NAME [..] :`, a submodule of the type itself, after `submodules:`, another submodule or a body.
+    /// `NAME :` or `NAME [..] :`, a submodule of the type itself, after `submodules:`, another
+    /// submodule or a body.
     Submodule,
     /// `connections`, of the type itself.
     Connections,
@@ -130,7 +131,8 @@ fn begins_line(tokens: &[Token], at: usize) -> bool {
         || begins_section(tokens, at, Keyword::Parameters)
 }
 
-/// Whether a name at that place may be that of a submodule, and not one in an expression with a condition.
+/// Whether a name at that place may be that of a submodule, and not one in an expression with a
+/// condition.
 fn begins_submodule(tokens: &[Token], at: usize) -> bool {
     let before = token_before(tokens, at, 1);
     is_mark(before, Mark::Semi)
@@ -195,7 +197,8 @@ fn says(tokens: &[Token], at: usize, sign: Sign, name: &[u8]) -> bool {
     }
 }
 
-/// Whether what the sign speaks of stands directly within the type, and not in a type or a body within it.
+/// Whether what the sign speaks of stands directly within the type, and not in a type or a body
+/// within it.
 fn is_direct(sign: Sign) -> bool {
     matches!(sign, Sign::Submodule | Sign::Connections)
 }
@@ -211,8 +214,8 @@ fn braces_behind(open: u64, token: Option<&Token>) -> u64 {
     open
 }
 
-/// The first token, from that one on, where the sign says that of a name, after so many such places. For what stands directly within
-/// a type it is the token that begins the type.
+/// The first token, from that one on, where the sign says that of a name, after so many such
+/// places. For what stands directly within a type it is the token that begins the type.
 fn place_of(
     tokens: &[Token],
     from: usize,
@@ -234,7 +237,8 @@ fn place_of(
     None
 }
 
-/// The token within which a spot is looked for, of the type that begins at that token: the section of connections, a submodule, or none.
+/// The token within which a spot is looked for, of the type that begins at that token: the section
+/// of connections, a submodule, or none.
 fn scope_of(tokens: &[Token], head: usize, spot: Spot<'_>) -> Option<usize> {
     if matches!(spot.sign, Sign::Arrow) {
         return place_of(tokens, head, Sign::Connections, b"".as_slice(), 0);
@@ -245,7 +249,8 @@ fn scope_of(tokens: &[Token], head: usize, spot: Spot<'_>) -> Option<usize> {
     }
 }
 
-/// The token at a spot in the type that begins at that token; that, the submodule's or `connections` where there is none.
+/// The token at a spot in the type that begins at that token; that, the submodule's or
+/// `connections` where there is none.
 fn token_at(tokens: &[Token], head: usize, spot: Spot<'_>) -> usize {
     let (start, from) = match scope_of(tokens, head, spot) {
         Some(at) => (at, at.saturating_add(1)),
@@ -266,7 +271,8 @@ struct Place {
 }
 
 impl Place {
-    /// Whether a word that begins a type, a package or an import can be such a word there, and none of an import or a property.
+    /// Whether a word that begins a type, a package or an import can be such a word there, and none
+    /// of an import or a property.
     fn is_outside(self) -> bool {
         self.parens == 0 && !self.import && !self.property
     }
@@ -331,7 +337,8 @@ fn head_of(tokens: &[Token], number: usize) -> Result<usize, usize> {
     Err(count)
 }
 
-/// The line of a spot in the type of that number of a text, counted from 0, or else how many types the text has.
+/// The line of a spot in the type of that number of a text, counted from 0, or else how many types
+/// the text has.
 pub fn line_in(
     alloc: Global,
     text: &[u8],

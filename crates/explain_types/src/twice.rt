@@ -1,4 +1,5 @@
-//! Gates, submodules and parameters that are declared twice, in a type and in those that it extends.
+//! Gates, submodules and parameters that are declared twice, in a type and in those that it
+//! extends.
 
 use crate::bases::{has_named, root_first};
 use crate::explanation::Explanation;
@@ -81,7 +82,8 @@ fn declaring<'a>(types: &[&'a TypeDeclaration], member: Member<'_>) -> Option<&'
     None
 }
 
-/// Says where a type has the member for the first time, or after so many others of its name, and which member of which type that is.
+/// Says where a type has the member for the first time, or after so many others of its name, and
+/// which member of which type that is.
 fn begin(
     told: &mut Explanation,
     files: &Files<'_>,
@@ -131,7 +133,8 @@ pub fn tell_shared(
     told.say("; it can't extend both");
 }
 
-/// Says that a type declares the member a second time, after so many of its name, and that one the first time.
+/// Says that a type declares the member a second time, after so many of its name, and that one the
+/// first time.
 fn tell_second(
     told: &mut Explanation,
     files: &Files<'_>,
@@ -187,7 +190,8 @@ fn tell_extended(
     }
 }
 
-/// Says that the gate or the submodule of that number is declared a second time, of the flat type of the last of these types.
+/// Says that the gate or the submodule of that number is declared a second time, of the flat type
+/// of the last of these types.
 pub fn tell_twice(
     told: &mut Explanation,
     files: &Files<'_>,

@@ -18,7 +18,8 @@ use ned_inheritance::places::{Member, Place};
 use ned_inheritance::table::TypeFault;
 use ned_trees::declarations::TypeDeclaration;
 
-/// Says what is wrong with a name in the head of a type, or with the type of one of its submodules, where they have a fault of names.
+/// Says what is wrong with a name in the head of a type, or with the type of one of its submodules,
+/// where they have a fault of names.
 fn tell_name(
     told: &mut Explanation,
     files: &Files<'_>,

@@ -8,7 +8,8 @@ use ned_trees::declarations::{SectionLine, TypeDeclaration};
 use ned_types::flat::submodule_named;
 use ned_types::given::{name_in, value_in};
 
-/// After how many lines that speak of the parameter the last one stands that gives it a value, where one does.
+/// After how many lines that speak of the parameter the last one stands that gives it a value,
+/// where one does.
 fn behind_value(lines: &[SectionLine], name: &[u8]) -> Option<usize> {
     let mut behind = 0usize;
     let mut found = None;
@@ -51,7 +52,8 @@ fn spot_in<'a>(it: &TypeDeclaration, of: Parameter<'a>) -> Option<Spot<'a>> {
     })
 }
 
-/// Says where the first of the types that gives the parameter a value does: `path:line`. Answers whether one does.
+/// Says where the first of the types that gives the parameter a value does: `path:line`. Answers
+/// whether one does.
 fn tell_first(
     told: &mut Explanation,
     files: &Files<'_>,
@@ -67,7 +69,8 @@ fn tell_first(
     false
 }
 
-/// Says where the type of that name, or what it extends, gives a parameter its value: `path:line`. Answers whether one of them does.
+/// Says where the type of that name, or what it extends, gives a parameter its value: `path:line`.
+/// Answers whether one of them does.
 pub fn tell_line_of_value(
     told: &mut Explanation,
     files: &Files<'_>,
@@ -86,7 +89,8 @@ pub fn tell_line_of_value(
     }
 }
 
-/// Says where the type of that name, or what it extends, gives a parameter its value: `path:line: `.
+/// Says where the type of that name, or what it extends, gives a parameter its value: `path:line:
+/// `.
 pub fn tell_place_of_value(
     told: &mut Explanation,
     files: &Files<'_>,

@@ -1,4 +1,5 @@
--- A change of files leaves at most one list of files, and where it leaves one no refusal has a reason.
+-- A change of files leaves at most one list of files, and where it leaves one no refusal has a
+-- reason.
 use Rattle.std.proofs.Common.{◌≡◌, ℕ, ◌≤◌, ◌<◌, Bool, true, false, List, ◌∷◌, ◌++◌, length, drop, nat_lt, remove, slice_set, take, Option, Some, None, arith, refl, sym, ap, ◌∙◌, subst}
 use Rattle.std.proofs.lemmas.Bool.Decides.{nat_tests}
 use Rattle.sim_values.specs.Limits.{max_length}

@@ -32,19 +32,22 @@ is_large text = nat_lt max_length (length text)
 pub data Change : Type 0 where
   -- the file of this number, counted from 0, is what this text declares
   Replaced : (number : ℕ) (text : List ℕ) → Change
-  -- the item of connections that this text is stands at this place, counted from 0, among those of the module or network of that name
+  -- the item of connections that this text is stands at this place, counted from 0, among those of
+  -- the module or network of that name
   Inserted : (name : List ℕ) (place : ℕ) (text : List ℕ) → Change
   -- the item at this place is taken out
   Removed : (name : List ℕ) (place : ℕ) → Change
 
--- What the text declares stands instead of what the file of that number declared, and all other files are as they were.
+-- What the text declares stands instead of what the file of that number declared, and all other
+-- files are as they were.
 pub record IsReplaced (number : ℕ) (text : List ℕ) (old new : List NedFile) : Type 0 where
   pub there : number < length old
   pub declared : NedFile
   pub means : IsNedFile text declared
   pub rest : new ≡ slice_set old number declared
 
--- The item that the text is stands at that place among the items of the type, before the one that stood there, and all else is as it was.
+-- The item that the text is stands at that place among the items of the type, before the one that
+-- stood there, and all else is as it was.
 pub record IsInserted (name : List ℕ) (place : ℕ) (text : List ℕ) (old new : List NedFile) : Type 0 where
   pub items : List ConnectionItem
   pub own : items_of name old ≡ Some items

@@ -42,7 +42,8 @@ is_module_named name t = bytes_eq (declared_of t).name name && is_compound (decl
 abbrev pub declares : List ℕ → NedFile → Bool
 declares name f = list_any (is_module_named name) f.types
 
--- THE ITEMS of its own connections: those of the first module or network of that name that the files declare, not within another type
+-- THE ITEMS of its own connections: those of the first module or network of that name that the
+-- files declare, not within another type
 abbrev pub items_in_file : List ℕ → NedFile → Option (List ConnectionItem)
 items_in_file name f = option_map (λ t. (declared_of t).connections.items) (first_of (is_module_named name) f.types)
 

@@ -97,8 +97,8 @@ fn typed_with(
     }
 }
 
-/// The files, where the one of that number, counted from 0, is what this text declares, and the table of their types; or why there is
-/// none. The files that were there stay as they are.
+/// The files, where the one of that number, counted from 0, is what this text declares, and the
+/// table of their types; or why there is none. The files that were there stay as they are.
 pub fn with_file(
     alloc: Global,
     files: &[SharedFile],
@@ -168,7 +168,8 @@ fn removed(
     Ok(changed)
 }
 
-/// The files in which the type of that name has these items, where there are some, with the table of their types.
+/// The files in which the type of that name has these items, where there are some, with the table
+/// of their types.
 fn typed_by(
     alloc: Global,
     files: &[SharedFile],
@@ -254,8 +255,9 @@ pub fn with_connection(
     }
 }
 
-/// The files, where the item at that place of the connections of the module or network of that name is taken out, and the table of
-/// their types; or why there is none. The files that were there stay as they are.
+/// The files, where the item at that place of the connections of the module or network of that name
+/// is taken out, and the table of their types; or why there is none. The files that were there stay
+/// as they are.
 pub fn without_connection(
     alloc: Global,
     files: &[SharedFile],

@@ -8,7 +8,8 @@ use ned_inheritance::table::TypeFault;
 use sim_values::NoMemory;
 use std::alloc::AllocError;
 
-/// Why files are not changed. Of several reasons the first in this order is told, and lack of memory in any place.
+/// Why files are not changed. Of several reasons the first in this order is told, and lack of
+/// memory in any place.
 #[derive(Clone, Copy)]
 pub enum FileError {
     /// The text is longer than 1 MiB.
@@ -19,7 +20,8 @@ pub enum FileError {
     NoSuchType,
     /// It has no connection at that place, or no such place for one more.
     NoSuchConnection,
-    /// The line of the text's first byte that can't go on; at its end that of its last byte, 1 in an empty text.
+    /// The line of the text's first byte that can't go on; at its end that of its last byte, 1 in
+    /// an empty text.
     NedSyntax(usize),
     /// The types of the changed files make no model.
     Types(TypeFault),

@@ -71,7 +71,8 @@ fn items_in_file<'a>(file: &'a NedFile, name: &[u8]) -> Option<&'a [ConnectionIt
     Some(nested.declared.connections.items.as_slice())
 }
 
-/// The items of the connections of the first module or network of that name that the files declare, not within another type.
+/// The items of the connections of the first module or network of that name that the files declare,
+/// not within another type.
 pub(crate) fn items_of<'a>(files: &'a [SharedFile], name: &[u8]) -> Option<&'a [ConnectionItem]>
     ensures { option_copied result ≡ items_of name.now files.now }
 {
@@ -164,7 +165,8 @@ fn add_files(files: &mut Items<SharedFile>, more: &[SharedFile]) -> Result<(), A
     Ok(())
 }
 
-/// The files, in which the first module or network of that name has these items. All but its file are shared.
+/// The files, in which the first module or network of that name has these items. All but its file
+/// are shared.
 pub(crate) fn files_with(
     alloc: Global,
     files: &[SharedFile],

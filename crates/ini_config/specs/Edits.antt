@@ -43,8 +43,8 @@ pub record Edit : Type 0 where
   -- whether the line that it gives is broken: LF is in it.
   pub broken : Bool
 
--- The lines count from 1. Where there is no line of the number, nothing is taken out, and a given text stands at an end.
--- this text stands between lines, as the line of this number
+-- The lines count from 1. Where there is no line of the number, nothing is taken out, and a given
+-- text stands at an end. this text stands between lines, as the line of this number
 abbrev pub edit_with : List IniLine → Bytes → List IniLine → ℕ → Bool → Edit
 edit_with before text behind n found = record { lines = with_between before text behind; number = n; found = found; broken = holds_feed text }
 
@@ -79,7 +79,8 @@ without_return (b ∷ c ∷ cs) = b ∷ without_return (c ∷ cs)
 abbrev pub HasLines : List IniLine → Edit → List IniLine → Type 0
 HasLines old edit edited = (bytes : Bytes) → IsIniText bytes old → texts_of edited ≡ map without_return edit.lines
 
--- What an edit makes: its number is right, the given text is a line, and the new text means what the changed lines say.
+-- What an edit makes: its number is right, the given text is a line, and the new text means what
+-- the changed lines say.
 pub record IsEdited (edit : Edit) (edited : List IniLine) : Type 0 where
   pub there : edit.found ≡ true
   pub whole : edit.broken ≡ false
@@ -99,7 +100,8 @@ AnswersEdit lines (Err (errors.IniSyntax line why)) = ⊥
 abbrev pub fits : Edit → Bool
 fits edit = nat_le (length (bytes_of edit.lines)) max_length
 
--- what is wrong, in this order: it doesn't fit; the number is wrong; the line of this number is broken
+-- what is wrong, in this order: it doesn't fit; the number is wrong; the line of this number is
+-- broken
 abbrev pub edit_fault : Bool → Bool → Bool → ℕ → Option EditError
 edit_fault false found broken number = Some errors.TooLarge
 edit_fault true false broken number = Some errors.NoSuchLine
@@ -110,7 +112,8 @@ edit_fault true true false number = None
 abbrev pub refusal_of : Edit → Option EditError
 refusal_of edit = edit_fault (fits edit) edit.found edit.broken edit.number
 
--- why a changed text that needs reading is refused: its first bad line has this number; memory runs out
+-- why a changed text that needs reading is refused: its first bad line has this number; memory runs
+-- out
 abbrev pub RefusesBytes : Bytes → EditError → Type 0
 RefusesBytes bytes errors.TooLarge = ⊥
 RefusesBytes bytes errors.NoSuchLine = ⊥
@@ -122,6 +125,7 @@ abbrev pub RefusedBy : Option EditError → Bytes → Result (List IniLine) Edit
 RefusedBy (Some refusal) bytes result = result ≡ Err refusal
 RefusedBy None bytes result = IfErr result (RefusesBytes bytes)
 
--- An edit is refused by its refusal, whatever memory there is; and one without a refusal only for what reading tells.
+-- An edit is refused by its refusal, whatever memory there is; and one without a refusal only for
+-- what reading tells.
 abbrev pub Refused : Edit → Result (List IniLine) EditError → Type 0
 Refused edit result = RefusedBy (refusal_of edit) (bytes_of edit.lines) result

@@ -34,8 +34,8 @@ abbrev pub begins_entry : Bytes → Bool
 begins_entry [] = false
 begins_entry (b ∷ bs) = is_first_of_entry b
 
--- The text is a key, the first `=`, and a value. Blanks round the `=` and at the end of the value belong to neither,
--- and a comment after the value doesn't.
+-- The text is a key, the first `=`, and a value. Blanks round the `=` and at the end of the value
+-- belong to neither, and a comment after the value doesn't.
 pub record IsParted (bytes key text : Bytes) : Type 0 where
   pub at : ℕ
   pub first : position (λ b. b == 61) bytes ≡ Some at
@@ -62,7 +62,8 @@ word_config = codes "Config "
 abbrev pub IsSectionLine : Bytes → Bytes → Type 0
 IsSectionLine name bytes = (bytes ≡ in_brackets name) ⊎ (bytes ≡ in_brackets (word_config ++ name))
 
--- what follows the word `Config` and a blank, where a text begins with them, or else the text itself
+-- what follows the word `Config` and a blank, where a text begins with them, or else the text
+-- itself
 abbrev pub IsNamed : Bytes → Bytes → Type 0
 IsNamed inner name = (inner ≡ word_config ++ name) ⊎ ((name ≡ inner) × ((other : Bytes) → inner ≡ word_config ++ other → ⊥))
 
@@ -118,7 +119,8 @@ FirstBadOf bad n section [] = ⊥
 FirstBadOf bad n section (bytes ∷ more) = ((bad ≡ n) × ((read : IniLine) → IsIniLine section bytes read → ⊥))
     ⊎ ((read : IniLine) × IsIniLine section bytes read × FirstBadOf bad (suc n) (section_behind section read.meaning) more)
 
--- The number, from 1, of the first line that means nothing, or is an entry before the first section.
+-- The number, from 1, of the first line that means nothing, or is an entry before the first
+-- section.
 abbrev pub FirstBad : ℕ → Bytes → Type 0
 FirstBad bad bytes = FirstBadOf bad 1 None (lines_of_ini bytes)
 
@@ -131,7 +133,8 @@ Settles bytes (Err (errors.NoMemory _)) = Unit {0}
 Settles bytes (Err errors.TooLarge) = ⊥
 Settles bytes (Err (errors.IniSyntax bad why)) = FirstBadOf bad 1 None bytes × Tells (AreLines None bytes) None
 
--- What was read of the line of this number, in this section, and put after these lines, or why it was refused.
+-- What was read of the line of this number, in this section, and put after these lines, or why it
+-- was refused.
 abbrev pub SettlesLine : Option Bytes → Bytes → ℕ → List IniLine → List IniLine → Result (Unit {0}) IniError → Type 0
 SettlesLine section bytes number before behind (Ok done) =
     (read : IniLine) × Tells (IsIniLine section bytes) (Some read) × (behind ≡ before ++ read ∷ [])

@@ -12,7 +12,8 @@ abbrev pub begins_with : ℕ → Bytes → Bool
 begins_with c [] = false
 begins_with c (b ∷ bs) = b == c
 
--- The lines of a text: each ends with LF, and a CR directly before an LF is dropped. A last line without LF counts.
+-- The lines of a text: each ends with LF, and a CR directly before an LF is dropped. A last line
+-- without LF counts.
 unfoldable pub lines_of_ini : Bytes → List Bytes
 lines_of_ini [] = []
 lines_of_ini (b ∷ bs) = if b == 10 then [] ∷ lines_of_ini bs else (if b == 13 && begins_with 10 bs then lines_of_ini bs else add_front b (lines_of_ini bs))
@@ -28,9 +29,10 @@ after_line_end (b ∷ bs) = if b == 10 then Some bs else (if b == 13 then after_
 
 -- ---- comments
 
--- In a text literal, as NED writes it, a `\` takes the byte after it along. So of `\\` the second is taken, and a `"` after
--- the two ends the literal. (OMNeT++ Simulation Manual, "NED Language Grammar", the token of a text.)
--- whether this byte takes the next one along, where it is itself taken or not
+-- In a text literal, as NED writes it, a `\` takes the byte after it along. So of `\\` the second
+-- is taken, and a `"` after the two ends the literal. (OMNeT++ Simulation Manual, "NED Language
+-- Grammar", the token of a text.) whether this byte takes the next one along, where it is itself
+-- taken or not
 abbrev pub takes_next : Bool → ℕ → Bool
 takes_next taken b = not taken && b == 92
 

@@ -227,7 +227,8 @@ fn edited_without(
     reread(alloc, bytes.as_slice())
 }
 
-/// The text with a line put before the line of that number. The number after the last line adds one at the end.
+/// The text with a line put before the line of that number. The number after the last line adds one
+/// at the end.
 pub fn with_inserted(
     alloc: Global,
     ini: &IniText,

@@ -12,7 +12,8 @@ use thiserror::Error;
 /// Why an ini text is refused.
 #[derive(Clone, Copy, Debug, PartialEq, Eq, Error)]
 pub enum IniError {
-    /// The number, from 1, of the first line that means nothing, or may not stand where it does, and why.
+    /// The number, from 1, of the first line that means nothing, or may not stand where it does,
+    /// and why.
     #[error("line {0} is no line of an ini text")]
     IniSyntax(usize, Reason),
     /// The text is longer than 1 MiB.
@@ -31,8 +32,8 @@ impl From<AllocError> for IniError {
     }
 }
 
-/// Why an edit of an ini text is refused. Of several reasons the first in this order is told, and lack of memory in any
-/// place.
+/// Why an edit of an ini text is refused. Of several reasons the first in this order is told, and
+/// lack of memory in any place.
 #[derive(Clone, Copy, Debug, PartialEq, Eq, Error)]
 pub enum EditError {
     /// The changed text, which is its lines, each followed by LF, is longer than 1 MiB.
@@ -41,8 +42,8 @@ pub enum EditError {
     /// There is no line of that number.
     #[error("there is no such line")]
     NoSuchLine,
-    /// The number, from 1, of the first line of the changed text that means nothing, or may not stand where it does, and
-    /// why.
+    /// The number, from 1, of the first line of the changed text that means nothing, or may not
+    /// stand where it does, and why.
     #[error("line {0} of the changed text is no line of an ini text")]
     IniSyntax(usize, Reason),
     /// Memory ran out.

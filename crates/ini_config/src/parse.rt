@@ -222,7 +222,8 @@ fn line_meaning(alloc: Global, line: &[u8]) -> Result<LineMeaning, Unread>
     }
 }
 
-/// The section that the lines after a line stand in, where this line stands in `section` and means something.
+/// The section that the lines after a line stand in, where this line stands in `section` and means
+/// something.
 fn section_after(
     alloc: Global,
     section: Option<Text>,
@@ -244,7 +245,8 @@ fn is_extends(meaning: &EntryMeaning) -> bool
     matches!(meaning, EntryMeaning::Extends(_))
 }
 
-/// Whether a line of that meaning may stand here: an entry stands in a section, and General extends nothing.
+/// Whether a line of that meaning may stand here: an entry stands in a section, and General extends
+/// nothing.
 fn may_stand(section: &Option<Text>, line: &LineMeaning) -> Result<(), Reason>
     ensures { is_ok result ≡ may_stand section.now line.now }
 {

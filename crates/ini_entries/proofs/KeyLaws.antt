@@ -39,8 +39,8 @@ abbrev pub or_found : Option Bytes → Option Bytes → Option Bytes
 or_found (Some part) found = Some part
 or_found None found = found
 
--- The last part of a key of which these bytes are left, and of which this is found and kept where each `[` was taken for a
--- bracket. One that no `]` closes was none.
+-- The last part of a key of which these bytes are left, and of which this is found and kept where
+-- each `[` was taken for a bracket. One that no `]` closes was none.
 abbrev pub reached : KeyPlace → Bool → Bytes → Option Bytes → Option Bytes → Option Bytes
 reached Open escaped rest found kept = or_found (last_part_from Open escaped rest) found
 reached InSet escaped rest found kept = or_found (last_part_from InSet escaped rest) found

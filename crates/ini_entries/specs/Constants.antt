@@ -3,8 +3,8 @@ use Rattle.std.specs.Prelude.{Bool, true, false, ◌&&◌}
 use Rattle.ned_trees.specs.declared.expressions.Expression.{Expression, fold-Expression}
 use Rattle.ned_trees.specs.declared.expressions.Expression.TheOpen.{Expression-F}
 
--- by whether the parts are so: literals, operators and signs, `?:`, parentheses, `min` and `max`; nothing that refers to a parameter, an
--- index, a size or a submodule
+-- by whether the parts are so: literals, operators and signs, `?:`, parentheses, `min` and `max`;
+-- nothing that refers to a parameter, an index, a size or a submodule
 abbrev pub constant_by : Expression-F Bool → Bool
 constant_by (Expression-F.Literal v) = true
 constant_by (Expression-F.Name x) = false

@@ -18,7 +18,8 @@ abbrev pub is_closing : Bool → ℕ → Bool
 is_closing true b = false
 is_closing false b = b == 93
 
--- whether such a `]` follows, where the bytes before are in a set or not; a byte after a `\` stands for itself
+-- whether such a `]` follows, where the bytes before are in a set or not; a byte after a `\` stands
+-- for itself
 unfoldable pub is_closed_from : Bool → Bool → Bytes → Bool
 is_closed_from in_set escaped [] = false
 is_closed_from in_set true (b ∷ bs) = is_closed_from in_set false bs
@@ -28,7 +29,8 @@ is_closed_from in_set false (b ∷ bs) = if is_closing in_set b then true else i
 abbrev pub is_closed : Bytes → Bool
 is_closed bytes = is_closed_from false false bytes
 
--- where the bytes after this one stand, where a `]` closes what follows or not; a `{` opens a set between brackets too
+-- where the bytes after this one stand, where a `]` closes what follows or not; a `{` opens a set
+-- between brackets too
 abbrev pub place_behind : KeyPlace → ℕ → Bool → KeyPlace
 place_behind Open b closed = if b == 123 then InSet else (if b == 91 && closed then InBrackets else Open)
 place_behind InSet b closed = if b == 125 then Open else InSet
@@ -44,7 +46,8 @@ is_parting InSet b = false
 is_parting InBrackets b = false
 is_parting InSetInBrackets b = false
 
--- the last part of what follows, or else what follows itself, where a dot parts it from what stands before
+-- the last part of what follows, or else what follows itself, where a dot parts it from what stands
+-- before
 abbrev pub or_rest : Option Bytes → Bool → Bytes → Option Bytes
 or_rest (Some part) parts rest = Some part
 or_rest None true rest = Some rest
@@ -56,12 +59,13 @@ last_part_from place escaped [] = None
 last_part_from place true (b ∷ bs) = last_part_from place false bs
 last_part_from place false (b ∷ bs) = or_rest (last_part_from (place_behind place b (is_closed bs)) (b == 92) bs) (is_parting place b) bs
 
--- THE LAST PART of a key: what stands after its last dot outside `{}` and `[]` that no `\` stands before
+-- THE LAST PART of a key: what stands after its last dot outside `{}` and `[]` that no `\` stands
+-- before
 abbrev pub last_part : Bytes → Option Bytes
 last_part key = last_part_from Open false key
 
--- What a reader has found that takes each `[` for a bracket: the last part, if no `]` closes the bracket that it is in.
--- At a `]` it goes back to what it kept.
+-- What a reader has found that takes each `[` for a bracket: the last part, if no `]` closes the
+-- bracket that it is in. At a `]` it goes back to what it kept.
 abbrev pub found_behind : KeyPlace → ℕ → Bytes → Option Bytes → Option Bytes → Option Bytes
 found_behind Open b rest found kept = if b == 46 then Some rest else found
 found_behind InSet b rest found kept = found
@@ -82,7 +86,8 @@ abbrev pub is_hyphen : Bool → ℕ → Bool
 is_hyphen true b = false
 is_hyphen false b = b == 45
 
--- whether one follows, where the bytes before are in a set or not; a byte after a `\` stands for itself
+-- whether one follows, where the bytes before are in a set or not; a byte after a `\` stands for
+-- itself
 unfoldable pub has_hyphen_from : Bool → Bool → Bytes → Bool
 has_hyphen_from in_set escaped [] = false
 has_hyphen_from in_set true (b ∷ bs) = if is_hyphen in_set b then true else has_hyphen_from in_set false bs
@@ -94,8 +99,8 @@ has_hyphen part = has_hyphen_from false false part
 
 -- ---- kinds
 
--- what the entries of a key are: an option of the configuration, a per-object option of that name, the type of
--- submodules, or a value for parameters
+-- what the entries of a key are: an option of the configuration, a per-object option of that name,
+-- the type of submodules, or a value for parameters
 pub data KeyKind : Type 0 where
   OptionKey : KeyKind
   ObjectKey : (name : Bytes) → KeyKind
@@ -109,7 +114,7 @@ abbrev pub kind_by : Option Bytes → KeyKind
 kind_by None = OptionKey
 kind_by (Some part) = kind_of_part part
 
--- THE KIND of a key: without a part after a dot it is an option; with a `-` there a per-object option; `typename` is for
--- types, and all else for parameters
+-- THE KIND of a key: without a part after a dot it is an option; with a `-` there a per-object
+-- option; `typename` is for types, and all else for parameters
 abbrev pub kind_of : Bytes → KeyKind
 kind_of key = kind_by (last_part key)

@@ -30,7 +30,8 @@ abbrev pub is_key : Bytes → Bool
 is_key [] = false
 is_key (b ∷ bs) = list_all is_key_byte (b ∷ bs)
 
--- The value of a parameter: the word `default`, or what NED reads as an expression, where that is constant.
+-- The value of a parameter: the word `default`, or what NED reads as an expression, where that is
+-- constant.
 abbrev pub IsEntryValue : Bytes → EntryValue → Type 0
 IsEntryValue bytes value.Default = bytes ≡ word_default
 IsEntryValue bytes (value.Given e) = (bytes ≢ word_default) × IsExpressionText bytes e × (is_constant e ≡ true)
@@ -62,7 +63,8 @@ abbrev pub Tells : {X : Type 0} → (X → Type 0) → Option X → Type 0
 Tells P (Some x) = P x × ((y : _) → P y → y ≡ x)
 Tells P None = (y : _) → P y → ⊥
 
--- What was found is the only one; where nothing was found, for whichever reason, there is none. Lack of memory says nothing.
+-- What was found is the only one; where nothing was found, for whichever reason, there is none.
+-- Lack of memory says nothing.
 abbrev pub Finds : {X : Type 0} → (X → Type 0) → Result X Unread → Type 0
 Finds P (Ok x) = P x × ((y : _) → P y → y ≡ x)
 Finds P (Err (unread.MeansNothing why)) = (y : _) → P y → ⊥

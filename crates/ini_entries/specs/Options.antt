@@ -84,7 +84,8 @@ abbrev pub truth_word : Bool → Bytes
 truth_word true = codes "true"
 truth_word false = codes "false"
 
--- what a per-object option of that name says: which modes are recorded; whether something is recorded; nothing
+-- what a per-object option of that name says: which modes are recorded; whether something is
+-- recorded; nothing
 abbrev pub IsObjectOption : Bytes → Bytes → ObjectOption → Type 0
 IsObjectOption name bytes (object.Modes items) = (name ≡ word_modes) × (mode_items (items_of bytes) ≡ Some items)
 IsObjectOption name bytes (object.Recording on) = (is_among name recording_words ≡ true) × (bytes ≡ truth_word on)

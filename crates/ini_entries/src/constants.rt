@@ -5,8 +5,8 @@ ghost use Rattle.ini_entries.specs.Constants as constants;
 
 use ned_trees::expressions::Expression;
 
-/// Whether an expression is constant: of literals, operators, `?:`, parentheses, `min` and `max` alone, with nothing that
-/// refers to a parameter, an index, a size or a submodule.
+/// Whether an expression is constant: of literals, operators, `?:`, parentheses, `min` and `max`
+/// alone, with nothing that refers to a parameter, an index, a size or a submodule.
 ///
 /// It goes down the tree natively, which is at most 64 deep where it was read of a text.
 pub fn is_constant(expression: &Expression) -> bool

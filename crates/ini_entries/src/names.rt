@@ -36,7 +36,8 @@ fn is_spelled(bytes: &[u8]) -> bool
     }
 }
 
-/// Whether the bytes are a name of NED: a letter or `_`, then letters, digits and `_`, and no word of the language.
+/// Whether the bytes are a name of NED: a letter or `_`, then letters, digits and `_`, and no word
+/// of the language.
 fn is_name(bytes: &[u8]) -> bool
     ensures { result ≡ names.is_name bytes.now }
 {

@@ -9,8 +9,8 @@ use Rattle.ini_pattern.specs.Matches.{has_no_dot, begins_with_digit, Takes, Cove
 use Rattle.ini_pattern.specs.Reading.{EndsWith}
 use Rattle.ini_pattern.proofs.CoverLemmas.{cuts}
 
--- what comes of a piece that is tried at a text and at an end of it: the first try ends no later, or can end as the
--- second does
+-- what comes of a piece that is tried at a text and at an end of it: the first try ends no later,
+-- or can end as the second does
 abbrev pub NoLater : Piece → List ℕ → List ℕ → List ℕ → Type 0
 NoLater p s first second = EndsWith first second ⊎ ((taken : List ℕ) × (s ≡ taken ++ second) × Takes p taken second)
 

@@ -187,7 +187,8 @@ no_dot_both (c ∷ f) g h k =
     let parts = and_parts (not (eqb c 46)) (has_no_dot f) h in
     and_from _ _ parts.0 (no_dot_both f g parts.1 k)
 
--- what stands between the rests of an earlier and a later try has no dot, if what stands between their starts has none
+-- what stands between the rests of an earlier and a later try has no dot, if what stands between
+-- their starts has none
 between : (ps : List Piece) (s t r u g : List ℕ) → list_all is_steady ps ≡ true → list_all is_fixed ps ≡ true → s ≡ g ++ t → has_no_dot g ≡ true → Covers ps s r → Covers ps t u → (z : List ℕ) × (r ≡ z ++ u) × (has_no_dot z ≡ true)
 between ps s t r u g st fx e clear v w =
     let over = no_more_left ps s t r u fx (g, e) v w in

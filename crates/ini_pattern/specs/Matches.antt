@@ -1,5 +1,5 @@
--- Which names a pattern matches. A name is the list of its characters: the code points that its UTF-8 bytes encode.
--- OMNeT++ Simulation Manual, "Using Wildcard Patterns".
+-- Which names a pattern matches. A name is the list of its characters: the code points that its
+-- UTF-8 bytes encode. OMNeT++ Simulation Manual, "Using Wildcard Patterns".
 use Rattle.std.specs.Prelude.{◌≡◌, ◌≢◌, ℕ, ◌<◌, ◌≤◌, ◌==◌, nat_le, Bool, true, false, not, ◌&&◌, IsTrue, List, [], ◌∷◌, ◌++◌, length, Option, IfSome}
 use Rattle.std.specs.Char.{is_ascii_digit}
 use Rattle.std.specs.List.{list_all, list_any}

@@ -28,15 +28,16 @@ abbrev pub range_to : ℕ → ℕ × List ℕ → Option (CharRange × List ℕ)
 range_to first last =
     if nat_le first last.0 then Some (record { first = first; last = last.0 }, last.1) else None
 
--- a range of a set that begins with this character: one that goes on with `-` and a character other than `}` has
--- that character as its last, and any other has the one character
+-- a range of a set that begins with this character: one that goes on with `-` and a character other
+-- than `}` has that character as its last, and any other has the one character
 abbrev pub range_from : ℕ × List ℕ → Option (CharRange × List ℕ)
 range_from first =
     if begins_with 45 first.1 && not (begins_with 125 (drop 1 first.1))
     then option_and_then (range_to first.0) (set_char (drop 1 first.1))
     else Some (record { first = first.0; last = first.0 }, first.1)
 
--- the ranges of a set up to its closing brace, and the rest; a text of n characters has no more than n ranges
+-- the ranges of a set up to its closing brace, and the rest; a text of n characters has no more
+-- than n ranges
 abbrev pub ranges_in : ℕ → List ℕ → Option (List CharRange × List ℕ)
 ranges_in zero text = None
 ranges_in (suc n) text =
@@ -80,22 +81,24 @@ pub record Bounds : Type 0 where
   pub high : List ℕ
   pub rest : List ℕ
 
--- the bounds of which these digits are the lower one, where digits or nothing and this closing character follow
+-- the bounds of which these digits are the lower one, where digits or nothing and this closing
+-- character follow
 abbrev pub bounds_from : ℕ → List ℕ → List ℕ → Option Bounds
 bounds_from close low text =
     if begins_with close (after_digits text)
     then Some (record { low = low; high = digits_front text; rest = drop 1 (after_digits text) })
     else None
 
--- the bounds that a text begins with: digits or nothing, two dots, digits or nothing, and this closing character
+-- the bounds that a text begins with: digits or nothing, two dots, digits or nothing, and this
+-- closing character
 abbrev pub bounds_in : ℕ → List ℕ → Option Bounds
 bounds_in close text =
     if begins_with 46 (after_digits text) && begins_with 46 (drop 1 (after_digits text))
     then bounds_from close (digits_front text) (drop 2 (after_digits text))
     else None
 
--- a number from a lower bound to the upper one that these digits write, which is not below it; no digits are no upper
--- bound
+-- a number from a lower bound to the upper one that these digits write, which is not below it; no
+-- digits are no upper bound
 abbrev pub number_up_to : ℕ → List ℕ → Option Piece
 number_up_to low [] = Some (Number low None)
 number_up_to low (c ∷ cs) =
@@ -123,8 +126,9 @@ bracketed text None = Some (Char 91 ∷ [], text)
 bracketed text (Some bounds) =
     option_map (λ piece. (Char 91 ∷ piece ∷ Char 93 ∷ [], bounds.rest)) (number_between bounds.low bounds.high)
 
--- what a text with this first character begins with, and the rest: a star or two, `?`, a brace, a bracket, a
--- backslash before a character that stands for itself, or a character that does so anyway
+-- what a text with this first character begins with, and the rest: a star or two, `?`, a brace, a
+-- bracket, a backslash before a character that stands for itself, or a character that does so
+-- anyway
 abbrev pub piece_in : ℕ → List ℕ → Option (List Piece × List ℕ)
 piece_in c cs =
     if c == 42 then Some (if begins_with 42 cs then (AnyPath ∷ [], drop 1 cs) else (AnyName ∷ [], cs))

@@ -54,7 +54,8 @@ HasNoneWithin pieces to_end floor name = (rest : List ℕ) → Covers pieces nam
 abbrev pub IsFloor : List ℕ → List ℕ → Type 0
 IsFloor name floor = (name ≡ floor) ⊎ ((front : List ℕ) × (name ≡ front ++ (46 ∷ floor)))
 
--- the pieces leave no rest from here, where the `*` of this number may end nowhere before the next place
+-- the pieces leave no rest from here, where the `*` of this number may end nowhere before the next
+-- place
 abbrev pub IsStuck : ℕ → List Piece → Bool → List ℕ → List ℕ → List ℕ → Type 0
 IsStuck number left to_end here next floor =
     (name target rest : List ℕ) → EndsWith name here → IsFloor name next → Covers (to_star number left) here target → Covers (after_star number left) target rest → MayBeLeft to_end floor rest → EndsWith next target → ⊥

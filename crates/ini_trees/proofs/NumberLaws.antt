@@ -1,4 +1,5 @@
--- Configurations by numbers: where different numbers have different names, a merge of numbers is one of their names.
+-- Configurations by numbers: where different numbers have different names, a merge of numbers is
+-- one of their names.
 use Rattle.std.proofs.Common.{◌≡◌, ℕ, ◌<◌, ◌==◌, Bool, true, false, List, [], ◌∷◌, map, Option, Some, None, option_map, refl, sym, ap, subst, ◌∙◌, arith, if◌then◌else◌, eqb-true}
 use Rattle.std.specs.List.{All}
 use Rattle.std.specs.Str.{bytes_eq}

@@ -292,7 +292,8 @@ line_missing text names lines row number s n have none =
 
 -- ---- along an order
 
--- each section of the order so far has its line that is extended from that place on, and so has the root
+-- each section of the order so far has its line that is extended from that place on, and so has the
+-- root
 abbrev pub AreFound : List IniLine → List Bytes → List ℕ → ℕ → ℕ → List (List ℕ) → List ℕ → Type 0
 AreFound text names last root i lines front = (k : ℕ) → Contains front k → (k ≡ root) ⊎ (i ≤ get_or last k 0) → IsNumberLine text names k (line_at lines k)
 

@@ -212,7 +212,8 @@ one_is_part b (y ∷ ys) h = go (b == y) refl (one_is_part b ys)
 stands_first : (x : ℕ) (xs : List ℕ) → stands_in same_number x (x ∷ xs) ≡ true
 stands_first x xs = rw (eq-eqb x x refl) refl
 
--- the lines of these sections, each of which has the section alone, are parts of a list that has them
+-- the lines of these sections, each of which has the section alone, are parts of a list that has
+-- them
 alone_parts : (lines : List (List ℕ)) (whole row : List ℕ) → list_all (λ b. is_alone b (line_at lines b)) row ≡ true → ((b : ℕ) → stands_in same_number b row ≡ true → stands_in same_number b whole ≡ true) → is_part whole whole ≡ true → ArePartsOf whole (map (line_at lines) row ++ whole ∷ [])
 alone_parts lines whole [] are held self = (self, tt)
 alone_parts lines whole (b ∷ bs) are held self =
@@ -228,7 +229,8 @@ last_among : (ls : List (List ℕ)) (l : List ℕ) → IsAmong l (ls ++ l ∷ []
 last_among [] l = inl refl
 last_among (m ∷ ls) l = inr (last_among ls l)
 
--- where each section stands alone in its line, and once in the list of them, that list is their merge
+-- where each section stands alone in its line, and once in the list of them, that list is their
+-- merge
 pub alone_is_merge : (lines : List (List ℕ)) (row : List ℕ) → StandOnce row → list_all (λ b. is_alone b (line_at lines b)) row ≡ true → IsMerge same_number (map (line_at lines) row ++ row ∷ []) row
 alone_is_merge lines row once are =
     whole_is_merge row (map (line_at lines) row ++ row ∷ []) once (alone_parts lines row row are (λ b h. h) (self_part row)) (last_among (map (line_at lines) row) row)

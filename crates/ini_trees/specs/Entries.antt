@@ -46,8 +46,9 @@ last_name path = after_last (λ c. c == 46) path
 abbrev pub is_parameter_name : Bytes → Bool
 is_parameter_name name = not (bytes_eq name word_typename) && not (list_any (λ b. b == 45) name)
 
--- Whether an entry counts for a path, by the path's last name: for `typename` the entries of types, for one with a `-`
--- the per-object options of that very name, for any other the entries of parameters; and its whole key matches the path.
+-- Whether an entry counts for a path, by the path's last name: for `typename` the entries of types,
+-- for one with a `-` the per-object options of that very name, for any other the entries of
+-- parameters; and its whole key matches the path.
 abbrev pub speaks : Bytes → EntryMeaning → Bool
 speaks path (meaning.Parameter p) = is_parameter_name (last_name path) && is_matched p.pattern (chars path)
 speaks path (meaning.Type p) = bytes_eq (last_name path) word_typename && is_matched p.pattern (chars path)
@@ -57,7 +58,8 @@ speaks path _ = false
 abbrev pub speaks_of : Bytes → Entry → Bool
 speaks_of path e = speaks path e.meaning
 
--- THE FIRST MATCH for a path: of the entries in their order the first that counts for it and matches it
+-- THE FIRST MATCH for a path: of the entries in their order the first that counts for it and
+-- matches it
 abbrev pub first_match : Bytes → List Entry → Option Entry
 first_match path entries = find (speaks_of path) entries
 
@@ -77,7 +79,8 @@ abbrev pub object_said : EntryMeaning → Option ObjectOption
 object_said (meaning.Object o) = Some o.says
 object_said _ = None
 
--- what the first match says of a per-object option, whose name ends the path, where the path is a text
+-- what the first match says of a per-object option, whose name ends the path, where the path is a
+-- text
 abbrev pub object_for : Bytes → List Entry → Option ObjectOption
 object_for path entries =
     if is_utf8 path then option_and_then (λ (e : Entry). object_said e.meaning) (first_match path entries) else None

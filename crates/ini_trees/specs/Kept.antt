@@ -11,7 +11,8 @@ IsKept [] ys = Unit {0}
 IsKept (x ∷ xs) [] = ⊥
 IsKept (x ∷ xs) (y ∷ ys) = ((x ≡ y) × IsKept xs ys) ⊎ IsKept (x ∷ xs) ys
 
--- in the line of a configuration those that it extends stand as it names them, and the line of each of them stands in its order
+-- in the line of a configuration those that it extends stand as it names them, and the line of each
+-- of them stands in its order
 abbrev pub KeepsOrder : List IniLine → Bytes → Type 0
 KeepsOrder lines name =
     (line : List Bytes)

@@ -1,5 +1,6 @@
--- Lists that are merged into one: again and again the first head of a list that stands in no tail of a list.
--- OMNeT++ Simulation Manual, "Section Inheritance": the order of sections is that of the C3 linearization.
+-- Lists that are merged into one: again and again the first head of a list that stands in no tail
+-- of a list. OMNeT++ Simulation Manual, "Section Inheritance": the order of sections is that of the
+-- C3 linearization.
 use Rattle.std.specs.Prelude.{◌≡◌, Bool, List, [], ◌∷◌, map, Option, Some, None, if◌then◌else◌}
 use Rattle.std.specs.List.{All, list_any}
 
@@ -31,8 +32,8 @@ without_head same x (y ∷ ys) = if same y x then ys else y ∷ ys
 abbrev pub without : {X : Type 0} → (X → X → Bool) → X → List (List X) → List (List X)
 without same x ls = map (λ l. without_head same x l) ls
 
--- THE MERGE of lists: the first head that stands in no tail, and then the merge of what is left of the lists. Where there is no
--- such head and something is left, there is no merge.
+-- THE MERGE of lists: the first head that stands in no tail, and then the merge of what is left of
+-- the lists. Where there is no such head and something is left, there is no merge.
 abbrev pub IsMerge : {X : Type 0} → (X → X → Bool) → List (List X) → List X → Type 0
 IsMerge same ls [] = All (λ l. l ≡ []) ls
 IsMerge same ls (x ∷ more) = (first_free same ls ls ≡ Some x) × IsMerge same (without same x ls) more

@@ -37,14 +37,15 @@ IsPlace names name (Some at) =
     (at < length names) × (slice_index_or names at [] ≡ name) × ((k : ℕ) → k < at → slice_index_or names k [] ≢ name)
 IsPlace names name None = (k : ℕ) → k < length names → slice_index_or names k [] ≢ name
 
--- the entry of the line in that section is looked for, and the section is the first of these that has its name; or it is not looked
--- for, or stands in none of these
+-- the entry of the line in that section is looked for, and the section is the first of these that
+-- has its name; or it is not looked for, or stands in none of these
 abbrev pub IsWantedAmong : Wanted → List Bytes → Option Bytes → LineMeaning → Option (ℕ × Bor Entry) → Type 0
 IsWantedAmong wanted names section m (Some (at, entry)) =
     (name : Bytes) × IsPlace names name (Some at) × (section ≡ Some name) × (m ≡ line.Entry entry.now) × (is_wanted wanted entry.now.meaning ≡ true)
 IsWantedAmong wanted names section m None =
     (k : ℕ) → k < length names → option_and_then (wanted_of wanted) (entry_here (is_in (slice_index_or names k []) section) m) ≡ None
 
--- the first that is looked for in these sections, of lines of which the first stands in this section
+-- the first that is looked for in these sections, of lines of which the first stands in this
+-- section
 abbrev pub first_among : Wanted → List Bytes → Option Bytes → List IniLine → Option Entry
 first_among wanted names section lines = first_wanted wanted (flat_map (λ name. entries_from name section lines) names)

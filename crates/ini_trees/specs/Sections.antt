@@ -36,7 +36,8 @@ entry_here true (line.Entry entry) = Some entry
 entry_here true _ = None
 entry_here false _ = None
 
--- the entries that lines have in the section of that name, where the first line stands in this section
+-- the entries that lines have in the section of that name, where the first line stands in this
+-- section
 abbrev pub entries_from : Bytes → Option Bytes → List IniLine → List Entry
 entries_from name section [] = []
 entries_from name section (l ∷ ls) =
@@ -81,12 +82,14 @@ first_bases entries = or_bases (option_and_then (λ (e : Entry). bases_said e.me
 abbrev pub bases_of : Bytes → List IniLine → List Bytes
 bases_of name lines = first_bases (entries_under name lines)
 
--- the configurations that a section extends. General is none of them, since it ends each chain anyway.
+-- the configurations that a section extends. General is none of them, since it ends each chain
+-- anyway.
 abbrev pub bases_named : Bytes → List IniLine → List Bytes
 bases_named name lines = filter (λ base. not (bytes_eq base general)) (bases_of name lines)
 
--- A line of a configuration, where those that it extends, and what these extend, and so on, go that deep: the configuration itself,
--- and then the merge of the lines of its bases and the list of the bases. Each base is there.
+-- A line of a configuration, where those that it extends, and what these extend, and so on, go that
+-- deep: the configuration itself, and then the merge of the lines of its bases and the list of the
+-- bases. Each base is there.
 abbrev pub IsLineWithin : ℕ → List IniLine → Bytes → List Bytes → Type 0
 IsLineWithin zero lines name line = ⊥
 IsLineWithin (suc depth) lines name [] = ⊥
@@ -96,8 +99,8 @@ IsLineWithin (suc depth) lines name (first ∷ behind) =
     × AllZip (λ base line. (is_section base lines ≡ true) × IsLineWithin depth lines base line) (bases_named name lines) ls
     × IsMerge bytes_eq (ls ++ bases_named name lines ∷ []) behind
 
--- THE LINE of a configuration: itself, and then the merge of the lines of its bases and the list of the bases. Where names extend
--- each other in a circle they go to no depth, and there is none.
+-- THE LINE of a configuration: itself, and then the merge of the lines of its bases and the list of
+-- the bases. Where names extend each other in a circle they go to no depth, and there is none.
 abbrev pub IsLine : List IniLine → Bytes → List Bytes → Type 0
 IsLine lines name line = (depth : ℕ) × IsLineWithin depth lines name line
 
@@ -117,8 +120,8 @@ entries_along chain lines = flat_map (λ name. entries_under name lines) chain
 
 -- ---- refusals
 
--- Why a configuration has no chain: there is no section of that name; or it extends, itself or by others, what is not there,
--- names that can't be put in order, or itself.
+-- Why a configuration has no chain: there is no section of that name; or it extends, itself or by
+-- others, what is not there, names that can't be put in order, or itself.
 abbrev pub RefusesChain : List IniLine → Bytes → ChainError → Type 0
 RefusesChain lines config errors.NoSuchConfig = is_section config lines ≡ false
 RefusesChain lines config errors.ChainFault =

@@ -1,4 +1,5 @@
-//! What each section of a text extends, by numbers. Two walks over the text find it for all sections at once.
+//! What each section of a text extends, by numbers. Two walks over the text find it for all
+//! sections at once.
 
 ghost use Rattle.std.specs.Prelude.{◌≡◌, [], length, IfOk};
 ghost use Rattle.std.specs.Option.{option_copied};
@@ -62,7 +63,8 @@ fn bases_in(line: &IniLine) -> Option<&[Text]>
     }
 }
 
-/// Notes what a line says that the section extends in which it stands, unless a line before has said so.
+/// Notes what a line says that the section extends in which it stands, unless a line before has
+/// said so.
 fn note<'a>(
     said: &mut [Option<&'a [Text]>],
     names: &SectionNames<'_>,
@@ -87,7 +89,8 @@ fn note<'a>(
     }
 }
 
-/// For each section the names that the first entry of the option `extends` has there, if there is one.
+/// For each section the names that the first entry of the option `extends` has there, if there is
+/// one.
 fn said_bases<'a>(
     alloc: Global,
     lines: &'a [IniLine],

@@ -203,7 +203,8 @@ fn last_uses(
     Ok(last)
 }
 
-/// Gives up the lines of those among these sections that were used last in this place of an order, but for that of the root.
+/// Gives up the lines of those among these sections that were used last in this place of an order,
+/// but for that of the root.
 fn give_up(
     alloc: Global,
     lines: &mut Items<Items<usize>>,
@@ -233,8 +234,9 @@ fn used_last(last: &[usize], number: usize) -> usize
     }
 }
 
-/// The line of a section, if it has one, from those of the sections before it in an order, in which each section stands after those
-/// that it extends. A line is given up when all sections that extend its own have theirs.
+/// The line of a section, if it has one, from those of the sections before it in an order, in which
+/// each section stands after those that it extends. A line is given up when all sections that
+/// extend its own have theirs.
 fn line_along(
     alloc: Global,
     text: &[IniLine],
@@ -375,11 +377,12 @@ fn chain_of(alloc: Global, lines: &[IniLine], config: &[u8]) -> Result<Items<Tex
 }
 
 impl IniText {
-    /// The names of the sections that make a configuration: its own, those that it extends, itself or by others, and at last General.
-    /// Where it extends several, their lines are merged: again and again the first head of a line that stands in no tail of one.
+    /// The names of the sections that make a configuration: its own, those that it extends, itself
+    /// or by others, and at last General. Where it extends several, their lines are merged: again
+    /// and again the first head of a line that stands in no tail of one.
     ///
-    /// [`ChainError::NoSuchConfig`] where there is no such section, [`ChainError::ChainFault`] where it has no chain,
-    /// and [`ChainError::NoMemory`] where memory ran out.
+    /// [`ChainError::NoSuchConfig`] where there is no such section, [`ChainError::ChainFault`]
+    /// where it has no chain, and [`ChainError::NoMemory`] where memory ran out.
     pub fn chain(&self, alloc: Global, config: &[u8]) -> Result<Items<Text>, ChainError>
         ensures accepted { IfOk result (λ chain. IsChain self.now config.now chain × (is_section config.now self.now ≡ true)) }
         ensures complete { (chain : List Bytes) → IsChain self.now config.now chain → is_section config.now self.now ≡ true → AnswersChain chain result }

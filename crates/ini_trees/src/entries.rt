@@ -112,8 +112,8 @@ fn matched_option<'a>(lines: &'a [IniLine], chain: &[Text], path: &str) -> Optio
     }
 }
 
-/// What the first match along a chain says of the per-object option whose name ends the path. A path that is no text has
-/// none.
+/// What the first match along a chain says of the per-object option whose name ends the path. A
+/// path that is no text has none.
 pub fn object_for<'a>(lines: &'a [IniLine], chain: &[Text], path: &[u8]) -> Option<&'a ObjectOption>
     ensures { option_copied result ≡ object_for path.now (entries_along chain.now lines.now) }
 {

@@ -8,13 +8,15 @@ use sim_values::NoMemory;
 use std::alloc::AllocError;
 use thiserror::Error;
 
-/// Why a configuration has no chain. Of several reasons the first in this order is told, and lack of memory in any place.
+/// Why a configuration has no chain. Of several reasons the first in this order is told, and lack
+/// of memory in any place.
 #[derive(Clone, Copy, Debug, PartialEq, Eq, Error)]
 pub enum ChainError {
     /// There is no section of that name.
     #[error("there is no such configuration")]
     NoSuchConfig,
-    /// It extends, itself or by others, a configuration that is not there, several that can't be put in order, or, in the end, itself.
+    /// It extends, itself or by others, a configuration that is not there, several that can't be
+    /// put in order, or, in the end, itself.
     #[error("a configuration extends what it can't")]
     ChainFault,
     /// Memory ran out.

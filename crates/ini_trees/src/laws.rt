@@ -11,7 +11,8 @@ pub fn one_chain(lines: &[IniLine], config: &[u8])
     ensures { HasOneChain lines.now config.now }
 {}
 
-/// In the line of a configuration those that it extends stand as it names them, and the line of each of them stands in its order.
+/// In the line of a configuration those that it extends stand as it names them, and the line of
+/// each of them stands in its order.
 pub fn keeps_order(lines: &[IniLine], config: &[u8])
     ensures { KeepsOrder lines.now config.now }
 {}

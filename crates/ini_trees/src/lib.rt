@@ -1,5 +1,5 @@
-//! Ini texts as values: their lines and entries, the sections that make a configuration, and the first entry that counts for a
-//! path. How they are read, `ini_entries` and `ini_config` say.
+//! Ini texts as values: their lines and entries, the sections that make a configuration, and the
+//! first entry that counts for a path. How they are read, `ini_entries` and `ini_config` say.
 //!
 //! OMNeT++ Simulation Manual, "Configuring Simulations".
 #![tactic(auto)]

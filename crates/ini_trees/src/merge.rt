@@ -1,7 +1,8 @@
-//! The merge of lists of numbers: again and again the first head of a list that stands in no tail of a list.
+//! The merge of lists of numbers: again and again the first head of a list that stands in no tail
+//! of a list.
 //!
-//! How often each number stands in the tails is counted once, and then kept up to date. So a merge takes a step for each number of each
-//! list, and for each number of the merge one for each list.
+//! How often each number stands in the tails is counted once, and then kept up to date. So a merge
+//! takes a step for each number of each list, and for each number of the merge one for each list.
 
 ghost use Rattle.std.specs.Prelude.{◌≡◌, ◌↔◌, ℕ, ◌+◌, ◌<◌, ◌≤◌, ◌^◌, [], IsTrue, length, slice_get, slice_index, IfOk};
 ghost use Rattle.std.specs.List.{All};
@@ -183,7 +184,8 @@ fn merged(
     }
 }
 
-/// The merge of the lists of which this is left, where they have one. Nothing is counted so far, and after a merge again.
+/// The merge of the lists of which this is left, where they have one. Nothing is counted so far,
+/// and after a merge again.
 pub fn merge(
     alloc: Global,
     rests: &mut [Rest],

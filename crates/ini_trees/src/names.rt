@@ -9,7 +9,8 @@ use indexmap::IndexSet;
 use std::alloc::{AllocError, Global};
 use std::marker::Model;
 
-/// Names of sections, each once, which contracts see as their list. The number of a name is its place there.
+/// Names of sections, each once, which contracts see as their list. The number of a name is its
+/// place there.
 pub struct SectionNames<'a> {
     names: IndexSet<&'a [u8]>,
 }

@@ -13,8 +13,9 @@ use std::alloc::{AllocError, Global};
 struct Walk {
     /// The sections from the first one to that where the walk is. Each extends the next.
     path: Items<usize>,
-    /// For each section 0 where it was not begun, and else the place of the base that is looked at next, beginning with the second.
-    /// The first is found when all are looked through once more, before the section is done.
+    /// For each section 0 where it was not begun, and else the place of the base that is looked at
+    /// next, beginning with the second. The first is found when all are looked through once more,
+    /// before the section is done.
     passed: Items<usize>,
     /// For each section whether it is in the order.
     done: Items<bool>,
@@ -184,7 +185,8 @@ impl Walk {
         Ok(())
     }
 
-    /// Goes on from a section. Says no where that, or what it extends, goes round in a circle or is not there.
+    /// Goes on from a section. Says no where that, or what it extends, goes round in a circle or is
+    /// not there.
     fn step(&mut self, rows: &[Option<Items<usize>>], top: usize) -> Result<bool, AllocError>
         requires rows { AreRows rows.now }
         requires within { top < length rows.now }
@@ -210,8 +212,8 @@ impl Walk {
     }
 }
 
-/// All that the root extends, that these extend, and so on, and at last the root: each section after those that it extends. None where
-/// one of them is not there, or they go round in a circle.
+/// All that the root extends, that these extend, and so on, and at last the root: each section
+/// after those that it extends. None where one of them is not there, or they go round in a circle.
 pub fn order_behind(
     alloc: Global,
     rows: &[Option<Items<usize>>],

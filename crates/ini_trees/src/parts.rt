@@ -1,7 +1,8 @@
 //! Lists of numbers that stand in another one, in its order.
 //!
-//! Where the lines of all that a section extends stand so in the line of the first, and the list of them does, that line is their merge. It is so
-//! where one extends one, and in a ladder, in which each extends the two before it. And where none of those that a section extends extends another
+//! Where the lines of all that a section extends stand so in the line of the first, and the list of
+//! them does, that line is their merge. It is so where one extends one, and in a ladder, in which
+//! each extends the two before it. And where none of those that a section extends extends another
 //! one, their list is the merge. So these take no steps of a merge.
 
 ghost use Rattle.std.specs.Prelude.{◌≡◌, ◌∷◌, ◌++◌, [], true, IfSome, length, map};
@@ -47,7 +48,8 @@ fn are_parts(lines: &[Items<usize>], row: &[usize], whole: &[usize]) -> bool
     row.iter().all(|base| is_part(line_at(lines, *base), whole))
 }
 
-/// The line of the first of those that a section extends, where the lines of the others stand in it, and the list of all: it is their merge.
+/// The line of the first of those that a section extends, where the lines of the others stand in
+/// it, and the list of all: it is their merge.
 pub fn whole_of<'a>(lines: &'a [Items<usize>], row: &[usize]) -> Option<&'a [usize]>
     requires once { IsFirstOnce lines.now row.now }
     ensures { IfSome (option_copied result) (λ whole.
@@ -84,7 +86,8 @@ fn is_alone(number: usize, line: &[usize]) -> bool
     }
 }
 
-/// Counts the numbers of a list, up to one that is counted already. Answers whether there is none such.
+/// Counts the numbers of a list, up to one that is counted already. Answers whether there is none
+/// such.
 fn count_once(waiting: &mut [u128], row: &[usize]) -> bool
     requires below { AreBelow (length waiting.old) row.now }
     requires zeros { HoldsZeros waiting.old }

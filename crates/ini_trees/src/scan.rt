@@ -47,7 +47,8 @@ pub fn entry_in<'a>(name: &[u8], section: Option<&[u8]>, line: &'a IniLine) -> O
 
 // ---- the first that is wanted
 
-/// A chain of so many sections is short: to look through the text for each of them costs less than to compare all its entries.
+/// A chain of so many sections is short: to look through the text for each of them costs less than
+/// to compare all its entries.
 const FEW: usize = 16;
 
 /// Which entries are looked for.
@@ -75,7 +76,8 @@ fn is_wanted(wanted: Wanted<'_>, meaning: &EntryMeaning) -> bool
     }
 }
 
-/// The entry of a line, which stands in `section`, where this is the section of that name and the entry is looked for.
+/// The entry of a line, which stands in `section`, where this is the section of that name and the
+/// entry is looked for.
 fn wanted_in<'a>(
     name: &[u8],
     section: Option<&[u8]>,
@@ -108,7 +110,8 @@ pub(crate) fn first_under<'a>(
     None
 }
 
-/// The first entry that is looked for along a chain of few sections. The text is looked through once for each of them.
+/// The first entry that is looked for along a chain of few sections. The text is looked through
+/// once for each of them.
 fn first_along_few<'a>(
     lines: &'a [IniLine],
     chain: &[Text],
@@ -138,8 +141,8 @@ fn place_of(names: &[Text], name: &[u8]) -> Option<usize>
     None
 }
 
-/// The entry of a line, which stands in `section`, where this is one of these sections and the entry is looked for; and the place of
-/// the section.
+/// The entry of a line, which stands in `section`, where this is one of these sections and the
+/// entry is looked for; and the place of the section.
 fn wanted_among<'a>(
     names: &[Text],
     section: Option<&[u8]>,
@@ -163,8 +166,8 @@ fn wanted_among<'a>(
     }
 }
 
-/// The first entry that is looked for along a chain of many sections. The text is looked through once: after an entry that is
-/// found, only one of a section before that one's counts.
+/// The first entry that is looked for along a chain of many sections. The text is looked through
+/// once: after an entry that is found, only one of a section before that one's counts.
 fn first_along_many<'a>(
     lines: &'a [IniLine],
     chain: &[Text],

@@ -12,7 +12,8 @@ use Rattle.input_lines.specs.Waits.{Waiting, IsSound, IsLongFront, thrown_of}
 use Rattle.input_lines.specs.declared.line.NextLine.{NextLine}
 use Rattle.input_lines.specs.declared.line.NextLine.TheVariants as answers
 
--- What was read so far of a line that has not ended: no line feed waits, and what waits was thrown away where it is too long.
+-- What was read so far of a line that has not ended: no line feed waits, and what waits was thrown
+-- away where it is too long.
 pub record IsReading (given : List ℕ) (ends failures : ℕ) (before : Waiting) (given' : List ℕ) (ends' failures' : ℕ) (after : Waiting) : Type 0 where
   pub sound : IsSound before
   pub more : List ℕ

@@ -8,8 +8,9 @@ use Rattle.input_lines.specs.Waits.{Waiting, IsSpent, IsLongFront}
 use Rattle.input_lines.specs.declared.line.NextLine.{NextLine}
 use Rattle.input_lines.specs.declared.line.NextLine.TheVariants as answers
 
--- Of these bytes, which were read after those that waited, all but the last 4,096 at most have no line feed, nor have those that waited: so no
--- more than one part was read after a line feed that was already there.
+-- Of these bytes, which were read after those that waited, all but the last 4,096 at most have no
+-- line feed, nor have those that waited: so no more than one part was read after a line feed that
+-- was already there.
 pub record IsNeeded (waiting more : List ℕ) : Type 0 where
   pub front : List ℕ
   pub last : List ℕ
@@ -22,8 +23,8 @@ pub record Gives (given waiting given' more : List ℕ) : Type 0 where
   pub gave : given' ≡ given ++ more
   pub needed : (more ≡ []) ⊎ IsNeeded waiting more
 
--- Nothing is told of these bytes: they wait, and no line is counted. No more of them was thrown away, or all of them were, since they are of one
--- line that is too long.
+-- Nothing is told of these bytes: they wait, and no line is counted. No more of them was thrown
+-- away, or all of them were, since they are of one line that is too long.
 pub record IsUntold (all : List ℕ) (before after : Waiting) : Type 0 where
   pub bytes : after.bytes ≡ all
   pub counted : after.counted ≡ before.counted
@@ -64,7 +65,8 @@ pub record IsNext (given : List ℕ) (ends : ℕ) (before : Waiting) (answer : N
   pub gives : Gives given before.bytes given' more
   pub answers : Answers answer (before.bytes ++ more) ends before ends' after
 
--- WHERE THERE IS NO ANSWER, all that the source gave waits; the source may have said that it is at its end.
+-- WHERE THERE IS NO ANSWER, all that the source gave waits; the source may have said that it is at
+-- its end.
 pub record IsLeft (given : List ℕ) (ends : ℕ) (before : Waiting) (given' : List ℕ) (ends' : ℕ) (after : Waiting) : Type 0 where
   pub more : List ℕ
   pub gives : Gives given before.bytes given' more

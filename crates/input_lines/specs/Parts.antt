@@ -3,7 +3,8 @@ use Rattle.std.specs.Prelude.{◌≡◌, ℕ, ◌≤◌, ◌<◌, List, ◌++◌
 use Rattle.sim_values.specs.Counts.{next_count}
 use Rattle.input_lines.specs.Limits.{chunk}
 
--- The source gave so many bytes more, which stand after those that are held now. Where it gave none it was at its end.
+-- The source gave so many bytes more, which stand after those that are held now. Where it gave none
+-- it was at its end.
 pub record IsPart (given : List ℕ) (ends : ℕ) (held : List ℕ) (given' : List ℕ) (ends' : ℕ) (held' : List ℕ) (n : ℕ) : Type 0 where
   pub bytes : List ℕ
   pub gave : given' ≡ given ++ bytes

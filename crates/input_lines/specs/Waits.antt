@@ -3,8 +3,9 @@ use Rattle.std.specs.Prelude.{◌≡◌, ℕ, ◌+◌, ◌*◌, ◌/◌, ◌≤�
 use Rattle.input_lines.specs.Feeds.{has_feed}
 use Rattle.input_lines.specs.Limits.{longest, most_lines, chunk}
 
--- The bytes that the source gave and of which no answer has told, in their order; how many of them, at the front, are no longer
--- in memory, since they are of a line that is too long; and how many lines are counted.
+-- The bytes that the source gave and of which no answer has told, in their order; how many of them,
+-- at the front, are no longer in memory, since they are of a line that is too long; and how many
+-- lines are counted.
 pub record Waiting : Type 0 where
   pub bytes : List ℕ
   pub thrown : ℕ
@@ -14,7 +15,8 @@ pub record Waiting : Type 0 where
 abbrev pub nothing : Waiting
 nothing = record { bytes = []; thrown = 0; counted = 0 }
 
--- No line is told any more: with one for each full 65,536 bytes that were thrown away, as many lines are counted as are told.
+-- No line is told any more: with one for each full 65,536 bytes that were thrown away, as many
+-- lines are counted as are told.
 abbrev pub IsSpent : Waiting → Type 0
 IsSpent waiting = most_lines ≤ waiting.counted + waiting.thrown / longest
 
@@ -33,8 +35,8 @@ pub record IsLongFront (waiting : Waiting) : Type 0 where
   pub long : longest < length waiting.bytes
   pub thrown : waiting.thrown ≡ length waiting.bytes
 
--- What is kept in memory: the front of a line that is too long was thrown away, if any, and the rest is held, which is no more
--- than a line and a part.
+-- What is kept in memory: the front of a line that is too long was thrown away, if any, and the
+-- rest is held, which is no more than a line and a part.
 pub record IsKept (thrown : List ℕ) (thrown_length : ℕ) (held : List ℕ) (counted : ℕ) : Type 0 where
   pub one : has_feed thrown ≡ false
   pub count : length thrown ≡ thrown_length

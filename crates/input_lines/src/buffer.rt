@@ -111,7 +111,8 @@ impl LineBuffer {
         read_part(source, &mut self.held)
     }
 
-    /// The answer to the line that ends before that place, and begins with the first byte that waits.
+    /// The answer to the line that ends before that place, and begins with the first byte that
+    /// waits.
     fn answer(&self, end: usize) -> Result<NextLine, ReadFault>
         requires front { self.now.thrown ≤ end }
         requires within { end ≤ length self.now.bytes }

@@ -13,7 +13,8 @@ use input_texts::source::Source;
 /// How many bytes are asked for at a time.
 pub(crate) const CHUNK: usize = 4096;
 
-/// Reads once, and adds what the source gives after the bytes that are held. Answers how many bytes that was.
+/// Reads once, and adds what the source gives after the bytes that are held. Answers how many bytes
+/// that was.
 pub(crate) fn read_part<S: Source>(source: &mut S, held: &mut Vec<u8>) -> Result<usize, ReadFault>
     requires room { length held.old.items ≤ longest }
     ensures part { IfOk result (λ n. IsPart (S.given source.old) (S.ends source.old) held.old.items

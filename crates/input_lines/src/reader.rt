@@ -71,7 +71,8 @@ impl<S: Source> LineReader<S> {
             (S.given self.new.source) (S.ends self.new.source) self.new.buffer) }
         ensures refused { IfErr result (λ fault. Explains (S.failures self.old.source) (S.failures self.new.source) fault) }
 
-        // The source is not asked where a whole line waits, nor once as many lines are counted as are told.
+        // The source is not asked where a whole line waits, nor once as many lines are counted as
+        // are told.
         ensures unasked { has_feed self.old.buffer.bytes ≡ true → self.new.source ≡ self.old.source }
         ensures spent { IsSpent self.old.buffer → (result ≡ Ok NextLine.Spent) × (self.new ≡ self.old) }
     {

@@ -5,8 +5,9 @@ ghost use Rattle.std.specs.Borrow.{ftrue};
 
 use std::marker::{Model, PhantomData};
 
-/// Bytes that were noted, one part after the other. They take no memory, and only clauses can read them: so a reader or a
-/// writer of the system, of which no clause says what is in its file, can say what it was given or gave.
+/// Bytes that were noted, one part after the other. They take no memory, and only clauses can read
+/// them: so a reader or a writer of the system, of which no clause says what is in its file, can
+/// say what it was given or gave.
 #[derive(Drop)]
 pub struct Noted {
     marker: PhantomData<u8>,

@@ -10,8 +10,8 @@ use sim_values::text::MAX_LENGTH;
 use std::alloc::Global;
 use std::io;
 
-/// How many bytes are read at most: 1 MiB, which is the longest text, and one. So a text that is too
-/// long is still seen to be that.
+/// How many bytes are read at most: 1 MiB, which is the longest text, and one. So a text that is
+/// too long is still seen to be that.
 pub const MOST: usize = MAX_LENGTH + 1;
 
 /// How many bytes are asked for at a time.
@@ -26,7 +26,8 @@ pub enum ReadFault {
     NoMemory(NoMemory),
 }
 
-/// Reads once, and adds what the source gives at the end of the text. Answers how many bytes that was.
+/// Reads once, and adds what the source gives at the end of the text. Answers how many bytes that
+/// was.
 fn read_part<S: Source>(source: &mut S, text: &mut Vec<u8>) -> Result<usize, ReadFault>
     requires room { length text.old.items ≤ most }
     ensures more { IfOk result (λ n. IsMore (S.given source.old) (S.ends source.old) text.old.items
@@ -45,8 +46,8 @@ fn read_part<S: Source>(source: &mut S, text: &mut Vec<u8>) -> Result<usize, Rea
     }
 }
 
-/// The bytes that the source gives: all up to its end, or the first `MOST` of them. A source that gives
-/// fewer bytes than it is asked for is read on.
+/// The bytes that the source gives: all up to its end, or the first `MOST` of them. A source that
+/// gives fewer bytes than it is asked for is read on.
 pub fn read_text<S: Source>(alloc: Global, source: &mut S) -> Result<Vec<u8>, ReadFault>
     ensures whole { IfOk result (λ text. IsWhole (S.given source.old) (S.ends source.old)
         (S.given source.new) (S.ends source.new) text.items) }

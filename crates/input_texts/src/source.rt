@@ -10,15 +10,15 @@ pub trait Source {
     /// The bytes that it has given.
     ghost given: { Self → List ℕ };
 
-    /// How many of its reads gave nothing where something was asked for: it was at its end. The count
-    /// starts over after the greatest number of 64 bits, so that a source can keep it.
+    /// How many of its reads gave nothing where something was asked for: it was at its end. The
+    /// count starts over after the greatest number of 64 bits, so that a source can keep it.
     ghost ends: { Self → ℕ };
 
     /// How many of its reads failed. The count starts over as that of the ends does.
     ghost failures: { Self → ℕ };
 
-    /// Gives some bytes, which stand at the front of the buffer then, and answers how many. They may be
-    /// fewer than the buffer has room for, and are none at the end alone.
+    /// Gives some bytes, which stand at the front of the buffer then, and answers how many. They
+    /// may be fewer than the buffer has room for, and are none at the end alone.
     fn read(&mut self, buffer: &mut [u8]) -> io::Result<usize>
         ensures within { IfOk result (λ n. n ≤ length buffer.new) }
         ensures given { IfOk result (λ n. given self.new ≡ given self.old ++ take n buffer.new) }

@@ -90,7 +90,8 @@ meant_then (meaning.Is v) next = next v
 meant_then (meaning.Of k) next = ask_then k next
 meant_then meaning.Nothing next = Done (Err Unassigned)
 
--- an asking for references is one for what they mean; then the rest, with the value that it comes to
+-- an asking for references is one for what they mean; then the rest, with the value that it comes
+-- to
 abbrev pub valued_then : (Reference → Meaning) → Valued → (Value → Asked) → Asked
 valued_then means (Done (Ok v)) next = next v
 valued_then means (Done (Err f)) next = Done (Err (of_value f))

@@ -9,8 +9,9 @@ use Rattle.inside_keys.specs.declared.key.What.{What}
 use Rattle.inside_keys.specs.declared.key.What.TheVariants as what
 use Rattle.inside_keys.specs.Asked.{Asked}
 
--- whose path the fault of a key has that the building of the inside of m asked for: that of the submodule for its type, its gate sizes, its
--- condition and vector size, where it has no index; of all else that of the compound module
+-- whose path the fault of a key has that the building of the inside of m asked for: that of the
+-- submodule for its type, its gate sizes, its condition and vector size, where it has no index; of
+-- all else that of the compound module
 abbrev pub blamed_for : Module → Module → What → List ℕ
 blamed_for m at (what.Condition sub) = m.path ++ 46 ∷ sub
 blamed_for m at (what.VectorSize sub) = m.path ++ 46 ∷ sub
@@ -30,7 +31,8 @@ abbrev pub blamed_by : Module → Bool → Key → List ℕ
 blamed_by m true k = blamed_for m k.site k.what
 blamed_by m false k = k.site.path
 
--- a parameter that is asked for one by one is a submodule's; those that expressions name are the module's own and its parent's
+-- a parameter that is asked for one by one is a submodule's; those that expressions name are the
+-- module's own and its parent's
 abbrev pub blamed : Module → Option Module → Key → List ℕ
 blamed m around k = blamed_by m (not (is_param k.what) || (is_at (Some m) k.site || is_at around k.site)) k
 

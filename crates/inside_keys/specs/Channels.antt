@@ -1,4 +1,5 @@
--- Channels of connections: their paths, their lines, and what they do (OMNeT++ Simulation Manual, "Channels").
+-- Channels of connections: their paths, their lines, and what they do (OMNeT++ Simulation Manual,
+-- "Channels").
 use Rattle.std.specs.Prelude.{ℕ, ℤ, pos, negsuc, ◌-◌, Bool, true, false, ◌&&◌, List, [], ◌∷◌, ◌++◌, Option, Some, None, bytes_eq, codes, decimal, if◌then◌else◌, slice_get}
 use Rattle.std.specs.Option.{option_and_then}
 use Rattle.sim_values.specs.declared.value.Dimension.TheVariants.{Time, Rate}
@@ -33,7 +34,8 @@ use Rattle.inside_keys.specs.Kinds.{kind_of}
 
 -- ---- paths
 
--- the mark after the name of the half of a gate that messages leave by, into a connection: the module's own gates are seen from within
+-- the mark after the name of the half of a gate that messages leave by, into a connection: the
+-- module's own gates are seen from within
 abbrev pub leaving_mark : Bool → GateDirection → List ℕ
 leaving_mark own Input = []
 leaving_mark own Output = []
@@ -68,7 +70,8 @@ abbrev pub leaving_path : List (List ℕ) → List TypeGates → GateId → Opti
 leaving_path names gates id None = []
 leaving_path names gates id (Some p) = owner_of names p ++ leaving_gate gates id p
 
--- THE PATH of the channel of a connection from that gate, in a module whose submodules have these names: the gate's, and `.channel`
+-- THE PATH of the channel of a connection from that gate, in a module whose submodules have these
+-- names: the gate's, and `.channel`
 abbrev pub channel_path : Module → List (List ℕ) → List TypeGates → Parts → GateId → List ℕ
 channel_path m names gates ps id = (m.path ++ 46 ∷ leaving_path names gates id (slice_get ps.parts id.part)) ++ codes ".channel"
 

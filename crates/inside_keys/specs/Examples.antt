@@ -167,7 +167,8 @@ pub record AreWorked : Type 0 where
   pub back : links (one_way (codes "a") (codes "b") ∷ one_way (codes "b") (codes "a") ∷ []) ≡ ((1, 0), (0, 0)) ∷ ((0, 0), (1, 0)) ∷ []
   -- a port of which one half is taken isn't free in both
   pub half_taken : sizes (one_way (codes "a") (codes "b") ∷ joined (codes "a") (codes "b") ∷ []) ≡ Some (Ok (2 ∷ 2 ∷ 0 ∷ []))
-  -- there is no d; a vector is no single gate, and a single gate is no vector; a whole inout gate goes both ways
+  -- there is no d; a vector is no single gate, and a single gate is no vector; a whole inout gate
+  -- goes both ways
   pub no_submodule : sizes (joined (codes "a") (codes "d") ∷ []) ≡ Some (Err fault.NoGate)
   pub no_single : sizes (plug_in (codes "a") (codes "b") ∷ []) ≡ Some (Err fault.NoGate)
   pub no_vector : plugged (joined (codes "a") (codes "b") ∷ []) ≡ Some (Err fault.NoGate)

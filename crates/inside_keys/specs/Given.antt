@@ -1,4 +1,5 @@
--- The expressions that give keys their values (OMNeT++ Simulation Manual, "Assigning Parameters", "Gates", "Submodules").
+-- The expressions that give keys their values (OMNeT++ Simulation Manual, "Assigning Parameters",
+-- "Gates", "Submodules").
 use Rattle.std.specs.Prelude.{ℕ, ◌==◌, ℤ, Bool, false, List, [], ◌∷◌, ◌++◌, ◌&&◌, length, not, reverse, Option, Some, None, bytes_eq, if◌then◌else◌, is_some, slice_get}
 use Rattle.std.specs.Option.{option_and_then}
 use Rattle.ned_trees.specs.declared.connections.Channel.{Channel}
@@ -78,7 +79,8 @@ module _ (s : Setting) (m : Module) where
   parameter_by t body x None = None
   parameter_by t body x (Some d) = posed_as (check.Parameter (kind_of d)) (first_given (given_to t body x) (s.entry (parameter_path m x)))
 
-  -- WHAT GIVES A PARAMETER ITS VALUE, the first that exists of: the fixed value; the first entry of the ini text that matches its path; the default
+  -- WHAT GIVES A PARAMETER ITS VALUE, the first that exists of: the fixed value; the first entry of
+  -- the ini text that matches its path; the default
   abbrev pub parameter_posed : TypeDeclaration → SubmoduleBody → List ℕ → Option Posed
   parameter_posed t body x = parameter_by t body x (declaration_named x t.lines)
 
@@ -183,7 +185,8 @@ module _ (s : Setting) (m : Module) (c : ChannelAt) where
   channel_posed_at None x = None
   channel_posed_at (Some f) x = channel_posed_in f.connection.channel (scope_at f.clauses c.turn) x
 
-  -- WHAT GIVES A PARAMETER OF A CHANNEL ITS VALUE, as for a module; its block is as the body of a submodule
+  -- WHAT GIVES A PARAMETER OF A CHANNEL ITS VALUE, as for a module; its block is as the body of a
+  -- submodule
   abbrev pub channel_posed : TypeDeclaration → List ℕ → Option Posed
   channel_posed t x = channel_posed_at (connection_at c.written t.connections.items) x
 
@@ -233,7 +236,8 @@ abbrev pub named_in : GateLine → List ℕ
 named_in (gate.Declaration d) = d.name
 named_in (gate.Refinement r) = r.name
 
--- A SIZE FOR WHAT IS NO GATE VECTOR: the name in the first of these lines that gives one, where these are the gates
+-- A SIZE FOR WHAT IS NO GATE VECTOR: the name in the first of these lines that gives one, where
+-- these are the gates
 abbrev pub misplaced : TypeGates → List GateLine → Option (List ℕ)
 misplaced gates [] = None
 misplaced gates (l ∷ ls) = if is_misplaced gates l then Some (named_in l) else misplaced gates ls

@@ -1,5 +1,6 @@
--- The inside of a compound module: what it asks, and what is made of the answers. Each definition says one thing that is done, and then `rest`.
--- OMNeT++ Simulation Manual, "Submodules", "Connections", "Parametric Connections".
+-- The inside of a compound module: what it asks, and what is made of the answers. Each definition
+-- says one thing that is done, and then `rest`. OMNeT++ Simulation Manual, "Submodules",
+-- "Connections", "Parametric Connections".
 use Rattle.std.specs.Prelude.{ℕ, zero, suc, ◌+◌, ◌-◌, ◌==◌, ℤ, pos, negsuc, ◌+ℤ◌, ◌-ℤ◌, Bool, true, List, [], ◌∷◌, Option, Some, None, Ok, Err, if◌then◌else◌, is_some, length, map, slice_get}
 use Rattle.param_following.specs.Asking.{Done}
 use Rattle.ned_trees.specs.declared.connections.Arrow.{Arrow}
@@ -79,7 +80,8 @@ module _ (place : Place) where
   abbrev pub whole : Expression → Scope → (ℤ → Asked) → Asked
   whole e scope rest = evaluated e scope (λ v. whole_then v rest)
 
-  -- WHAT CLAUSES DO around a body, from the left: `if` asks whether the rest is done, `for` does it in turns
+  -- WHAT CLAUSES DO around a body, from the left: `if` asks whether the rest is done, `for` does it
+  -- in turns
   abbrev pub looped : List Clause → (Scope → State → Rest → Asked) → Scope → State → Rest → Asked
   looped [] body scope s rest = body scope s rest
   looped (If e ∷ cs) body scope s rest = evaluated e scope (λ v. truth_then v (looped cs body scope s rest) (rest s))
@@ -111,7 +113,8 @@ module _ (place : Place) where
         result_then (gate_named gates s.parts (length s.wiring.sizes) part e.gate.name) (λ g.
         if fits g.is_own g.kind.direction e.gate.half role then gate_then e.gate.index g role other scope s rest else Done (Err NoGate))
 
-    -- AN END OF A CONNECTION: submodule index, submodule, gate, direction, vector or not, gate index
+    -- AN END OF A CONNECTION: submodule index, submodule, gate, direction, vector or not, gate
+    -- index
     abbrev pub end_then : End → Role → Option GateId → Scope → State → (Taken → Asked) → Asked
     end_then e role other scope s rest = part_then e.owner scope s (λ part. named_then e role other scope s part rest)
 
@@ -156,7 +159,8 @@ source_of Both l r = l
 abbrev pub channel_of : Bool → Connection → Option Channel
 channel_of is_whole c = if is_whole then c.channel else None
 
--- in a module whose types have these gates, and whose submodules these names; with what channels do, or only as far as gate sizes need it
+-- in a module whose types have these gates, and whose submodules these names; with what channels
+-- do, or only as far as gate sizes need it
 module _ (m : Module) (names : List (List ℕ)) (gates : List TypeGates) (is_whole : Bool) where
   -- the channel of a connection from that gate
   abbrev pub channel_from : GateId → Scope → State → ChannelAt
@@ -183,19 +187,22 @@ module _ (m : Module) (names : List (List ℕ)) (gates : List TypeGates) (is_who
   joined_by None way l r scope s rest = linked_then way l r s rest ideal ideal
   joined_by (Some channel) way l r scope s rest = carried_from (source_of way l r) scope s (back_then way l r scope s rest)
 
-  -- TWO GATES ARE JOINED: what the channel does in the one direction and in the other, and then the connection
+  -- TWO GATES ARE JOINED: what the channel does in the one direction and in the other, and then the
+  -- connection
   abbrev pub joined : Connection → GateId → GateId → Scope → State → Rest → Asked
   joined c l r scope s rest = joined_by (channel_of is_whole c) c.arrow l r scope s rest
 
 -- ---- submodules
 
--- the sizes of gates, each by a key: of a module's own gates the finished sizes, of a submodule's the declared ones
+-- the sizes of gates, each by a key: of a module's own gates the finished sizes, of a submodule's
+-- the declared ones
 abbrev pub gates : Module → (List ℕ → What) → List TypeGate → State → Rest → Asked
 gates m size [] s rest = rest s
 gates m size (g ∷ gs) s rest =
     if g.kind.is_vector then ask_then (key m (size g.name)) (λ v. size_then v (λ n. gates m size gs (grown s n) rest)) else gates m size gs (grown s 1) rest
 
--- THE DECLARED SIZES OF A SUBMODULE'S GATES. One that is given to what is no gate vector of that name is asked for first, and refused
+-- THE DECLARED SIZES OF A SUBMODULE'S GATES. One that is given to what is no gate vector of that
+-- name is asked for first, and refused
 abbrev pub sizes : Module → Option (List ℕ) → List TypeGate → State → Rest → Asked
 sizes m None gs s rest = gates m what.Declared gs s rest
 sizes m (Some name) gs s rest = ask_then (key m (what.Declared name)) (λ v. rest s)
@@ -221,8 +228,8 @@ conditioned m l if_so if_not = if is_some l.condition then ask_then (key m (what
 abbrev pub sized : Module → Submodule → (ℕ → Asked) → Asked
 sized m l next = ask_then (key m (what.VectorSize l.name)) (λ v. size_then v next)
 
--- the inside of a module, where the types have these declarations and these gates; with the values of its submodules' parameters, or only as far
--- as gate sizes need it
+-- the inside of a module, where the types have these declarations and these gates; with the values
+-- of its submodules' parameters, or only as far as gate sizes need it
 module _ (m : Module) (types : List TypeDeclaration) (type_gates : List TypeGates) (is_whole : Bool) where
   -- the gates of the type of that number
   abbrev pub gates_of : ℕ → List TypeGate
@@ -284,7 +291,8 @@ made_of s = Done (Ok (found.Inside (record { parts = s.parts; wiring = s.wiring 
 abbrev pub submodule_names : TypeDeclaration → List (List ℕ)
 submodule_names t = map (λ (l : Submodule). l.name) t.submodules
 
--- THE INSIDE OF A COMPOUND MODULE of a type, which has that number among these: the sizes of its own gates, its submodules, its connections
+-- THE INSIDE OF A COMPOUND MODULE of a type, which has that number among these: the sizes of its
+-- own gates, its submodules, its connections
 abbrev pub inside : Module → List TypeDeclaration → List TypeGates → Bool → Place → ℕ → TypeDeclaration → Asked
 inside m types type_gates is_whole place n t =
     gates m what.GateSize (gates_of m types type_gates is_whole n) (own_part n) (λ s.

@@ -15,8 +15,8 @@ use Rattle.inside_keys.specs.declared.place.Section.{Section}
 use Rattle.inside_keys.specs.declared.place.Section.TheVariants as section
 use Rattle.inside_keys.specs.Keys.{key}
 
--- whose names bare names, and names of submodules, are: in the type's sections the module's own, in a body those of the module around, in the block
--- of a channel those of the module that it is in
+-- whose names bare names, and names of submodules, are: in the type's sections the module's own, in
+-- a body those of the module around, in the block of a channel those of the module that it is in
 abbrev pub heard_in : Section → Module → Option Module → Option Module
 heard_in section.OfParameters own around = Some own
 heard_in section.OfInside own around = Some own
@@ -85,7 +85,8 @@ parent_in section.OfChannel p x = of (Some p.own) (what.Param x)
 abbrev pub parent : Place → List ℕ → Meaning
 parent p x = parent_in p.section p x
 
--- WHAT A REFERENCE MEANS in an expression that stands there. Each means one value, or one key, or nothing.
+-- WHAT A REFERENCE MEANS in an expression that stands there. Each means one value, or one key, or
+-- nothing.
 abbrev pub meant : Place → Reference → Meaning
 meant p (Own x) = bare p x
 meant p (Scoped scope.This x) = this p x

@@ -12,16 +12,18 @@ use Rattle.inside_keys.specs.declared.place.Place.{Place}
 use Rattle.inside_keys.specs.declared.place.Section.{Section}
 use Rattle.inside_keys.specs.Places.{Scope}
 
--- where a module stands: the module around it, none around the network; its name, and its index where it is an element of a vector; and whether it
--- is what the type of that module declares under that name, or was created while the model ran
+-- where a module stands: the module around it, none around the network; its name, and its index
+-- where it is an element of a vector; and whether it is what the type of that module declares under
+-- that name, or was created while the model ran
 pub record Standing : Type 0 where
   pub around : Option Module
   pub name : List ℕ
   pub index : Option ℤ
   pub is_declared : Bool
 
--- ALL THAT VALUES REST ON: where each module stands; the number of the type of the network, and of what was created; whether a module is nested
--- too deep; what the first entry of the ini text says that matches the full path of a parameter; and the flat types
+-- ALL THAT VALUES REST ON: where each module stands; the number of the type of the network, and of
+-- what was created; whether a module is nested too deep; what the first entry of the ini text says
+-- that matches the full path of a parameter; and the flat types
 pub record Setting : Type 0 where
   pub stands : Module → Standing
   pub root : Module → Option ℕ
@@ -70,7 +72,8 @@ channel_place s m c section = record {
   channel = Some c;
 }
 
--- an expression that gives a value: where it stands, under which loop variables, and what its value has to be
+-- an expression that gives a value: where it stands, under which loop variables, and what its value
+-- has to be
 pub record Posed : Type 0 where
   pub expression : Expression
   pub place : Place

@@ -13,7 +13,8 @@ with_wiring s w = record { parts = s.parts; wiring = w; turns = s.turns; written
 abbrev pub grown : State → ℕ → State
 grown s n = with_wiring s (record { sizes = s.wiring.sizes ++ n ∷ []; links = s.wiring.links })
 
--- one part more, of the type of that number, whose gate vectors come next: an element of what was declared last, or all of it
+-- one part more, of the type of that number, whose gate vectors come next: an element of what was
+-- declared last, or all of it
 abbrev pub part_of_type : ℕ → ℕ → ℕ → Option ℕ → Part
 part_of_type first n line index = record { first = first; of_type = n; is_own = false; line = line; index = index }
 

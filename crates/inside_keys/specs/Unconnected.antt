@@ -30,7 +30,8 @@ first_lacking w role v = least (λ i. is_lacking w.links role (v, i)) 0 (slice_i
 abbrev pub lacks_one : Wired → Role → ℕ → Bool
 lacks_one w role v = nat_lt (first_lacking w role v) (slice_index w.sizes v)
 
--- what has to be connected of a gate: a submodule's is seen from outside, the module's own from within
+-- what has to be connected of a gate: a submodule's is seen from outside, the module's own from
+-- within
 abbrev pub needed : Bool → GateDirection → Role
 needed false Input = Target
 needed false Output = Source
@@ -41,7 +42,8 @@ needed own Inout = Both
 abbrev pub may_stay_free : List (List ℕ) → TypeGate → Bool
 may_stay_free loose g = g.kind.is_loose || is_some (position_of g.name loose)
 
--- whether a gate lacks a connection, which has that vector, where the gates of these names may stay free
+-- whether a gate lacks a connection, which has that vector, where the gates of these names may stay
+-- free
 abbrev pub gate_lacks : Wired → Bool → List (List ℕ) → ℕ → TypeGate → Bool
 gate_lacks w own loose v g = if may_stay_free loose g then false else lacks_one w (needed own g.kind.direction) v
 
@@ -75,7 +77,8 @@ abbrev pub lacking_in : TypeDeclaration → List TypeGates → Wired → List Pa
 lacking_in t gates w [] = None
 lacking_in t gates w (p ∷ ps) = or_else (lacking_from t gates w 1 ps) (own_lacking t gates w p)
 
--- THE FIRST PART with a gate that has to be connected and isn't: each submodule's on its outer side, the module's own on its inner side, unless the
--- connections of the type, or of what it extends, allow it, or the gate is loose
+-- THE FIRST PART with a gate that has to be connected and isn't: each submodule's on its outer
+-- side, the module's own on its inner side, unless the connections of the type, or of what it
+-- extends, allow it, or the gate is loose
 abbrev pub unconnected : TypeDeclaration → List TypeGates → Inside → Option ℕ
 unconnected t gates i = if t.connections.allow_unconnected then None else lacking_in t gates i.wiring i.parts.parts

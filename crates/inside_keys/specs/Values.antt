@@ -154,22 +154,26 @@ module _ (s : Setting) where
   abbrev pub type_named : List ℕ → Option TypeDeclaration
   type_named name = option_and_then (slice_get s.types) (position_of name (type_names s))
 
-  -- the type of that name that stands within a type, or else within what that extends, and so on, so many of them
+  -- the type of that name that stands within a type, or else within what that extends, and so on,
+  -- so many of them
   abbrev pub inner_along : ℕ → Option TypeDeclaration → List ℕ → Option ℕ
   inner_along n None name = None
   inner_along zero (Some t) name = None
   inner_along (suc n) (Some t) name = or_else (position_of (t.name ++ 46 ∷ name) (type_names s)) (inner_along n (option_and_then type_named t.base) name)
 
-  -- WHICH TYPE A NAME MEANS in the text of a type: one that stands in that, or in the nearest type that it extends, or a global one. Of a name with its
-  -- package the last part counts. No line of types without a circle is longer than there are types
+  -- WHICH TYPE A NAME MEANS in the text of a type: one that stands in that, or in the nearest type
+  -- that it extends, or a global one. Of a name with its package the last part counts. No line of
+  -- types without a circle is longer than there are types
   abbrev pub type_meant : TypeDeclaration → List ℕ → Option ℕ
   type_meant t name = or_else (inner_along (length s.types) (Some t) (last_name name)) (position_of (last_name name) (type_names s))
 
-  -- whether the body of a submodule gives a value to a parameter that has a fixed one in these lines
+  -- whether the body of a submodule gives a value to a parameter that has a fixed one in these
+  -- lines
   abbrev pub sets_fixed : List SectionLine → SubmoduleBody → Bool
   sets_fixed lines body = list_any (λ l. is_refixed lines l) body.lines
 
-  -- whether a type may stand after `like`: one of modules that says that it keeps the interface, and fixes nothing that the body sets
+  -- whether a type may stand after `like`: one of modules that says that it keeps the interface,
+  -- and fixes nothing that the body sets
   abbrev pub keeps : ParametricType → SubmoduleBody → TypeDeclaration → Bool
   keeps p body u = is_kind_of_modules u.kind && (is_one p.interface u.interfaces && not (sets_fixed u.lines body))
 
@@ -199,7 +203,8 @@ module _ (s : Setting) where
   type_asking_by around t p body None = Done (Err Unassigned)
   type_asking_by around t p body (Some w) = valued_then (meant_under [] (place_in s around section.OfInside)) (valued w.expression) (type_told t p body)
 
-  -- WHAT CHOOSES THE TYPE OF A SUBMODULE: `<e>`; or the first entry of the ini text that matches its path and `typename`; or `<default(e)>`
+  -- WHAT CHOOSES THE TYPE OF A SUBMODULE: `<e>`; or the first entry of the ini text that matches
+  -- its path and `typename`; or `<default(e)>`
   abbrev pub type_written : Module → ParametricType → Option Written
   type_written m p = first_given (given_in written.OfType p.given) (s.entry (type_path m))
 
@@ -245,7 +250,8 @@ module _ (s : Setting) where
   abbrev pub declared_asking : Module → TypeDeclaration → List ℕ → SubmoduleBody → Asked
   declared_asking m t g body = if has_vector (type_gates.gates_of t.gates) g then sized_or_open (gate_size_posed s m t body g) else Done (Err NoGate)
 
-  -- A FINISHED SIZE is read off the inside of the module around; nothing is connected around the network and around what was created
+  -- A FINISHED SIZE is read off the inside of the module around; nothing is connected around the
+  -- network and around what was created
   abbrev pub gate_size : Module → List ℕ → Option Module → Asked
   gate_size m g None = ask_then (key m (what.Declared g)) is
   gate_size m g (Some around) = typed_then around (λ n t. Ask (key around what.Joined) (size_read s t (s.stands m) g))

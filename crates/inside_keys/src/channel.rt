@@ -136,7 +136,8 @@ fn push_leaving(
     push_gate_of(path, gates, id, part)
 }
 
-/// The path of the channel of a connection from that gate, in a module whose submodules have these names, where the types have these gates.
+/// The path of the channel of a connection from that gate, in a module whose submodules have these
+/// names, where the types have these gates.
 pub fn channel_path(
     alloc: Global,
     site: &Module,

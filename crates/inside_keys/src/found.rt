@@ -6,7 +6,8 @@ use inside_wiring::wiring::{Carrier, Wiring};
 use sim_values::value::Value;
 use sqlite_items::Boxed;
 
-/// The inside of a compound module: its submodules, the sizes of their gate vectors and of its own, and the connections.
+/// The inside of a compound module: its submodules, the sizes of their gate vectors and of its own,
+/// and the connections.
 #[derive(Drop)]
 pub struct Inside {
     pub parts: Parts,
@@ -25,7 +26,8 @@ pub enum Found {
     Inside(Inside),
 }
 
-/// The inside of a compound module while it is built. It goes from step to step, so its large part stands in a box.
+/// The inside of a compound module while it is built. It goes from step to step, so its large part
+/// stands in a box.
 #[derive(Drop)]
 pub struct State {
     pub parts: Parts,

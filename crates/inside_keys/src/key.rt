@@ -12,15 +12,16 @@ use std::alloc::{AllocError, Global};
 /// A module that is there, or that would be: it needs no id.
 #[derive(PartialEq, Eq, Hash, Drop)]
 pub struct Module {
-    /// The number of the innermost module, of those around it and itself, that was created while the model ran; 0 where there is none. Modules
-    /// of one path can be created one after the other, with other values.
+    /// The number of the innermost module, of those around it and itself, that was created while
+    /// the model ran; 0 where there is none. Modules of one path can be created one after the
+    /// other, with other values.
     pub created: u32,
     /// Its full path.
     pub path: Text,
 }
 
-/// Where a connection is written: how many items stand after its own in the section of its type, and how many connections after it in its
-/// item.
+/// Where a connection is written: how many items stand after its own in the section of its type,
+/// and how many connections after it in its item.
 #[derive(Clone, Copy, PartialEq, Eq, Hash)]
 pub struct WrittenAt {
     pub items: usize,
@@ -66,7 +67,8 @@ pub enum What {
     Channel(ChannelAt, Text),
     /// What a channel in it does to messages.
     Carrier(ChannelAt),
-    /// Its submodules and connections, as far as gate sizes need them: without parameters and channels.
+    /// Its submodules and connections, as far as gate sizes need them: without parameters and
+    /// channels.
     Joined,
     /// Its whole inside.
     Inside,

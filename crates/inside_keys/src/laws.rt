@@ -8,7 +8,8 @@ pub fn worked()
     ensures { AreWorked }
 {}
 
-/// Channels without parameters, types that nothing names, and gates that stay free, worked out by hand.
+/// Channels without parameters, types that nothing names, and gates that stay free, worked out by
+/// hand.
 pub fn worked_channels()
     ensures { AreWorkedToo }
 {}

@@ -1,4 +1,5 @@
-//! What has a value in a model: parameters, types, conditions, sizes and the insides of compound modules; and what each of these rests on.
+//! What has a value in a model: parameters, types, conditions, sizes and the insides of compound
+//! modules; and what each of these rests on.
 #![tactic(auto)]
 
 pub mod channel;

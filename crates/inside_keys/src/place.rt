@@ -18,7 +18,8 @@ use std::alloc::Global;
 pub enum Section {
     /// The parameter section of the module's type, or the ini text.
     OfParameters,
-    /// What the module's type says of its gates and its inside: sizes of gates, submodules, connections.
+    /// What the module's type says of its gates and its inside: sizes of gates, submodules,
+    /// connections.
     OfInside,
     /// The body of the submodule that the module is.
     OfBody,

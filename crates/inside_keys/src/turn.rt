@@ -13,7 +13,8 @@ use std::alloc::{AllocError, Global};
 use std::hash::{Hash, Hasher};
 use std::marker::Model;
 
-/// The values of the loop variables in scope, the innermost first, which contracts see as their list.
+/// The values of the loop variables in scope, the innermost first, which contracts see as their
+/// list.
 pub struct Turn {
     numbers: Vec<i64>,
 }

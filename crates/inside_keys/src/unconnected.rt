@@ -156,7 +156,8 @@ fn gates_of(gates: &[TypeGates], number: usize) -> &[TypeGate]
     }
 }
 
-/// The number of the first of these parts of which a gate lacks a connection; the first of them has the number 1.
+/// The number of the first of these parts of which a gate lacks a connection; the first of them has
+/// the number 1.
 fn lacking_from(
     alloc: Global,
     declared: &TypeDeclaration,
@@ -196,8 +197,8 @@ fn lacking_in(
     Ok(None)
 }
 
-/// The number of the first part with a gate that has to be connected and isn't, in the inside of a module of that type, where the types have
-/// these gates.
+/// The number of the first part with a gate that has to be connected and isn't, in the inside of a
+/// module of that type, where the types have these gates.
 pub fn unconnected(
     alloc: Global,
     declared: &TypeDeclaration,

@@ -40,6 +40,7 @@ gates_from loose (l ∷ ls) g = gates_from loose ls (with_line loose l g)
 abbrev pub no_gates : TypeGates
 no_gates = record { names = []; gates = [] }
 
--- THE GATES of a flat type with these lines: those that are declared, in their order; a line without a direction may loosen one
+-- THE GATES of a flat type with these lines: those that are declared, in their order; a line
+-- without a direction may loosen one
 abbrev pub gates_of : List GateLine → TypeGates
 gates_of lines = gates_from (loosened lines) lines no_gates

@@ -22,11 +22,14 @@ pub enum Fault {
     Overflow,
     /// A quotient is no whole number, something is divided by zero, or an exponent is below zero.
     Inexact,
-    /// A value is of another kind than is wanted, or the size of a vector of submodules is negative.
+    /// A value is of another kind than is wanted, or the size of a vector of submodules is
+    /// negative.
     Mismatch,
-    /// A gate's index is out of range, no gate is free, or the size of a gate vector is outside 0 to 65,536.
+    /// A gate's index is out of range, no gate is free, or the size of a gate vector is outside 0
+    /// to 65,536.
     GateSize,
-    /// There is no such submodule or gate, its direction is another, or it is a vector where a single gate is named, or the other way round.
+    /// There is no such submodule or gate, its direction is another, or it is a vector where a
+    /// single gate is named, or the other way round.
     NoGate,
     /// A gate is used by two connections.
     AlreadyConnected,

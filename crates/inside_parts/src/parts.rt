@@ -3,7 +3,8 @@
 use crate::gates::GateKind;
 use sqlite_items::Items;
 
-/// What was made of a submodule's declaration: nothing, one part, or a vector of so many parts from a number on.
+/// What was made of a submodule's declaration: nothing, one part, or a vector of so many parts from
+/// a number on.
 #[derive(Clone, Copy)]
 pub enum Made {
     Absent,
@@ -11,8 +12,8 @@ pub enum Made {
     Vector(usize, u32),
 }
 
-/// The compound module itself or a submodule: the number of its first gate vector among those of the whole inside, and the number of
-/// its type among all types.
+/// The compound module itself or a submodule: the number of its first gate vector among those of
+/// the whole inside, and the number of its type among all types.
 #[derive(Clone, Copy)]
 pub struct Part {
     pub first: usize,
@@ -24,16 +25,17 @@ pub struct Part {
     pub index: Option<u32>,
 }
 
-/// What the ends of connections can name: what was made of each declaration, in their order, and the parts. Part 0 is the compound module
-/// itself.
+/// What the ends of connections can name: what was made of each declaration, in their order, and
+/// the parts. Part 0 is the compound module itself.
 #[derive(Drop)]
 pub struct Parts {
     pub made: Items<Made>,
     pub parts: Items<Part>,
 }
 
-/// A gate that an end names: the number of its part, the number of its vector among those of the whole inside, what its type says of it, and
-/// whether it is the compound module's own. A single gate counts as a vector of one.
+/// A gate that an end names: the number of its part, the number of its vector among those of the
+/// whole inside, what its type says of it, and whether it is the compound module's own. A single
+/// gate counts as a vector of one.
 #[derive(Clone, Copy)]
 pub struct NamedGate {
     pub part: usize,

@@ -137,7 +137,8 @@ fn number_at(turn: &Turn, place: usize) -> i64
     turn.as_slice()[place]
 }
 
-/// Binds the variable of a clause, where it is a loop: so many numbers of the turn are left, those of inner loops first.
+/// Binds the variable of a clause, where it is a loop: so many numbers of the turn are left, those
+/// of inner loops first.
 fn bind(
     scope: &mut Stack<Binding>,
     alloc: Global,

@@ -146,7 +146,8 @@ fn size_of_gate<'m>(
     Ok(Moved::Done(Found::Value(Value::Whole(i64::from(size)))))
 }
 
-/// The size of a gate of what stands there, by the inside of the module around, whose submodules have these names.
+/// The size of a gate of what stands there, by the inside of the module around, whose submodules
+/// have these names.
 pub fn size_from<'m, S: Scene>(
     scene: &S,
     names: &Names,

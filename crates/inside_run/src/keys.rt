@@ -272,7 +272,8 @@ fn begin_reading<'m>(
     read(alloc, site, reading, submodule)
 }
 
-/// Begins with something of a module of that type, which has that number; this is the number as a value.
+/// Begins with something of a module of that type, which has that number; this is the number as a
+/// value.
 pub fn asked_in<'m, S: Scene>(
     alloc: Global,
     scene: &'m S,

@@ -1,4 +1,5 @@
-//! Values in a model by what each key asks: the inside of a compound module is built until a value is needed.
+//! Values in a model by what each key asks: the inside of a compound module is built until a value
+//! is needed.
 #![tactic(auto)]
 
 pub mod asker;

@@ -75,7 +75,8 @@ fn blamed(
     }
 }
 
-/// What comes of the inside of a module, or the first fault with its path. Values are looked for in the table, and noted there.
+/// What comes of the inside of a module, or the first fault with its path. Values are looked for in
+/// the table, and noted there.
 pub fn placed<S: Scene>(
     alloc: Global,
     scene: &S,

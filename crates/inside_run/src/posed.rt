@@ -41,7 +41,8 @@ use sim_values::value::Value;
 use sqlite_items::Boxed;
 use std::alloc::Global;
 
-/// An expression that gives a value: where it stands, under which loop variables, and what its value has to be.
+/// An expression that gives a value: where it stands, under which loop variables, and what its
+/// value has to be.
 #[derive(Drop)]
 pub struct Posable<'m> {
     pub expression: &'m Expression,
@@ -248,7 +249,8 @@ pub fn given_in(section: WrittenSection, value: Option<&ParameterValue>) -> Opti
     }
 }
 
-/// What gives a parameter its value, of what the NED text gives it and what the ini text says for it.
+/// What gives a parameter its value, of what the NED text gives it and what the ini text says for
+/// it.
 pub fn chosen<'m>(given: Option<Given<'m>>, entry: Option<&'m EntryValue>) -> Option<Written<'m>>
     ensures { maybe_written result ≡ first_given (given_by given.entry) (option_copied entry.entry) }
 {
@@ -364,7 +366,8 @@ fn parameter_declared<'m, S: Scene>(
     }))
 }
 
-/// What gives a parameter of a module its value, which is of that type, and declared by that submodule.
+/// What gives a parameter of a module its value, which is of that type, and declared by that
+/// submodule.
 pub fn parameter<'m, S: Scene>(
     alloc: Global,
     scene: &'m S,

@@ -75,12 +75,14 @@ pub struct Walking<'m> {
     pub state: State,
 }
 
-/// A key that is being evaluated, by the value that it waits for. It goes from hand to hand at each value, so what is large in it stands in boxes.
+/// A key that is being evaluated, by the value that it waits for. It goes from hand to hand at each
+/// value, so what is large in it stands in boxes.
 #[derive(Drop)]
 pub enum Progress<'m> {
     /// The type of its module.
     OwnType(Module, What),
-    /// The type of the second module, which is around the first and declares it under that name. The first one's type is wanted.
+    /// The type of the second module, which is around the first and declares it under that name.
+    /// The first one's type is wanted.
     TypeAround(Module, Module, Text),
     /// The same, for what it says in the body of the module, which is of that type.
     BodyAround(Module, What, &'m TypeDeclaration, Text),

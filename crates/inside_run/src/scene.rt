@@ -26,7 +26,8 @@ pub struct Stands {
     pub name: Text,
     /// Its index, where it is an element of a vector.
     pub index: Option<i64>,
-    /// It is what the type of the module around declares under that name; or else it was created while the model ran.
+    /// It is what the type of the module around declares under that name; or else it was created
+    /// while the model ran.
     pub is_declared: bool,
 }
 
@@ -77,7 +78,8 @@ pub trait Scene {
         ensures { IfOk result (λ found. option_copied found ≡ (setting self.now).entry path.now) };
 }
 
-/// The submodule of that name that the type of that number declares, found by hashing. Only a name that isn't there is looked for by going through all.
+/// The submodule of that name that the type of that number declares, found by hashing. Only a name
+/// that isn't there is looked for by going through all.
 pub fn submodule_in<'m, S: Scene>(
     scene: &S,
     number: usize,

@@ -134,7 +134,8 @@ fn gives_fixed(name: &[u8], line: &SectionLine) -> bool
     fixes(line) && name_in(line) == name
 }
 
-/// Whether the body of a submodule gives a value to a parameter that has a fixed one in these lines.
+/// Whether the body of a submodule gives a value to a parameter that has a fixed one in these
+/// lines.
 fn sets_fixed(lines: &[SectionLine], body: &SubmoduleBody) -> bool
     ensures { result ≡ list_any (λ l. is_refixed lines.now l) body.now.lines }
 {

@@ -24,9 +24,9 @@ pub fn empty_table<S: Scene>(alloc: Global, _scene: &S) -> Table<Key, Found>
     engine::empty_table(alloc, &Keys { scene: _scene })
 }
 
-/// The value of a key, as its place in the table, or its fault. The table, of which nothing is asked but that it knows
-/// values of this model, has what it had, and after that the values that were found on the way; also after a fault, and
-/// after lack of memory.
+/// The value of a key, as its place in the table, or its fault. The table, of which nothing is
+/// asked but that it knows values of this model, has what it had, and after that the values that
+/// were found on the way; also after a fault, and after lack of memory.
 pub fn value_of<S: Scene>(
     alloc: Global,
     scene: &S,

@@ -209,7 +209,8 @@ turns_of (next.Ask k w s) = s.turns
 turns_of (next.At e t w s) = s.turns
 turns_of (next.Carry k c s) = s.turns
 
--- What a step leaves to be done is less than a weight and what the tasks before it had, where each turn that is left counts as much as `most`.
+-- What a step leaves to be done is less than a weight and what the tasks before it had, where each
+-- turn that is left counts as much as `most`.
 pub record IsSpent (g : Ground) (most weight : ℕ) (before : List Task) (n : ℕ) (found : Next) (ts : List Task) : Type 0 where
   pub cost : cost_of_next found ≤ most
   pub costs : cost_of_tasks ts ≤ most

@@ -198,7 +198,8 @@ fn channel_of<'m>(is_whole: bool, connection: &'m Connection) -> Option<&'m Chan
     }
 }
 
-/// Two gates are joined: what the channel does in the one direction and in the other, and then the connection.
+/// Two gates are joined: what the channel does in the one direction and in the other, and then the
+/// connection.
 pub fn joined<'m>(
     alloc: Global,
     ground: &Ground<'m>,

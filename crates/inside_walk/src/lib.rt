@@ -1,4 +1,5 @@
-//! The inside of a compound module as it is built: it stops where it needs the value of a key, and goes on with it.
+//! The inside of a compound module as it is built: it stops where it needs the value of a key, and
+//! goes on with it.
 #![tactic(auto)]
 
 pub mod ends;

@@ -46,7 +46,8 @@ fn grown(alloc: Global, state: State, size: u32) -> Result<State, NoMemory>
     })
 }
 
-/// One part more, of the type of that number, whose gate vectors come next: an element of what was declared last, or all of it.
+/// One part more, of the type of that number, whose gate vectors come next: an element of what was
+/// declared last, or all of it.
 fn part_added(state: State, number: usize, index: Option<u32>) -> Result<State, NoMemory>
     ensures { IfOk result (λ s. s ≡ states.part_added state number index) }
 {
@@ -216,7 +217,8 @@ fn asked_lines(is_whole: bool, declared: &TypeDeclaration) -> &[SectionLine]
     }
 }
 
-/// A size that is given to what is no gate vector of a submodule of that type, which has that number.
+/// A size that is given to what is no gate vector of a submodule of that type, which has that
+/// number.
 fn misplaced_of<'m>(
     ground: &Ground<'m>,
     submodule: &'m Submodule,
@@ -228,7 +230,8 @@ fn misplaced_of<'m>(
     misplaced_in(gates_at(ground.gates, number), declared, &submodule.body)
 }
 
-/// What asks for the declared sizes of a submodule's gates, where one may be given to what is no gate vector.
+/// What asks for the declared sizes of a submodule's gates, where one may be given to what is no
+/// gate vector.
 fn sizes_task<'m>(holder: Module, misplaced: Option<&'m Text>, gates: &'m [TypeGate]) -> Task<'m>
     ensures { result ≡ sizes_task holder misplaced.entry gates.entry }
 {

@@ -60,7 +60,8 @@ pub enum Task<'m> {
     Parameters(Module, &'m [SectionLine]),
     /// The sizes of these gates of the module or of a submodule are asked for.
     Gates(Module, Sort, &'m [TypeGate]),
-    /// A size is given to what is no gate vector of that name, of a submodule: it is asked for, and refused.
+    /// A size is given to what is no gate vector of that name, of a submodule: it is asked for, and
+    /// refused.
     Misplaced(Module, &'m Text),
     /// So many elements of a vector are left, of so many.
     Elements(&'m Submodule, u32, u32),
@@ -68,7 +69,8 @@ pub enum Task<'m> {
     Items(&'m [ConnectionItem]),
     Connections(&'m [ConnectionLine]),
     Clauses(&'m [Clause], Body<'m>),
-    /// A loop: its variable, the number that this has now, the last one; and what is done in each turn.
+    /// A loop: its variable, the number that this has now, the last one; and what is done in each
+    /// turn.
     Turns(&'m Text, i64, i64, &'m [Clause], Body<'m>),
     End(&'m Connection, Side),
 }

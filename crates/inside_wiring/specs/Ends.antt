@@ -37,7 +37,8 @@ abbrev pub within : ℕ → ℕ → ℕ → Option ℕ → Option ℕ
 within all first count None = None
 within all first count (Some i) = if nat_lt i count && nat_lt (first + i) all then Some (first + i) else None
 
--- the number of the part that a name without or with an index means, by what was made of the declaration of that name
+-- the number of the part that a name without or with an index means, by what was made of the
+-- declaration of that name
 abbrev pub part_of : ℕ → Option Made → Option ℤ → Option ℕ
 part_of all (Some (Single part)) None = Some part
 part_of all (Some (Single part)) (Some z) = None
@@ -50,7 +51,8 @@ abbrev pub part_at : Parts → Option ℕ → Option ℤ → Option ℕ
 part_at ps None index = None
 part_at ps (Some line) index = part_of (length ps.parts) (slice_get ps.made line) index
 
--- WHICH SUBMODULE a name and an index mean, where these are the names of those that are declared: the number of its part
+-- WHICH SUBMODULE a name and an index mean, where these are the names of those that are declared:
+-- the number of its part
 abbrev pub part_named : List (List ℕ) → Parts → List ℕ → Option ℤ → Result ℕ Fault
 part_named names ps name index = or_fault NoGate (part_at ps (position_of name names) index)
 
@@ -72,11 +74,13 @@ abbrev pub gate_of : ℕ → ℕ → List TypeGates → List ℕ → Option Part
 gate_of count number types name None = None
 gate_of count number types name (Some part) = gate_of_part count number name part (slice_get types part.of_type)
 
--- WHICH GATE a name means in a part, where the types have these gates; `count` is the number of all gate vectors
+-- WHICH GATE a name means in a part, where the types have these gates; `count` is the number of all
+-- gate vectors
 abbrev pub gate_named : List TypeGates → Parts → ℕ → ℕ → List ℕ → Result NamedGate Fault
 gate_named types ps count part name = or_fault NoGate (gate_of count part types name (slice_get ps.parts part))
 
--- whether a half of a gate gives what a role needs: inside a compound module its own gates are seen from within
+-- whether a half of a gate gives what a role needs: inside a compound module its own gates are seen
+-- from within
 abbrev pub through : Bool → Half → Role → Bool
 through own Input Source = own
 through own Input Target = not own

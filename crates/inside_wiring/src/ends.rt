@@ -17,7 +17,8 @@ use ned_trees::declarations::GateDirection;
 use sim_values::NoMemory;
 use sim_values::text::Text;
 
-/// A gate that an end of a connection takes, and the connections so far with the vector extended where it had to be.
+/// A gate that an end of a connection takes, and the connections so far with the vector extended
+/// where it had to be.
 #[derive(Drop)]
 pub struct Taken {
     pub wiring: Wiring,
@@ -47,7 +48,8 @@ fn part_within(all: usize, first: usize, count: u32, index: Option<u64>) -> Opti
     }
 }
 
-/// The number of the part that an index means, by what was made of the declaration; there are so many parts.
+/// The number of the part that an index means, by what was made of the declaration; there are so
+/// many parts.
 fn made_part(all: usize, made: Option<Made>, index: Option<i64>) -> Option<usize>
     ensures { result ≡ ends.part_of all made index }
 {
@@ -64,7 +66,8 @@ fn made_part(all: usize, made: Option<Made>, index: Option<i64>) -> Option<usize
     }
 }
 
-/// The number of the part of that name and index, where the submodules that are declared have these names.
+/// The number of the part of that name and index, where the submodules that are declared have these
+/// names.
 pub fn part_named(
     submodules: &Names,
     parts: &Parts,
@@ -306,7 +309,8 @@ pub fn right_role(arrow: Arrow) -> Role
     }
 }
 
-/// The gate that the other end of the same connection has taken, where both ends take the same halves.
+/// The gate that the other end of the same connection has taken, where both ends take the same
+/// halves.
 pub fn beside(arrow: Arrow, taken: GateId) -> Option<GateId>
     ensures { result ≡ ends.beside arrow taken }
 {

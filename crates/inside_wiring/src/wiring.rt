@@ -1,4 +1,5 @@
-//! The connections of a compound module while they are made: what is connected, how large the gate vectors are, and the first free gates.
+//! The connections of a compound module while they are made: what is connected, how large the gate
+//! vectors are, and the first free gates.
 
 ghost use Rattle.std.specs.Prelude.{◌≡◌, ◌<◌, ◌≤◌, ◌+◌, ◌++◌, ◌∷◌, [], ℕ, IfOk, Option, slice_index, slice_set, length, Some, false};
 ghost use Rattle.std.specs.Option.{option_copied};
@@ -10,7 +11,8 @@ use std::alloc::Global;
 use std::collections::HashMap;
 use std::marker::Model;
 
-/// A gate: the number of its part, the number of its gate vector among those of the whole inside, and its index.
+/// A gate: the number of its part, the number of its gate vector among those of the whole inside,
+/// and its index.
 #[derive(Clone, Copy)]
 pub struct GateId {
     pub part: usize,
@@ -18,7 +20,8 @@ pub struct GateId {
     pub index: u32,
 }
 
-/// What a connection takes of a gate: the half that messages leave by, the half that they come in by, or both halves.
+/// What a connection takes of a gate: the half that messages leave by, the half that they come in
+/// by, or both halves.
 #[derive(Clone, Copy, PartialEq, Eq)]
 pub enum Role {
     Source,
@@ -54,7 +57,8 @@ pub struct Link {
     pub carrier: Carrier,
 }
 
-/// The sizes of the gate vectors and the connections made so far, with tables of what is connected and hints to the first free gates.
+/// The sizes of the gate vectors and the connections made so far, with tables of what is connected
+/// and hints to the first free gates.
 #[derive(Drop)]
 pub struct Wiring {
     sizes: Vec<u32>,
@@ -271,7 +275,8 @@ impl Wiring {
         })
     }
 
-    /// Raises the hint of a gate vector to the index that `++` took, unless the other end is in the same vector.
+    /// Raises the hint of a gate vector to the index that `++` took, unless the other end is in the
+    /// same vector.
     pub fn note_next(
         self,
         other: Option<GateId>,

@@ -95,7 +95,8 @@ module _ (b : Behaviour) (m : Answers) (follow : Reply → World → Flow) (id :
       ap (λ (ms : List Instance). follow reply (with_modules ms core)) modules_after
       ∙ ap (λ (x : Reply). follow x (changed id said.state (world_of core old))) told_reply
 
--- A CALL in code is a call of the definitions, where what follows its reply is what follows it there
+-- A CALL in code is a call of the definitions, where what follows its reply is what follows it
+-- there
 calling_is : (b : Behaviour) (m : Answers) (follow : Reply → World → Flow) (id : ℕ) (p : Prompt) (core left : World) (old new : List Seat) (reply : Reply) (turn : Turn) → AreOfKinds b old → IsCalled id old new (call_of m id p core) (Ok reply)
     → flow_of turn left ≡ follow reply (world_of core new) → flow_of turn left ≡ calling b m follow id p (world_of core old)
 calling_is b m follow id p core left old new reply turn kinds s e =

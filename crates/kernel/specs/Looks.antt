@@ -12,7 +12,8 @@ use Rattle.kernel_actions.specs.Upcoming.{upcoming_of}
 abbrev pub injection_asked : Answers → World → Answer
 injection_asked m w = answer_of m w.records (InjectionBefore (first_due w.pending) w.delivered)
 
--- ONE LOOK: what comes next, however many injections may be discarded after it; or an injection is discarded, and the next one is looked at
+-- ONE LOOK: what comes next, however many injections may be discarded after it; or an injection is
+-- discarded, and the next one is looked at
 abbrev pub LooksOn : Answers → World → Option Next → World → Type 0
 LooksOn m w (Some n) w' = (left : ℕ) → upcoming_in (suc left) m w.pending w ≡ upcoming_of n w'
 LooksOn m w None w' = (left : ℕ) → upcoming_in (suc left) m w.pending w ≡ upcoming_in left m w.pending w'

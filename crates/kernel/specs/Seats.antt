@@ -46,14 +46,16 @@ stages_of (Some box) = Some box.naming.stages
 abbrev pub request_for : World → Part → Request
 request_for w p = record { kind = p.kind; path = path_of w.records p.id; id = p.id }
 
--- THE BOX THAT IS WANTED where there are these: for the first of the modules that need one and have none
+-- THE BOX THAT IS WANTED where there are these: for the first of the modules that need one and have
+-- none
 abbrev pub missing_part : World → List Part → Option Part
 missing_part w boxes = first_without boxes (needs w)
 
 abbrev pub missing_of : World → List Part → Option Request
 missing_of w boxes = option_map (request_for w) (missing_part w boxes)
 
--- THE BOX THAT IS WANTED where a run goes back to a position of these modules: that of the first one of which none stays
+-- THE BOX THAT IS WANTED where a run goes back to a position of these modules: that of the first
+-- one of which none stays
 abbrev pub lacking_of : World → List Instance → List Seat → Option Request
 lacking_of w saved seats = option_map (request_for w) (first_without (standing (map instance_of (staying saved seats))) (standing saved))
 

@@ -7,7 +7,7 @@ use Rattle.run_semantics.specs.World.{World}
 use Rattle.run_semantics.specs.Perform.{Flow, ◌>>=◌, asking, flow_of, for_each}
 use Rattle.run_semantics.specs.Run.{built}
 
--- A module was asked about, and its submodules were created: whatever is done for each of these ids that are left, it leads where the setup of the
--- module leads that does the same.
+-- A module was asked about, and its submodules were created: whatever is done for each of these ids
+-- that are left, it leads where the setup of the module leads that does the same.
 abbrev pub HasBuilt : Answers → ℕ → World → Turn → List ℕ → World → Type 0
 HasBuilt m id before turn left after = (inner : ℕ → World → Flow) → (flow_of turn after >>= for_each inner left) ≡ asking m (Build id) (built inner id) before

@@ -47,7 +47,8 @@ pub fn call_shown(core: &Core, id: u32, prompt: Prompt, shown: Shown) -> Call
 
 // ---- replies
 
-/// The fault of the read at that place of a reply, if it has one. A parameter that the call had has none, and is not looked up again.
+/// The fault of the read at that place of a reply, if it has one. A parameter that the call had has
+/// none, and is not looked up again.
 fn fault_at<A: Answers>(
     core: &Core,
     alloc: Global,
@@ -91,7 +92,8 @@ pub fn read_fault<A: Answers>(
 
 // ---- what comes next
 
-/// Asks for the injection that goes before the first event to come. The question is of the event after.
+/// Asks for the injection that goes before the first event to come. The question is of the event
+/// after.
 pub fn ask_injection<A: Answers>(
     core: &Core,
     alloc: Global,
@@ -143,7 +145,8 @@ fn compounds_behind(alloc: Global, last: usize, inside: &[Built]) -> Result<Item
     Ok(ids)
 }
 
-/// Asks what is inside of a module, and creates its submodules. The compound ones of them are still to be set up.
+/// Asks what is inside of a module, and creates its submodules. The compound ones of them are still
+/// to be set up.
 fn build<A: Answers>(
     core: &mut Core,
     alloc: Global,
@@ -166,7 +169,8 @@ fn build<A: Answers>(
     }
 }
 
-/// Sets a compound module up, with so many levels from its own on. Modules are nested at most 32 deep, so a call nests no deeper.
+/// Sets a compound module up, with so many levels from its own on. Modules are nested at most 32
+/// deep, so a call nests no deeper.
 fn set_up<A: Answers>(
     core: &mut Core,
     alloc: Global,

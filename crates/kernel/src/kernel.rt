@@ -190,8 +190,8 @@ impl<C: Catalogue> Kernel<C> {
         part_behind(self.core.records(), waiting.last().unwrap_or(0))
     }
 
-    /// What the run asks for before the network is started: a box for the first module that needs one and has none of those that wait.
-    /// They were supplied by rising ids.
+    /// What the run asks for before the network is started: a box for the first module that needs
+    /// one and has none of those that wait. They were supplied by rising ids.
     pub fn missing(
         &self,
         alloc: Global,
@@ -332,7 +332,8 @@ impl<C: Catalogue> Kernel<C> {
         self.act_all(alloc, model, occasion, id, actions)
     }
 
-    /// Carries out the reply to a call: its reads are asked, and then its actions are performed, unless a read has a fault.
+    /// Carries out the reply to a call: its reads are asked, and then its actions are performed,
+    /// unless a read has a fault.
     #[tactic(auto, using(kernel_actions::proofs::Lasting::growth_same))]
     fn follow<A: Answers>(
         &mut self,
@@ -362,7 +363,8 @@ impl<C: Catalogue> Kernel<C> {
 
     // ---- calls
 
-    /// What the module that is called replies, where it has a box. The box is taken out for the call, and put back after it.
+    /// What the module that is called replies, where it has a box. The box is taken out for the
+    /// call, and put back after it.
     fn reply_of(&mut self, alloc: Global, call: &Call) -> Option<Result<Reply, NoMemory>>
         ensures core { self.new.core ≡ self.old.core }
         ensures served { IsServed call.now.id (seats_in SimpleModule-box self.old)
@@ -376,7 +378,8 @@ impl<C: Catalogue> Kernel<C> {
         Some(reply)
     }
 
-    /// Calls the module that the call names, and does what its reply says. A call of what isn't there is passed over.
+    /// Calls the module that the call names, and does what its reply says. A call of what isn't
+    /// there is passed over.
     #[tactic(auto, using(kernel_actions::proofs::Lasting::growth_same))]
     fn carry_out<A: Answers>(
         &mut self,
@@ -402,7 +405,8 @@ impl<C: Catalogue> Kernel<C> {
         self.follow(alloc, model, occasion, call, &reply)
     }
 
-    /// One call of the module of that id. What calls show of it is taken out of the table for the call, and put back after it.
+    /// One call of the module of that id. What calls show of it is taken out of the table for the
+    /// call, and put back after it.
     #[tactic(auto, using(kernel_actions::proofs::Lasting::growth_same))]
     fn call_module<A: Answers>(
         &mut self,
@@ -573,8 +577,9 @@ impl<C: Catalogue> Kernel<C> {
         Ok(self.settle(turn))
     }
 
-    /// Starts the network that was set up, the end of event zero: each simple module has its box, of those that waited, and all modules are
-    /// initialized. None waits from then on. What calls show of modules is taken from the table, or found and put in there.
+    /// Starts the network that was set up, the end of event zero: each simple module has its box,
+    /// of those that waited, and all modules are initialized. None waits from then on. What calls
+    /// show of modules is taken from the table, or found and put in there.
     pub fn start<A: Answers>(
         &mut self,
         alloc: Global,
@@ -628,7 +633,8 @@ impl<C: Catalogue> Kernel<C> {
         Ok(None)
     }
 
-    /// Looks at one injection more: an event comes of it, or it is discarded, or none goes before the first event to come.
+    /// Looks at one injection more: an event comes of it, or it is discarded, or none goes before
+    /// the first event to come.
     fn look_on<A: Answers>(
         &self,
         alloc: Global,
@@ -667,8 +673,9 @@ impl<C: Catalogue> Kernel<C> {
         Ok((look, Next::Nothing))
     }
 
-    /// The next event, or how the run ends. The caller has looked up once what stays the same for all events: the model's time
-    /// limit, in picoseconds, and what calls show of modules, which is taken from the table, or found and put in there.
+    /// The next event, or how the run ends. The caller has looked up once what stays the same for
+    /// all events: the model's time limit, in picoseconds, and what calls show of modules, which is
+    /// taken from the table, or found and put in there.
     #[tactic(auto, using(kernel_actions::proofs::Lasting::growth_same))]
     pub fn step<A: Answers>(
         &mut self,
@@ -745,7 +752,8 @@ impl<C: Catalogue> Kernel<C> {
         self.call_module(alloc, model, shown, Occasion::End, id, Prompt::Finish)
     }
 
-    /// Finishes the module of that id: a simple one is told first, a compound one just counts as finished.
+    /// Finishes the module of that id: a simple one is told first, a compound one just counts as
+    /// finished.
     #[tactic(auto, using(kernel_actions::proofs::Lasting::growth_same))]
     fn finish_one<A: Answers>(
         &mut self,
@@ -802,8 +810,8 @@ impl<C: Catalogue> Kernel<C> {
         Ok(Turn::GoOn)
     }
 
-    /// Finishes the modules of a run that ended so, and answers how it ends then. What calls show of modules is taken from the table, or found
-    /// and put in there.
+    /// Finishes the modules of a run that ended so, and answers how it ends then. What calls show
+    /// of modules is taken from the table, or found and put in there.
     #[tactic(auto, using(kernel_actions::proofs::Lasting::growth_same))]
     pub fn finish<A: Answers>(
         &mut self,
@@ -847,9 +855,11 @@ impl<C: Catalogue> Kernel<C> {
         self.core.position(alloc, modules)
     }
 
-    /// Goes back to a position, or asks for the box that it needs first. The boxes of its modules, of the same ids and kinds, stay, and
-    /// all others are dropped; where each of its modules has one then, each box takes its state. After NoMemory the states of the boxes are not
-    /// known, and all else is as it was but for the boxes that were dropped: it can go back again, to this position or another one.
+    /// Goes back to a position, or asks for the box that it needs first. The boxes of its modules,
+    /// of the same ids and kinds, stay, and all others are dropped; where each of its modules has
+    /// one then, each box takes its state. After NoMemory the states of the boxes are not known,
+    /// and all else is as it was but for the boxes that were dropped: it can go back again, to this
+    /// position or another one.
     pub fn go_back(
         &mut self,
         alloc: Global,
@@ -881,7 +891,8 @@ impl<C: Catalogue> Kernel<C> {
         }
     }
 
-    /// What is asked for where a run goes back to a position: a box for the first of its modules that has none.
+    /// What is asked for where a run goes back to a position: a box for the first of its modules
+    /// that has none.
     fn lacking(&self, alloc: Global, position: &Position) -> Result<Option<Request>, NoMemory>
         ensures { let world = world_in SimpleModule-box self.now in
             IfOk result (λ wanted.
@@ -897,8 +908,8 @@ impl<C: Catalogue> Kernel<C> {
         }
     }
 
-    /// Goes back to a position whose modules are those that have boxes: each box takes its state. After NoMemory the states of
-    /// the boxes are not known, and all else is as it was.
+    /// Goes back to a position whose modules are those that have boxes: each box takes its state.
+    /// After NoMemory the states of the boxes are not known, and all else is as it was.
     fn load_position(&mut self, alloc: Global, position: &Position) -> Result<(), NoMemory>
         requires { CanTake C.behaviour position.now.modules (seats_in SimpleModule-box self.old) }
         ensures kept { KeepsBoxes C.behaviour SimpleModule-box self.old self.new }
@@ -914,8 +925,9 @@ impl<C: Catalogue> Kernel<C> {
         Ok(())
     }
 
-    /// Cuts the lists that only grow while a run goes on to what they were at a position. The boxes, the events to come and all else
-    /// stay, and it takes no memory: what was noted since the position is dropped, and the kernel can still go back to it.
+    /// Cuts the lists that only grow while a run goes on to what they were at a position. The
+    /// boxes, the events to come and all else stay, and it takes no memory: what was noted since
+    /// the position is dropped, and the kernel can still go back to it.
     pub fn cut_back(&mut self, position: &Position)
         ensures world { world_in SimpleModule-box self.new
             ≡ cut_to position.now.lengths (world_in SimpleModule-box self.old) }

@@ -1,4 +1,5 @@
--- What is in the lists of a world that only grow stays there, whatever an event or the end did before memory ran out.
+-- What is in the lists of a world that only grow stays there, whatever an event or the end did
+-- before memory ran out.
 use Rattle.std.proofs.Common.{◌≡◌, IfOk, OnErr, Result, Ok, Err, append-nil, append_assoc, ℕ, suc, ◌+◌, ◌≤◌, ◌<◌, Bool, true, false, List, [], ◌∷◌, ◌++◌, Option, Some, None, refl, sym, ap, ◌∙◌, arith, subst, drop, get_or, length, slice_get, option_copied, Bor, if◌then◌else◌, ℤ, nat_lt}
 use Rattle.std.proofs.Math.ListN.{drop_of_length-le}
 use Rattle.std.proofs.Math.Seq.{drop-cons}

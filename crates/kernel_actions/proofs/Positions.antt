@@ -17,7 +17,8 @@ cut_twice (suc m) zero xs h = absurd (omega (arith, h))
 cut_twice (suc m) (suc n) [] h = refl
 cut_twice (suc m) (suc n) (x ∷ xs) h = ap (λ ys. x ∷ ys) (cut_twice m n xs (omega (arith, h)))
 
--- A POSITION STAYS GOOD: the world that it was taken of is that of the position, whatever the run did since
+-- A POSITION STAYS GOOD: the world that it was taken of is that of the position, whatever the run
+-- did since
 pub back_when_grown : (old new : World) → IsGrownFrom old new → world_back (position_of old) new ≡ old
 back_when_grown old new g =
     rw (cut_grown old.records new.records g.records, cut_grown old.dead new.dead g.dead, cut_grown old.started new.started g.started, cut_grown old.finished new.finished g.finished, cut_grown old.emissions new.emissions g.emissions, cut_grown old.scalars new.scalars g.scalars, cut_grown old.questions new.questions g.questions) refl

@@ -58,8 +58,8 @@ cut_to l w = record w {
 abbrev pub core_back : Position → World → World
 core_back p w = world_with p (cut_to p.lengths w)
 
--- THE WORLD OF A POSITION: of a world that has grown since, the lists that only grow are cut to their lengths; all else is
--- the position's own
+-- THE WORLD OF A POSITION: of a world that has grown since, the lists that only grow are cut to
+-- their lengths; all else is the position's own
 abbrev pub world_back : Position → World → World
 world_back p w = record (core_back p w) { modules = p.modules }
 

@@ -60,7 +60,8 @@ pub record IsTooLate (limit : Option ℕ) (u : Upcoming) (before after : World) 
   pub late : is_beyond limit event.time ≡ true
   pub same : after ≡ before
 
--- WHAT BEGINS, where the time limit is this one: an event; or nothing, and then the world is what it was
+-- WHAT BEGINS, where the time limit is this one: an event; or nothing, and then the world is what
+-- it was
 abbrev pub Begins : Option ℕ → Upcoming → World → Result Pending Outcome → World → Type 0
 Begins limit u before (Ok p) after = BeginsWith limit u p after
 Begins limit u before (Err NoMoreEvents) after = HasNone u before after

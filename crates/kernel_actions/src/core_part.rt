@@ -424,7 +424,8 @@ impl Core {
         self.questions.note(alloc, self.count, question)
     }
 
-    /// Notes the question of what a module reads, at that place of what its reply reads, unless it was asked before.
+    /// Notes the question of what a module reads, at that place of what its reply reads, unless it
+    /// was asked before.
     fn ask_read(
         &mut self,
         alloc: Global,
@@ -503,7 +504,8 @@ impl Core {
         }
     }
 
-    /// Asks for the injection, of these, that goes before the first event to come. The question is of the event after.
+    /// Asks for the injection, of these, that goes before the first event to come. The question is
+    /// of the event after.
     pub fn ask_injection(
         &self,
         alloc: Global,
@@ -526,7 +528,8 @@ impl Core {
         }
     }
 
-    /// An event begins that is due then: it is counted, and what was asked before is noted, with the question whether the time limit allows it.
+    /// An event begins that is due then: it is counted, and what was asked before is noted, with
+    /// the question whether the time limit allows it.
     fn begin_event(&mut self, alloc: Global, look: Look, time: SimTime) -> Result<(), NoMemory>
         requires { self.old.count + 1 < 2 ^ 64 }
         ensures begun { let world = looked self.old look in
@@ -598,7 +601,8 @@ impl Core {
         self.questions.note_time(alloc, self.count + 1, question)
     }
 
-    /// Begins an event that is none of those to come, or tells that it is later than the time limit.
+    /// Begins an event that is none of those to come, or tells that it is later than the time
+    /// limit.
     #[tactic(auto, using(crate::proofs::Lasting::growth_same))]
     fn begin_arrival(
         &mut self,
@@ -620,7 +624,8 @@ impl Core {
         Ok(Ok(event))
     }
 
-    /// Begins the first of the events to come, or tells that it is later than the time limit, or that there is none.
+    /// Begins the first of the events to come, or tells that it is later than the time limit, or
+    /// that there is none.
     #[tactic(auto, using(crate::proofs::Lasting::growth_same))]
     fn begin_first(
         &mut self,
@@ -654,7 +659,8 @@ impl Core {
         }
     }
 
-    /// Begins what comes next, or tells how the run ends instead. The limit is that of times, in picoseconds.
+    /// Begins what comes next, or tells how the run ends instead. The limit is that of times, in
+    /// picoseconds.
     #[tactic(auto, using(crate::proofs::Lasting::growth_same))]
     pub fn begin(
         &mut self,

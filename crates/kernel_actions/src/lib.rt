@@ -1,4 +1,5 @@
-//! A world but for its modules: what actions, reads and setup do to it, what comes next in it, and positions to which it can go back.
+//! A world but for its modules: what actions, reads and setup do to it, what comes next in it, and
+//! positions to which it can go back.
 #![tactic(auto)]
 
 mod classes;

@@ -22,14 +22,16 @@ pub enum Next {
     Nothing,
 }
 
-/// A look at the injections: when the first event to come is due, where there is one, and which injection was delivered last.
+/// A look at the injections: when the first event to come is due, where there is one, and which
+/// injection was delivered last.
 #[derive(Clone, Copy)]
 pub struct LookedAt {
     pub due: Option<Due>,
     pub last: Option<InjectionTurn>,
 }
 
-/// Looks in the order in which they were taken, which contracts see as their list. The first one takes no memory, and mostly there is one.
+/// Looks in the order in which they were taken, which contracts see as their list. The first one
+/// takes no memory, and mostly there is one.
 #[derive(Drop)]
 pub struct LookList {
     first: Option<LookedAt>,
@@ -90,8 +92,8 @@ impl LookList {
     }
 }
 
-/// The looks that were taken to know what comes next, and which injection counts as delivered since. Nothing of it is noted in a world before an
-/// event begins.
+/// The looks that were taken to know what comes next, and which injection counts as delivered
+/// since. Nothing of it is noted in a world before an event begins.
 #[derive(Drop)]
 pub struct Look {
     pub delivered: Option<InjectionTurn>,

@@ -21,8 +21,8 @@ pub struct Lengths {
     pub questions: usize,
 }
 
-/// The world of a run after an event, which is small: of what only grows while the run goes on it has the length, and the run
-/// itself has the rest.
+/// The world of a run after an event, which is small: of what only grows while the run goes on it
+/// has the length, and the run itself has the rest.
 pub struct Position {
     pub clock: SimTime,
     /// How many events were executed.

@@ -29,7 +29,8 @@ fn has_named(parameters: &[Parameter], place: usize, name: &[u8]) -> bool
     has_at(parameters, place, name) || find_value(parameters, name).is_some()
 }
 
-/// Whether what was read is a parameter that the call had. It is looked for at that place first, as modules mostly read their parameters in their order.
+/// Whether what was read is a parameter that the call had. It is looked for at that place first, as
+/// modules mostly read their parameters in their order.
 pub fn was_told(parameters: &[Parameter], place: usize, read: &Read) -> bool
     ensures { result ≡ was_told parameters.now read.now }
 {

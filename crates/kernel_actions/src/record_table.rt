@@ -48,7 +48,8 @@ fn has(ids: &HashMap<Place, u32>, place: &Place, id: usize) -> bool
     }
 }
 
-/// The modules that were created, with the first one that was built at each place, which is found in time that doesn't grow with their number. Contracts see the list of their records.
+/// The modules that were created, with the first one that was built at each place, which is found
+/// in time that doesn't grow with their number. Contracts see the list of their records.
 pub struct RecordTable {
     records: Items<Record>,
     /// The id of the first module that was built at a place.
@@ -156,7 +157,8 @@ impl RecordTable {
         }
     }
 
-    /// Forgets the last ones, so that as many are left, the first ones. Where there are no more, all stay.
+    /// Forgets the last ones, so that as many are left, the first ones. Where there are no more,
+    /// all stay.
     pub fn cut(&mut self, left: usize)
         ensures { self.new ≡ take left self.old }
     {

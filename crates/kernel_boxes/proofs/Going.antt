@@ -88,7 +88,8 @@ greater_stay : (id : ℕ) (saved : List Instance) (from below : ℕ) (ss : List 
 greater_stay id saved from below [] r h = refl
 greater_stay id saved from below (s ∷ ss) r h = rw (other s.id id (omega (arith, h, r.0))) (ap (λ ts. s ∷ ts) (greater_stay id saved (suc s.id) below ss r.2 (omega (arith, h, r.0))))
 
--- WHAT BECOMES of the boxes: where the one of the id is of the first module all stay, and else all but that one
+-- WHAT BECOMES of the boxes: where the one of the id is of the first module all stay, and else all
+-- but that one
 pub looked_at : (id : ℕ) (saved : List Instance) (from below : ℕ) (ss : List Seat) → Rise from below ss → filter (stays_at id saved) ss ≡ cond (is_first id saved (module_in id ss)) ss (without id ss)
 looked_at id saved from below [] r = refl
 looked_at id saved from below (s ∷ ss) r = by (s.id == id) refl (looked_at id saved (suc s.id) below ss r.2)

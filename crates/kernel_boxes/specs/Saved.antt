@@ -43,8 +43,8 @@ pub record IsLoaded (id : ℕ) (old new : List Seat) : Type 0 where
   pub same : IsSameModule before after
   pub seats : new ≡ with_module id after old
 
--- Boxes can be brought into these states: each box is of its kind, they are those of the same modules, and each state is one
--- of its kind.
+-- Boxes can be brought into these states: each box is of its kind, they are those of the same
+-- modules, and each state is one of its kind.
 pub record CanTake (b : Behaviour) (saved : List Instance) (seats : List Seat) : Type 0 where
   pub kinds : AreOfKinds b seats
   pub same : standing (map instance_of seats) ≡ standing saved

@@ -43,7 +43,8 @@ abbrev pub AreBelow : ℕ → List Instance → Type 0
 AreBelow id [] = Unit {0}
 AreBelow id (i ∷ is) = (i.id < id) × AreBelow id is
 
--- what each box says of itself: the members of its trait, which a clause hands over as `SimpleModule-box`
+-- what each box says of itself: the members of its trait, which a clause hands over as
+-- `SimpleModule-box`
 abbrev pub Members : (X : Type 0) → (X → Type 0) → Type 1
 Members X Y = (b : DynBox X Global Y) → Ghosts (Y b.vtable)
 

@@ -11,7 +11,8 @@ abbrev pub is_of : List Instance → Seat → Bool
 is_of [] s = false
 is_of (i ∷ is) s = if i.id == s.id then bytes_eq i.kind s.box.kind else is_of is s
 
--- THE BOXES THAT STAY where a run goes back to these modules: each that is of the id and of the kind of one of them
+-- THE BOXES THAT STAY where a run goes back to these modules: each that is of the id and of the
+-- kind of one of them
 abbrev pub staying : List Instance → List Seat → List Seat
 staying saved = filter (is_of saved)
 

@@ -61,8 +61,9 @@ fn add_one(
     Ok(())
 }
 
-/// Loads a state into the box of the module of that id, which has one, of a kind that these bytes are a state of. After
-/// NoMemory the box is still there and of its kind, and nothing is known of its state.
+/// Loads a state into the box of the module of that id, which has one, of a kind that these bytes
+/// are a state of. After NoMemory the box is still there and of its kind, and nothing is known of
+/// its state.
 pub fn load_one(
     boxes: &mut Tree<Box<dyn SimpleModule>>,
     alloc: Global,

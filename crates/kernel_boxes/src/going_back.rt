@@ -12,7 +12,8 @@ use module_api::simple_module::SimpleModule;
 use module_tree::Tree;
 use run_semantics::traces::Instance;
 
-/// Drops each box that is of none of these modules, by its id and its kind. The modules have rising ids.
+/// Drops each box that is of none of these modules, by its id and its kind. The modules have rising
+/// ids.
 pub fn drop_others(boxes: &mut Tree<Box<dyn SimpleModule>>, saved: &[Instance])
     requires { IdsRise 0 saved.now }
     ensures { seats_held SimpleModule-box boxes.new ≡ staying saved.now (seats_held SimpleModule-box boxes.old) }

@@ -1,4 +1,5 @@
--- What calls show of a module stays the same when more modules are created, and tables of it stay right.
+-- What calls show of a module stays the same when more modules are created, and tables of it stay
+-- right.
 use Rattle.std.proofs.Common.{◌≡◌, ℕ, zero, suc, ◌==◌, nat_lt, cond, Bool, true, false, List, [], ◌∷◌, ◌++◌, Option, Some, None, Result, Ok, Err, OnOk, OnErr, refl, sym, ap, ◌∙◌, subst, append_assoc, append-nil, slice_get, eqb-true}
 use Rattle.model_questions.specs.declared.record.Record.{Record}
 use Rattle.model_questions.specs.Answers.{Answers, with_values}

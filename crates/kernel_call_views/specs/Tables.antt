@@ -19,7 +19,8 @@ IsShown m records id shown = (more : List Record) → shown ≡ shown_of m (reco
 abbrev pub entries_in : ShownModules → List (Seated Shown)
 entries_in t = t.entries.seats
 
--- A TABLE IS RIGHT: each entry is what calls show of its module, and stays so whatever modules are created besides
+-- A TABLE IS RIGHT: each entry is what calls show of its module, and stays so whatever modules are
+-- created besides
 abbrev pub AreShown : Answers → List Record → ShownModules → Type 0
 AreShown m records t = EachBox (IsShown m records) (entries_in t)
 

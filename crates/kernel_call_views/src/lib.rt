@@ -44,7 +44,8 @@ pub fn shown_of<A: Answers>(
     })
 }
 
-/// Whether a module was created, and all that are around it: then calls show the same of it when more modules are created.
+/// Whether a module was created, and all that are around it: then calls show the same of it when
+/// more modules are created.
 #[tactic(auto, using(crate::proofs::Showing::whole_lasts))]
 fn lasts(records: &[Record], id: u32) -> bool
     ensures { result ≡ true → (m : run.Answers) → IsShown m records.now id (shown_of m records.now id) }
@@ -73,7 +74,8 @@ pub struct Lent {
     pub lasts: bool,
 }
 
-/// What calls show of some modules of a run. Each entry stands at the number of its module's id, so none is searched for.
+/// What calls show of some modules of a run. Each entry stands at the number of its module's id, so
+/// none is searched for.
 #[derive(Drop)]
 pub struct ShownModules {
     entries: Tree<Shown>,
@@ -90,7 +92,8 @@ impl ShownModules {
         }
     }
 
-    /// What calls show of the module of that id. The entry is moved out of the table; where there is none, it is found, and whether it lasts.
+    /// What calls show of the module of that id. The entry is moved out of the table; where there
+    /// is none, it is found, and whether it lasts.
     pub fn take<A: Answers>(
         &mut self,
         alloc: Global,
@@ -115,7 +118,8 @@ impl ShownModules {
         }
     }
 
-    /// Puts what was taken out in again, if it lasts. Where there is no memory for its place, the table goes without it.
+    /// Puts what was taken out in again, if it lasts. Where there is no memory for its place, the
+    /// table goes without it.
     pub fn put_back(&mut self, lasts: bool, id: u32, shown: Shown)
         ensures entries { let rest = without_box id (entries_in self.old) in
             (entries_in self.new ≡ rest) ⊎ (entries_in self.new ≡ with_box id shown rest) }
@@ -129,7 +133,8 @@ impl ShownModules {
     }
 }
 
-/// A table stays right when more modules are created. The function does nothing: its contract is the law.
+/// A table stays right when more modules are created. The function does nothing: its contract is
+/// the law.
 #[tactic(auto, using(crate::proofs::Showing::shown_on))]
 pub fn tables_stay_right()
     ensures { (m : run.Answers) (records more : List Record) (table : ShownModules)

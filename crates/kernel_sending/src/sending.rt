@@ -142,7 +142,8 @@ fn send_on<A: Answers>(
     }
 }
 
-/// Asks whether a message can leave by a gate of the module of that id. Whatever goes on, goes on with this.
+/// Asks whether a message can leave by a gate of the module of that id. Whatever goes on, goes on
+/// with this.
 fn can_leave<A: Answers>(
     core: &mut Core,
     alloc: Global,
@@ -252,7 +253,8 @@ fn send_free<A: Answers>(
     enter(core, alloc, model, id, gate, message, &arrival)
 }
 
-/// Asks whether a message can come in by a gate of the module of that id. Whatever goes on, goes on with this.
+/// Asks whether a message can come in by a gate of the module of that id. Whatever goes on, goes on
+/// with this.
 fn can_enter<A: Answers>(
     core: &mut Core,
     alloc: Global,

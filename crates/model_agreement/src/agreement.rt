@@ -42,8 +42,9 @@ fn agrees(
     Ok(same_answer(&first, &second))
 }
 
-/// Whether two models give both questions of an event's time the same answers: which injection goes before an event that is due then, where none was
-/// delivered yet, and whether the time limit allows that time.
+/// Whether two models give both questions of an event's time the same answers: which injection goes
+/// before an event that is due then, where none was delivered yet, and whether the time limit
+/// allows that time.
 fn agrees_on_both(
     alloc: Global,
     common: Common,
@@ -65,7 +66,8 @@ fn agrees_on_both(
     agrees(alloc, common, one, other, records, &limit)
 }
 
-/// Whether two models give the questions that are noted so the same answers, with the modules of these records.
+/// Whether two models give the questions that are noted so the same answers, with the modules of
+/// these records.
 fn agrees_on(
     alloc: Global,
     common: Common,
@@ -102,8 +104,8 @@ fn agrees_on(
     }
 }
 
-/// What the questions of an entry leave of the events up to this one on which two models agree: those before its own, where they give one of them different
-/// answers.
+/// What the questions of an entry leave of the events up to this one on which two models agree:
+/// those before its own, where they give one of them different answers.
 fn narrowed(
     alloc: Global,
     common: Common,
@@ -129,7 +131,8 @@ fn narrowed(
     Ok(Some(event - 1))
 }
 
-/// The greatest event up to which both models give all questions the same answers, as `agreement` tells it.
+/// The greatest event up to which both models give all questions the same answers, as `agreement`
+/// tells it.
 fn agreed_up_to(
     alloc: Global,
     one: &PlainAnswers<'_>,
@@ -151,8 +154,9 @@ fn agreed_up_to(
     Ok(Some(valid))
 }
 
-/// The greatest event, up to the last one, such that both models give all questions up to it the same answers, with the modules of these records.
-/// None where they differ on a question of event zero.
+/// The greatest event, up to the last one, such that both models give all questions up to it the
+/// same answers, with the modules of these records. None where they differ on a question of event
+/// zero.
 pub fn agreement(
     alloc: Global,
     one: &EvaluatedModel,

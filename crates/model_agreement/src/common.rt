@@ -10,7 +10,8 @@ use model_answers::plain::PlainAnswers;
 use model_questions::answer::Question;
 use run_question_log::entry::Entry;
 
-/// What two models have in common. A run asks about it for each event, and such a question needs no look at the models.
+/// What two models have in common. A run asks about it for each event, and such a question needs no
+/// look at the models.
 #[derive(Clone, Copy)]
 pub struct Common {
     /// Whether both have the same time limit.

@@ -39,11 +39,13 @@ use Rattle.model_answers.specs.Keyed.{module_at, type_of, typed, value_of}
 
 -- ---- what is built
 
--- the path of a submodule among the parts of the inside of the module of that path, which declares these submodules
+-- the path of a submodule among the parts of the inside of the module of that path, which declares
+-- these submodules
 abbrev pub child_path : List ℕ → List Submodule → Part → List ℕ
 child_path path lines p = (child (module_at path) (name_of_part lines p) p.index).path
 
--- a fault where a part has a gate that has to be connected and isn't, with the module's own path as of all its connections, or else the submodules
+-- a fault where a part has a gate that has to be connected and isn't, with the module's own path as
+-- of all its connections, or else the submodules
 abbrev pub connected_answer : Setting → List ℕ → TypeDeclaration → Inside → Option ℕ → Answer
 connected_answer s path t i None = answer.Inside (built_parts s.types t.submodules i.parts.parts)
 connected_answer s path t i (Some n) = answer.Fault path Unconnected
@@ -66,8 +68,9 @@ inside_by s path t Channel = answer.Absent
 inside_by s path t ModuleInterface = answer.Absent
 inside_by s path t ChannelInterface = answer.Absent
 
--- WHAT IS INSIDE of the compound module of that path and type: its submodules in the order in which they are created, or its first fault; after all
--- else comes the first of its parts with a gate that has to be connected and isn't
+-- WHAT IS INSIDE of the compound module of that path and type: its submodules in the order in which
+-- they are created, or its first fault; after all else comes the first of its parts with a gate
+-- that has to be connected and isn't
 abbrev pub inside_answer : Setting → List ℕ → Option TypeDeclaration → Answer
 inside_answer s path t = typed t (λ u. inside_by s path u u.kind)
 
@@ -108,7 +111,8 @@ abbrev pub seat_by : Setting → Standing → Option key_module.Module → Optio
 seat_by s stands None = None
 seat_by s stands (Some around) = seat_typed stands (type_of s around.path) (inside_of s around.path)
 
--- the part that the module of that path is, in the inside of the module around it; the network is none
+-- the part that the module of that path is, in the inside of the module around it; the network is
+-- none
 abbrev pub seat_of : Setting → List ℕ → Option Seat
 seat_of s path = seat_by s (s.stands (module_at path)) (declarer s (module_at path))
 
@@ -154,8 +158,8 @@ abbrev pub gates_in : Setting → List ℕ → Option key_module.Module → List
 gates_in s path None gs = sized_gates (declared_size s path) gs
 gates_in s path (Some around) gs = sized_gates (seated_size s (seat_of s path)) gs
 
--- THE GATES of the module of that path and type, in the order of their declaration, each with its direction and size, which is 1 of a single gate. One
--- that has no size is left out.
+-- THE GATES of the module of that path and type, in the order of their declaration, each with its
+-- direction and size, which is 1 of a single gate. One that has no size is left out.
 abbrev pub gates_answer : Setting → List ℕ → Option TypeDeclaration → List Gate
 gates_answer s path None = []
 gates_answer s path (Some t) = gates_in s path (declarer s (module_at path)) (gates_of_type t)
@@ -180,6 +184,7 @@ abbrev pub hop_by : Setting → List ℕ → TypeDeclaration → Way → ℕ →
 hop_by s path t way index None = answer.Absent
 hop_by s path t way index (Some h) = answer.Next (next_by s path t way h.1 h.0 index)
 
--- THE NEXT GATE after a gate of the module of that path and type, or the one from which messages come to it: none where it is not connected
+-- THE NEXT GATE after a gate of the module of that path and type, or the one from which messages
+-- come to it: none where it is not connected
 abbrev pub hop_answer : Setting → Way → List ℕ → Option TypeDeclaration → List ℕ → ℕ → Answer
 hop_answer s way path t name index = typed t (λ u. hop_by s path u way index (half_named name (gates_of_type u)))

@@ -100,7 +100,8 @@ param_answer s path (Some t) name = value_in s path name
 abbrev pub declared_answer : Setting → List ℕ → Option TypeDeclaration → List ℕ → Answer
 declared_answer s path t name = if is_declared name (names_in (lines_of t)) then param_answer s path t name else answer.Absent
 
--- the parameters of the module of that path and type that have values, in the order of their declaration
+-- the parameters of the module of that path and type that have values, in the order of their
+-- declaration
 abbrev pub parameters_by : Setting → List ℕ → Option TypeDeclaration → List Parameter
 parameters_by s path t = with_values (param_answer s path t) (names_in (lines_of t))
 
@@ -145,7 +146,8 @@ fault_of_misplaced s path (Some name) = fault_in (value_of s path (what.Declared
 abbrev pub fault_of_gates : Setting → List ℕ → TypeDeclaration → TypeGates → Option ModelFault
 fault_of_gates s path t gates = or_else (fault_of_misplaced s path (misplaced gates t.gates)) (fault_of_sizes s path gates.gates)
 
--- the first fault of the network of that type: of its parameters, and then of the sizes of its gates
+-- the first fault of the network of that type: of its parameters, and then of the sizes of its
+-- gates
 abbrev pub fault_of_network : Setting → TypeDeclaration → Option ModelFault
 fault_of_network s t = or_else (fault_of_lines s t.name t.lines) (fault_of_gates s t.name t (type_gates.gates_of t.gates))
 

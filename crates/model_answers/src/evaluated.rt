@@ -16,8 +16,9 @@ use std::alloc::Global;
 use std::marker;
 use std::rc::Rc;
 
-/// A model, with the insides of its network and of all compound modules in it, and the values that these rest on: types and parameters of modules,
-/// sizes, channels. They are found once, and stand in one place, which counts the models that share them.
+/// A model, with the insides of its network and of all compound modules in it, and the values that
+/// these rest on: types and parameters of modules, sizes, channels. They are found once, and stand
+/// in one place, which counts the models that share them.
 pub struct EvaluatedModel {
     model: Model,
     found: Rc<Table<Key, Found>>,

@@ -366,7 +366,8 @@ fn inwards(
     next_inwards(alloc, from, declared, inside, way, gate, index)
 }
 
-/// The next gate after a half of a gate of the module of that path and type, or the one from which messages come to it.
+/// The next gate after a half of a gate of the module of that path and type, or the one from which
+/// messages come to it.
 fn next_by(
     alloc: Global,
     from: Sources<'_>,
@@ -389,7 +390,8 @@ fn next_by(
     }
 }
 
-/// The next gate after a gate of the module of that path, or the one from which messages come to it.
+/// The next gate after a gate of the module of that path, or the one from which messages come to
+/// it.
 pub fn hop_answer(
     alloc: Global,
     from: Sources<'_>,

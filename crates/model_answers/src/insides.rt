@@ -28,7 +28,8 @@ use sim_values::NoMemory;
 use sim_values::text::Text;
 use std::alloc::Global;
 
-/// The path of a submodule among the parts of the module of that path, which declares these submodules.
+/// The path of a submodule among the parts of the module of that path, which declares these
+/// submodules.
 pub fn child_path(
     alloc: Global,
     path: &[u8],
@@ -43,7 +44,8 @@ pub fn child_path(
     Ok(path)
 }
 
-/// The submodules of an inside, or the fault of one that has a part with a gate which has to be connected and isn't.
+/// The submodules of an inside, or the fault of one that has a part with a gate which has to be
+/// connected and isn't.
 fn connected_answer(
     alloc: Global,
     from: Sources<'_>,

@@ -1,4 +1,5 @@
-//! Values that are kept between answers: the insides of all compound modules, and what these rest on.
+//! Values that are kept between answers: the insides of all compound modules, and what these rest
+//! on.
 
 ghost use Rattle.param_engine.specs.Tables.{IsKept};
 ghost use Rattle.inside_keys.specs.Values.{rules_of};
@@ -30,7 +31,8 @@ fn is_compound(types: &[TypeDeclaration], part: Part) -> bool {
     }
 }
 
-/// Adds the paths of the compound modules among these parts, which are submodules of the module of that path and type.
+/// Adds the paths of the compound modules among these parts, which are submodules of the module of
+/// that path and type.
 fn push_compounds(
     pending: &mut Vec<Text>,
     alloc: Global,
@@ -48,7 +50,8 @@ fn push_compounds(
     Ok(())
 }
 
-/// Adds the paths of the compound modules in an inside, of which the first part is the module of that path itself.
+/// Adds the paths of the compound modules in an inside, of which the first part is the module of
+/// that path itself.
 fn push_inner(
     pending: &mut Vec<Text>,
     alloc: Global,
@@ -65,7 +68,8 @@ fn push_inner(
     }
 }
 
-/// Keeps the inside of the module of that path, where it has one, and adds the paths of the compound modules in it.
+/// Keeps the inside of the module of that path, where it has one, and adds the paths of the
+/// compound modules in it.
 fn keep_inside(
     alloc: Global,
     setting: &ModelSetting<'_>,

@@ -404,7 +404,8 @@ fn fault_of_gates(
     fault_of_sizes(alloc, from, own, path, gates.gates.as_slice())
 }
 
-/// The first fault of the network of that type: of its parameters, and then of the sizes of its gates.
+/// The first fault of the network of that type: of its parameters, and then of the sizes of its
+/// gates.
 fn fault_of_network(
     alloc: Global,
     from: Sources<'_>,

@@ -25,7 +25,8 @@ pub struct Sources<'a> {
     pub kept: &'a Table<Key, Found>,
 }
 
-/// Where a value stands: at a place of the table that is kept, or of the one that was filled for a question.
+/// Where a value stands: at a place of the table that is kept, or of the one that was filled for a
+/// question.
 #[derive(Clone, Copy)]
 pub enum Spot {
     Kept(usize),
@@ -39,7 +40,8 @@ pub fn own_table(alloc: Global, from: Sources<'_>) -> Table<Key, Found>
     values::empty_table(alloc, from.setting)
 }
 
-/// Where the value of a key stands, or its fault. One that isn't kept is found, and noted in the other table.
+/// Where the value of a key stands, or its fault. One that isn't kept is found, and noted in the
+/// other table.
 pub fn find(
     alloc: Global,
     from: Sources<'_>,

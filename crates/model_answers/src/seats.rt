@@ -25,7 +25,8 @@ use param_engine::table::Table;
 use sim_values::NoMemory;
 use std::alloc::Global;
 
-/// A module among the parts of the module around it: the type of that module, its inside, and the number of the part.
+/// A module among the parts of the module around it: the type of that module, its inside, and the
+/// number of the part.
 #[derive(Clone, Copy)]
 pub struct Seat<'a> {
     pub of_type: &'a TypeDeclaration,
@@ -33,8 +34,8 @@ pub struct Seat<'a> {
     pub part: usize,
 }
 
-/// A module that is looked for among the parts of the module around it: where it stands, the type of that module, and where the inside of that
-/// module was found.
+/// A module that is looked for among the parts of the module around it: where it stands, the type
+/// of that module, and where the inside of that module was found.
 #[derive(Drop)]
 pub struct Sought<'a> {
     pub stands: Stands,
@@ -117,7 +118,8 @@ pub fn seek<'a>(
     Ok(Some(seek_in(alloc, from, own, stands, around.as_bytes())?))
 }
 
-/// The part of an inside that a module is which stands there, where the submodules have these names.
+/// The part of an inside that a module is which stands there, where the submodules have these
+/// names.
 fn part_at(names: &Names, inside: &Inside, stands: &Stands) -> Result<Option<usize>, NoMemory>
     ensures { IfOk result (λ part. part ≡ result_ok (part_named names.now inside.now.parts stands.now.name stands.now.index)) }
 {

@@ -40,7 +40,8 @@ type_by_last_name m name = named_type m (last_name name)
 abbrev pub network_of : Model → Option TypeDeclaration
 network_of m = option_and_then as_network (option_and_then (type_by_last_name m) (network_entry (entries_in m)))
 
--- the time after which no event is executed, in picoseconds: that of the first entry of the option `sim-time-limit`
+-- the time after which no event is executed, in picoseconds: that of the first entry of the option
+-- `sim-time-limit`
 unfoldable pub time_limit_of : Model → Option ℕ
 time_limit_of m = time_limit_entry (entries_in m)
 

@@ -24,18 +24,21 @@ use std::alloc::Global;
 /// The id of the network's first submodule: the others follow it in the order of their declaration.
 const FIRST_SUBMODULE: usize = 2;
 
-/// What a run is made of: the NED files and the types that they declare, the ini text, the selected configuration, and the injections.
+/// What a run is made of: the NED files and the types that they declare, the ini text, the selected
+/// configuration, and the injections.
 pub struct Model {
     /// What each NED file declares, in order.
     pub files: Items<SharedFile>,
     pub types: TypeTable,
     pub ini: IniText,
     pub config: Text,
-    /// The names of the sections that make the configuration, in the order in which their entries count.
+    /// The names of the sections that make the configuration, in the order in which their entries
+    /// count.
     pub chain: Items<Text>,
     /// The injections, by rising number.
     pub injections: Items<Injection>,
-    /// The number of the last injection that was made, 0 where none was. Numbers are not used again.
+    /// The number of the last injection that was made, 0 where none was. Numbers are not used
+    /// again.
     pub last_injection: u32,
 }
 

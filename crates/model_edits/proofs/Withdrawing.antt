@@ -9,7 +9,8 @@ use Rattle.model_edits.specs.declared.edit.Refusal.TheVariants as refusal
 use Rattle.model_edits.specs.Edited.{is_numbered, without}
 use Rattle.model_edits.specs.Steps.{Comes}
 
--- where it stands among these, counted from this number on: it is one of them, and all others are left
+-- where it stands among these, counted from this number on: it is one of them, and all others are
+-- left
 pub record StandsAt (number : ℕ) (is : List Injection) (from place : ℕ) : Type 0 where
   pub number_of : ℕ
   pub counted : place ≡ from + number_of

@@ -69,7 +69,8 @@ pub record Parts : Type 0 where
 abbrev pub parts_of : Model → Parts
 parts_of m = record { files = m.files; types = m.types; lines = m.ini }
 
--- the files are those that the change leaves, and the types are theirs; or both are as they were where nothing changes them
+-- the files are those that the change leaves, and the types are theirs; or both are as they were
+-- where nothing changes them
 abbrev pub AreFilesBehind : Option ned.Change → Parts → Parts → Type 0
 AreFilesBehind None old new = (new.files ≡ old.files) × (new.types ≡ old.types)
 AreFilesBehind (Some changed) old new = IsChanged changed old.files new.files × AreTypesOf new.files new.types
@@ -83,13 +84,15 @@ AreLinesBehind (Some changed) old lines = IsEdited changed lines
 abbrev pub AreBehind : Model → Edit → Parts → Type 0
 AreBehind m e parts = AreFilesBehind (file_change_of e) (parts_of m) parts × AreLinesBehind (change_of e m.ini) m.ini parts.lines
 
--- The model is the old one, but for these files, types and lines, this configuration, whose section is there, and its chain.
+-- The model is the old one, but for these files, types and lines, this configuration, whose section
+-- is there, and its chain.
 pub record IsWith (m : Model) (parts : Parts) (config : List ℕ) (new : Model) : Type 0 where
   pub rest : new ≡ record m { files = parts.files; types = parts.types; ini = parts.lines; config = config; chain = new.chain }
   pub exists : is_section config parts.lines ≡ true
   pub chained : IsChain parts.lines config new.chain
 
--- What an edit of a text or of the configuration makes of a model: all that it doesn't change is as it was, and there is a network to run.
+-- What an edit of a text or of the configuration makes of a model: all that it doesn't change is as
+-- it was, and there is a network to run.
 pub record IsTextEditOf (m : Model) (e : Edit) (new : Model) : Type 0 where
   pub parts : Parts
   pub behind : AreBehind m e parts
@@ -106,11 +109,13 @@ most_payload = 4096
 abbrev pub most_injections : ℕ
 most_injections = 10000
 
--- There is no room for one more: its payload is too long, as many are held as may be, or its number would have more than 32 bits.
+-- There is no room for one more: its payload is too long, as many are held as may be, or its number
+-- would have more than 32 bits.
 abbrev pub has_no_room : Model → List ℕ → Bool
 has_no_room m payload = nat_lt most_payload (length payload) || (nat_le most_injections (length m.injections) || nat_lt (2 ^ 32 - 2) m.last_injection)
 
--- the injection that is made: its number is the one after the last that was used, be it held still or not
+-- the injection that is made: its number is the one after the last that was used, be it held still
+-- or not
 abbrev pub next_injection : Model → List ℕ → Due → ℤ → ℕ → List ℕ → Injection
 next_injection m path due kind bits payload =
     record { number = m.last_injection + 1; path = path; due = due; kind = kind; bits = bits; payload = payload }
@@ -166,7 +171,8 @@ RefusesChange (Some changed) (refusal.IniSyntax line reason) = Refused changed (
 RefusesChange (Some changed) (refusal.NoMemory _) = Unit {0}
 RefusesChange (Some changed) _ = ⊥
 
--- why there is no model with these parts and this configuration: it has no section; it has no chain; there is no network to run
+-- why there is no model with these parts and this configuration: it has no section; it has no
+-- chain; there is no network to run
 abbrev pub RefusesParts : Model → Parts → List ℕ → Refusal → Type 0
 RefusesParts m parts config refusal.NoSuchConfig = is_section config parts.lines ≡ false
 RefusesParts m parts config refusal.ChainFault =

@@ -88,7 +88,8 @@ abbrev pub ComesOfText : Model → Edit → Model → Result Unit Refusal → Ty
 ComesOfText m e new (Ok u) = IsTextEditOf m e new × ((other : Model) → IsTextEditOf m e other → other ≡ new)
 ComesOfText m e new (Err r) = (new ≡ m) × RefusesText m e r × ((other : Model) → IsTextEditOf m e other → r ≡ refusal.NoMemory no_memory)
 
--- WHAT COMES OF AN EDIT: the one model that it makes; or the model is what it was, and this refusal is due
+-- WHAT COMES OF AN EDIT: the one model that it makes; or the model is what it was, and this refusal
+-- is due
 abbrev pub Comes : Model → Edit → Model → Result Unit Refusal → Type 0
 Comes m e new (Ok u) = IsEditOf m e new × IsOnlyEditOf m e new
 Comes m e new (Err r) = (new ≡ m) × Refuses m e r × IsRuledOut m e r

@@ -37,8 +37,8 @@ pub const MAX_INJECTIONS: usize = 10_000;
 /// An edit of a model.
 #[derive(Drop)]
 pub enum Edit {
-    /// A line of this text is put before the line of this number of the ini text, counted from 1. The number after
-    /// that of the last line adds one at the end.
+    /// A line of this text is put before the line of this number of the ini text, counted from 1.
+    /// The number after that of the last line adds one at the end.
     InsertIni(usize, Text),
     /// A line of this text stands instead of the line of this number.
     ReplaceIni(usize, Text),
@@ -46,25 +46,27 @@ pub enum Edit {
     RemoveIni(usize),
     /// The NED file of this number, counted from 0, is this text.
     ReplaceNed(usize, Text),
-    /// The connection, or the group of connections, that this text is stands at this place, counted from 0, among those of the module or
-    /// network of this name. The place after the last one adds one at the end.
+    /// The connection, or the group of connections, that this text is stands at this place, counted
+    /// from 0, among those of the module or network of this name. The place after the last one adds
+    /// one at the end.
     AddConnection(Text, usize, Text),
     /// The connection, or the group of connections, at this place is taken out.
     RemoveConnection(Text, usize),
     /// The configuration of this name is selected.
     SelectConfig(Text),
-    /// A message from outside arrives at the simple module of this path when it is due: of this kind, so many bits long, and with
-    /// this payload.
+    /// A message from outside arrives at the simple module of this path when it is due: of this
+    /// kind, so many bits long, and with this payload.
     Inject(Text, Due, i16, u64, Text),
     /// The injection of this number is taken back.
     Withdraw(u64),
 }
 
-/// Why an edit is refused. Of several reasons the first in this order is told, and lack of memory in any place.
+/// Why an edit is refused. Of several reasons the first in this order is told, and lack of memory
+/// in any place.
 #[derive(Clone, Copy)]
 pub enum Refusal {
-    /// The changed ini text is longer than 1 MiB, or a given text of NED is; or a payload is longer than 4,096 bytes, 10,000 injections are held, or all
-    /// their numbers are used.
+    /// The changed ini text is longer than 1 MiB, or a given text of NED is; or a payload is longer
+    /// than 4,096 bytes, 10,000 injections are held, or all their numbers are used.
     TooLarge,
     /// There is no line of that number.
     NoSuchLine,
@@ -76,7 +78,8 @@ pub enum Refusal {
     NoSuchType,
     /// It has no connection at that place, or no such place for one more.
     NoSuchConnection,
-    /// The line, from 1, of the given NED text's first byte that can't go on; at its end that of its last byte.
+    /// The line, from 1, of the given NED text's first byte that can't go on; at its end that of
+    /// its last byte.
     NedSyntax(usize),
     /// The number, from 1, of the first line of the changed ini text that means nothing, and why.
     IniSyntax(usize, Reason),
@@ -84,7 +87,8 @@ pub enum Refusal {
     Types(TypeFault),
     /// The selected configuration isn't in the ini text.
     NoSuchConfig,
-    /// The selected configuration extends one that isn't in the ini text, one twice, several that can't be put in order, or in the end itself.
+    /// The selected configuration extends one that isn't in the ini text, one twice, several that
+    /// can't be put in order, or in the end itself.
     ChainFault,
     /// The option `network` names no network.
     NoSuchNetwork,
@@ -156,8 +160,8 @@ fn has_network(types: &TypeTable, lines: &IniText, chain: &[Text]) -> bool
     }
 }
 
-/// The chain of a configuration in these lines, where there is a network to run among these types. The model is that of which
-/// they are parts, whatever its files may be.
+/// The chain of a configuration in these lines, where there is a network to run among these types.
+/// The model is that of which they are parts, whatever its files may be.
 fn chain_with(
     alloc: Global,
     model: &Model,
@@ -287,7 +291,8 @@ fn has_no_room(model: &Model, payload: &Text) -> bool
         || model.last_injection == u32::MAX
 }
 
-/// The number that this edit gives to the injection that it adds: the one after the last that was used, be it held still or not.
+/// The number that this edit gives to the injection that it adds: the one after the last that was
+/// used, be it held still or not.
 pub fn number_given(model: &Model, edit: &Edit) -> Option<u64>
     ensures { result ≡ number_given edit.now model.now }
 {

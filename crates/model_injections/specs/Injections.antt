@@ -34,7 +34,8 @@ abbrev pub first_undelivered : Option Turn → List Injection → Option Injecti
 first_undelivered last [] = None
 first_undelivered last (i ∷ is) = sooner_undelivered last i (first_undelivered last is)
 
--- It goes before an event that is due then, where it is due before; at equality it goes after. Where no event is left it goes in any case.
+-- It goes before an event that is due then, where it is due before; at equality it goes after.
+-- Where no event is left it goes in any case.
 abbrev pub goes_first : Option Due → Injection → Bool
 goes_first None i = true
 goes_first (Some due) i = due_before i.due due

@@ -17,7 +17,8 @@ pub struct Due {
     pub priority: i16,
 }
 
-/// Where an injection stands in the order in which injections go: by when they are due, then by number.
+/// Where an injection stands in the order in which injections go: by when they are due, then by
+/// number.
 #[derive(Clone, Copy, PartialEq, Eq, Hash)]
 pub struct Turn {
     pub due: Due,
@@ -27,7 +28,8 @@ pub struct Turn {
 /// A message that no module sends, which arrives at a module when it is due.
 #[derive(Drop)]
 pub struct Injection {
-    /// Its number, from 1. No other injection of the session has it, nor had one that was withdrawn.
+    /// Its number, from 1. No other injection of the session has it, nor had one that was
+    /// withdrawn.
     pub number: u32,
     /// The path of the simple module that it is for.
     pub path: Text,

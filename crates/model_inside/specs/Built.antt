@@ -42,6 +42,7 @@ abbrev pub submodules_among : List Part → List Part
 submodules_among [] = []
 submodules_among (own ∷ parts) = parts
 
--- THE SUBMODULES among the parts of an inside, in the order in which they are created; the first part is the compound module itself
+-- THE SUBMODULES among the parts of an inside, in the order in which they are created; the first
+-- part is the compound module itself
 abbrev pub built_parts : List TypeDeclaration → List Submodule → List Part → List Built
 built_parts types lines parts = map (built_part types lines) (submodules_among parts)

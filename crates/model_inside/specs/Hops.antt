@@ -37,7 +37,8 @@ use Rattle.model_inside.specs.declared.hops.Way.TheVariants.{Onwards, Back}
 abbrev pub half_if : Bool → Half → Option Half
 half_if is h = if is then Some h else None
 
--- the half that a name means of a gate of that name and direction: a gate of one direction is a half; of one that goes both ways there are `g$i` and `g$o`
+-- the half that a name means of a gate of that name and direction: a gate of one direction is a
+-- half; of one that goes both ways there are `g$i` and `g$o`
 abbrev pub half_by : List ℕ → List ℕ → GateDirection → Option Half
 half_by name g direction.Input = half_if (bytes_eq g name) half.Input
 half_by name g direction.Output = half_if (bytes_eq g name) half.Output
@@ -47,7 +48,8 @@ half_by name g direction.Inout =
 abbrev pub half_of : List ℕ → TypeGate → Option Half
 half_of name g = half_by name g.name g.kind.direction
 
--- THE HALF OF A GATE that a name means among these gates: the name of the gate itself, and which half
+-- THE HALF OF A GATE that a name means among these gates: the name of the gate itself, and which
+-- half
 abbrev pub half_named : List ℕ → List TypeGate → Option (List ℕ × Half)
 half_named name [] = None
 half_named name (g ∷ gs) = or_else (option_map (λ h. (g.name, h)) (half_of name g)) (half_named name gs)
@@ -74,8 +76,8 @@ abbrev pub other_end : Way → Link → GateId
 other_end Onwards l = l.to
 other_end Back l = l.from
 
--- By which half messages go through the other end: onwards they come into a submodule, and go out of the compound module by its own gate; back they
--- came out of a submodule, or in by an own gate.
+-- By which half messages go through the other end: onwards they come into a submodule, and go out
+-- of the compound module by its own gate; back they came out of a submodule, or in by an own gate.
 abbrev pub half_there : Way → Bool → Half
 half_there Onwards true = half.Output
 half_there Onwards false = half.Input
@@ -97,7 +99,8 @@ channel_of c = record { kind = kind_of c.kind; delay = delay_of c.delay; datarat
 
 -- ---- the other end, as it is told
 
--- a part as a neighbour: of the part of that number, in whose surroundings it is; or of the compound module whose inside this is
+-- a part as a neighbour: of the part of that number, in whose surroundings it is; or of the
+-- compound module whose inside this is
 abbrev pub outside_neighbour : List Submodule → ℕ → ℕ → Part → Neighbour
 outside_neighbour lines own number part =
     if part.is_own then neighbour.Around else if number == own then neighbour.Itself else neighbour.Beside (name_of_part lines part) part.index
@@ -109,7 +112,8 @@ abbrev pub neighbour_of : List Submodule → Seen → ℕ → Part → Neighbour
 neighbour_of lines (FromOutside own) number part = outside_neighbour lines own number part
 neighbour_of lines FromInside number part = inside_neighbour lines part
 
--- the part through whose gates is looked: that one, or the compound module itself, which is the first
+-- the part through whose gates is looked: that one, or the compound module itself, which is the
+-- first
 abbrev pub own_part : Seen → ℕ
 own_part (FromOutside own) = own
 own_part FromInside = 0
@@ -131,7 +135,8 @@ told_end lines seen way l part g = record {
 abbrev pub end_of_part : List TypeGates → List Submodule → Seen → Way → Link → Part → Option NextGate
 end_of_part gates lines seen way l part = option_map (told_end lines seen way l part) (gate_in part (slice_get gates part.of_type) (other_end way l).vector)
 
--- THE OTHER END OF A LINK among the parts of an inside, of a type that declares these submodules, where the types have these gates
+-- THE OTHER END OF A LINK among the parts of an inside, of a type that declares these submodules,
+-- where the types have these gates
 abbrev pub end_of : List TypeGates → List Submodule → Parts → Seen → Way → Link → Option NextGate
 end_of gates lines ps seen way l = option_and_then (end_of_part gates lines seen way l) (slice_get ps.parts (other_end way l).part)
 
@@ -143,8 +148,8 @@ next_at gates lines ps w seen way index v = option_and_then (end_of gates lines 
 abbrev pub next_in : List TypeGates → List Submodule → Parts → Wired → Seen → Way → List ℕ → ℕ → Option NextGate
 next_in gates lines ps w seen way g index = option_and_then (next_at gates lines ps w seen way index) (vector_of gates ps w (own_part seen) g)
 
--- WHICH WAY A HALF LEADS: onwards an output leads outwards and an input inwards; what leads to an input comes from outside, and what leads to an output
--- from inside
+-- WHICH WAY A HALF LEADS: onwards an output leads outwards and an input inwards; what leads to an
+-- input comes from outside, and what leads to an output from inside
 abbrev pub is_outwards : Way → Half → Bool
 is_outwards Onwards half.Output = true
 is_outwards Onwards half.Input = false

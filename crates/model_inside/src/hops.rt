@@ -79,7 +79,8 @@ fn half_of(name: &[u8], gate: &TypeGate) -> Option<Half>
     }
 }
 
-/// The half of a gate that a name means among these gates: the name of the gate itself, and which half.
+/// The half of a gate that a name means among these gates: the name of the gate itself, and which
+/// half.
 pub fn half_named<'g>(name: &[u8], gates: &'g [TypeGate]) -> Option<(&'g Text, Half)>
     ensures { option_map (λ h. (h.0.now, h.1)) result ≡ hops.half_named name.now gates.now }
 {
@@ -222,7 +223,8 @@ fn neighbour_of(
     }
 }
 
-/// The part through whose gates is looked: that one, or the compound module itself, which is the first.
+/// The part through whose gates is looked: that one, or the compound module itself, which is the
+/// first.
 fn own_part(seen: Seen) -> usize
     ensures { result ≡ hops.own_part seen }
 {
@@ -266,7 +268,8 @@ fn told_end(
     })
 }
 
-/// The other end of a link in an inside of a type that declares these submodules, where the types have these gates.
+/// The other end of a link in an inside of a type that declares these submodules, where the types
+/// have these gates.
 fn end_of(
     alloc: Global,
     gates: &[TypeGates],

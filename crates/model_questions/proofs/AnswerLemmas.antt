@@ -1,5 +1,5 @@
--- What is answered about a module that is there does not change when more modules are created, and a call shows the values that are
--- answered.
+-- What is answered about a module that is there does not change when more modules are created, and
+-- a call shows the values that are answered.
 use Rattle.std.proofs.Common.{◌≡◌, ℕ, zero, suc, ◌+◌, ◌≤◌, ◌<◌, Bool, true, false, List, [], ◌∷◌, ◌++◌, Option, Some, None, refl, sym, ap, ◌∙◌, arith, slice_get, length, length-append, if◌then◌else◌, bytes_eq}
 use Rattle.std.proofs.lemmas.Slice.Eq.{bytes_eq-Decides}
 use Rattle.sim_values.specs.declared.value.Value.{Value}
@@ -19,7 +19,8 @@ use Rattle.model_questions.specs.Records.{lineage_up, place_of, record_at, with_
 
 -- ---- records
 
--- the enclosing module of each was created before it; the first of these has the id after that number
+-- the enclosing module of each was created before it; the first of these has the id after that
+-- number
 abbrev pub AreNested : ℕ → List Record → Type 0
 AreNested k [] = Unit {0}
 AreNested k (r ∷ rs) = (r.parent ≤ k) × AreNested (suc k) rs

@@ -12,10 +12,12 @@ use Rattle.model_questions.specs.declared.record.Record.{Record}
 use Rattle.model_questions.specs.Gates.{gate_named}
 use Rattle.model_questions.specs.Records.{Place, place_of}
 
--- THE ANSWERS of a model are all that a run takes from it: which network is run; what is inside of a module, which parameters it declares, by
--- their names and in their order, the value of one of these, its gates, in their order, each with its size, and for a gate of that name and index the
--- next gate that a message comes to, with the channel on the way, and the one from which a message comes from outside, each by where the module
--- stands; the time after which no event is executed, in picoseconds; and the injections.
+-- THE ANSWERS of a model are all that a run takes from it: which network is run; what is inside of
+-- a module, which parameters it declares, by their names and in their order, the value of one of
+-- these, its gates, in their order, each with its size, and for a gate of that name and index the
+-- next gate that a message comes to, with the channel on the way, and the one from which a message
+-- comes from outside, each by where the module stands; the time after which no event is executed,
+-- in picoseconds; and the injections.
 pub record Answers : Type 0 where
   pub root : Answer
   pub inside : Place → Answer

@@ -23,7 +23,8 @@ out_mark = 36 ∷ 111 ∷ []
 abbrev pub is_half : List ℕ → List ℕ → Gate → Bool
 is_half mark name g = is_inout g.direction && bytes_eq name (g.name ++ mark)
 
--- the half of that name, of a gate that goes both ways: it has the gate's own name and size, and one direction
+-- the half of that name, of a gate that goes both ways: it has the gate's own name and size, and
+-- one direction
 abbrev pub half_of : List ℕ → List Gate → Option Gate
 half_of name [] = None
 half_of name (g ∷ gs) =

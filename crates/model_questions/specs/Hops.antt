@@ -10,7 +10,8 @@ use Rattle.model_questions.specs.Records.{record_at, built_id}
 abbrev pub id_around : Record → Option ℕ
 id_around r = if r.parent == 0 then None else Some r.parent
 
--- THE MODULE that a hop leads to, seen from the one of that id: what is named is what building made, never a module that was created later
+-- THE MODULE that a hop leads to, seen from the one of that id: what is named is what building
+-- made, never a module that was created later
 abbrev pub neighbour_id : List Record → ℕ → Neighbour → Option ℕ
 neighbour_id records id Itself = Some id
 neighbour_id records id Around = option_and_then id_around (record_at records id)

@@ -3,7 +3,8 @@ use Rattle.std.specs.Prelude.{◌==◌, Bool, true, false, ◌&&◌, bytes_eq}
 use Rattle.model_questions.specs.declared.answer.Question.{Question}
 use Rattle.model_questions.specs.declared.answer.Question.TheVariants.{Root, Build, Param, GateSize, Hop, HopBack, BeyondLimit, InjectionBefore}
 
--- Whether both ask the same of the model's modules. What is asked of a time is asked of one event, and never the same.
+-- Whether both ask the same of the model's modules. What is asked of a time is asked of one event,
+-- and never the same.
 abbrev pub same_question : Question → Question → Bool
 same_question Root Root = true
 same_question Root _ = false

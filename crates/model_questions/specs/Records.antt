@@ -15,8 +15,9 @@ index_of (Some r) = r.index
 
 -- ---- lines of records
 
--- A PLACE, where a module stands: its record and those of the modules around it, from the inside outwards, the last one that of the network; empty
--- where there is no such module. No more of the records is known to what answers about the module.
+-- A PLACE, where a module stands: its record and those of the modules around it, from the inside
+-- outwards, the last one that of the network; empty where there is no such module. No more of the
+-- records is known to what answers about the module.
 abbrev pub Place : Type 0
 Place = List Record
 
@@ -55,7 +56,8 @@ own_name name (Some index) = name ++ (91 ∷ (decimal index ++ 93 ∷ []))
 abbrev pub path_under : List ℕ → List ℕ → List ℕ
 path_under path name = path ++ 46 ∷ name
 
--- THE PATH of the module that stands there: the names of its line, from the outermost one to its own, with dots between them
+-- THE PATH of the module that stands there: the names of its line, from the outermost one to its
+-- own, with dots between them
 abbrev pub path_along : Place → List ℕ
 path_along [] = []
 path_along (r ∷ []) = own_name r.name r.index
@@ -90,6 +92,7 @@ abbrev pub named_from : ℕ → ℕ → List ℕ → Option ℕ → List Record 
 named_from id parent name index [] = None
 named_from id parent name index (r ∷ rs) = if is_named parent name index r then Some id else named_from (suc id) parent name index rs
 
--- the submodule of that name and index that was built when its parent was: the first of its name that was built, whatever else was created
+-- the submodule of that name and index that was built when its parent was: the first of its name
+-- that was built, whatever else was created
 abbrev pub built_id : List Record → ℕ → List ℕ → Option ℕ → Option ℕ
 built_id records parent name index = named_from 1 parent name index records

@@ -22,14 +22,17 @@ pub enum Question {
     Param(u32, Text),
     /// The direction and size of a gate of the module of that id.
     GateSize(u32, Text),
-    /// The next gate after a gate of the module of that id, by its name and index, and the channel on the way.
+    /// The next gate after a gate of the module of that id, by its name and index, and the channel
+    /// on the way.
     Hop(u32, Text, u32),
-    /// The gate from which a message comes from outside to a gate of the module of that id, by its name and index.
+    /// The gate from which a message comes from outside to a gate of the module of that id, by its
+    /// name and index.
     HopBack(u32, Text, u32),
-    /// Whether an event at that time, in picoseconds, is later than the option sim-time-limit allows.
+    /// Whether an event at that time, in picoseconds, is later than the option sim-time-limit
+    /// allows.
     BeyondLimit(u64),
-    /// The injection that goes before an event that is due then, or that goes where no event is left;
-    /// of those after this one, which was delivered last.
+    /// The injection that goes before an event that is due then, or that goes where no event is
+    /// left; of those after this one, which was delivered last.
     InjectionBefore(Option<Due>, Option<Turn>),
 }
 
@@ -71,15 +74,20 @@ pub enum ModelFault {
     Unassigned,
     /// A value rests on itself.
     Circle,
-    /// A number of an expression is outside -2^63 to 2^63 - 1, or an amount to shift by is outside 0 to 63.
+    /// A number of an expression is outside -2^63 to 2^63 - 1, or an amount to shift by is outside
+    /// 0 to 63.
     Overflow,
-    /// A quotient in an expression is no whole number, something is divided by zero, or an exponent is below zero.
+    /// A quotient in an expression is no whole number, something is divided by zero, or an exponent
+    /// is below zero.
     Inexact,
-    /// A value is of another kind than its parameter, or than its operator wants, or the size of a vector of submodules is negative.
+    /// A value is of another kind than its parameter, or than its operator wants, or the size of a
+    /// vector of submodules is negative.
     Mismatch,
-    /// A gate's index is out of range, no gate is free, or the size of a gate vector is outside 0 to 65,536.
+    /// A gate's index is out of range, no gate is free, or the size of a gate vector is outside 0
+    /// to 65,536.
     GateSize,
-    /// There is no such submodule or gate, its direction is another, or it is a vector where a single gate is named, or the other way round.
+    /// There is no such submodule or gate, its direction is another, or it is a vector where a
+    /// single gate is named, or the other way round.
     NoGate,
     /// A gate is used by two connections.
     AlreadyConnected,
@@ -172,7 +180,8 @@ pub enum Answer {
     Absent,
 }
 
-/// Whether a time is later than this limit, where there is one, both in picoseconds. A time equal to the limit is not.
+/// Whether a time is later than this limit, where there is one, both in picoseconds. A time equal
+/// to the limit is not.
 pub fn is_beyond(limit: Option<u64>, time: u64) -> bool
     ensures { result ≡ is_beyond limit time }
 {

@@ -11,7 +11,8 @@ use std::alloc::{AllocError, Global};
 /// Where a module comes from.
 #[derive(Clone, Copy, PartialEq, Eq)]
 pub enum Origin {
-    /// It was built with the module around it, or is the network. One that a module creates while a run goes on will be another variant.
+    /// It was built with the module around it, or is the network. One that a module creates while a
+    /// run goes on will be another variant.
     Built,
 }
 

@@ -48,7 +48,8 @@ pub record AreRead (texts : List (List ℕ)) (ini : List ℕ) : Type 0 where
   pub said : IsIniText ini lines
   pub together : fault_of (types_of files) ≡ None
 
--- The model has what the texts say as its files, the flat types of these, and the chain of the configuration, whose section is there; and no injection.
+-- The model has what the texts say as its files, the flat types of these, and the chain of the
+-- configuration, whose section is there; and no injection.
 pub record IsReadAs (texts : List (List ℕ)) (ini config : List ℕ) (m : Model) : Type 0 where
   pub read : AreRead texts ini
   pub files : m.files ≡ read.files
@@ -75,7 +76,8 @@ RefusesFile number bytes fault.TooLarge = is_large bytes ≡ true
 RefusesFile number bytes (fault.NoMemory _) = Unit {0}
 RefusesFile number bytes _ = ⊥
 
--- The text of that number is no NED file, and this is its first line that can't go on; those before it are NED files.
+-- The text of that number is no NED file, and this is its first line that can't go on; those before
+-- it are NED files.
 pub record IsBlamed (texts : List (List ℕ)) (at line : ℕ) : Type 0 where
   pub text : List ℕ
   pub here : slice_get texts at ≡ Some text

@@ -46,18 +46,21 @@ pub enum BeginFault {
     IniSyntax(usize, Reason),
     /// Two types have one name, or one has that of a built-in channel.
     DuplicateType,
-    /// A submodule's type or interface, the channel of a connection, what a type extends, or one of its interfaces isn't declared.
+    /// A submodule's type or interface, the channel of a connection, what a type extends, or one of
+    /// its interfaces isn't declared.
     UnknownType,
     /// A type extends itself, perhaps by way of others.
     InheritanceCircle,
-    /// What a type extends or one of its interfaces is of another kind, a member is declared twice, a value is given to an undeclared
-    /// parameter or after a fixed one, a submodule's type is none of modules, or what a connection names as its channel is no channel.
+    /// What a type extends or one of its interfaces is of another kind, a member is declared twice,
+    /// a value is given to an undeclared parameter or after a fixed one, a submodule's type is none
+    /// of modules, or what a connection names as its channel is no channel.
     KindClash,
     /// A type lacks a parameter or a gate of one of its interfaces.
     Interface,
     /// The configuration isn't in the ini text.
     NoSuchConfig,
-    /// The configuration extends one that isn't in the ini text, one twice, several that can't be put in order, or in the end itself.
+    /// The configuration extends one that isn't in the ini text, one twice, several that can't be
+    /// put in order, or in the end itself.
     ChainFault,
     /// The option `network` names no network.
     NoSuchNetwork,

@@ -14,7 +14,8 @@ use Rattle.inside_keys.specs.Settings.{Setting, Standing}
 use Rattle.model_data.specs.declared.model.Model.{Model}
 use Rattle.model_data.specs.Models.{entries_in, network_of}
 
--- what stands before the last dot of a path: the path of the module around; none where it has no dot
+-- what stands before the last dot of a path: the path of the module around; none where it has no
+-- dot
 abbrev pub before_last : List ℕ → Option (List ℕ)
 before_last path = if nat_lt (length (last_name path)) (length path) then Some (take (length path - suc (length (last_name path))) path) else None
 
@@ -26,8 +27,8 @@ abbrev pub name_before : List ℕ → Option ℕ → List ℕ
 name_before own None = own
 name_before own (Some at) = take at own
 
--- The number that digits make, after those that made this one, up to the bracket that ends them: none where there is another byte before that, or where
--- it has more than 32 bits.
+-- The number that digits make, after those that made this one, up to the bracket that ends them:
+-- none where there is another byte before that, or where it has more than 32 bits.
 abbrev pub index_after : ℕ → List ℕ → Option ℕ
 index_after n [] = None
 index_after n (c ∷ cs) =
@@ -50,8 +51,9 @@ index_in own = index_behind own (bracket_of own)
 abbrev pub around_of : Module → Option Module
 around_of m = option_map (λ path. record { created = m.created; path = path }) (before_last m.path)
 
--- WHERE A MODULE STANDS: what is before the last dot of its path is the module around, after it are its name and its index. The network's path has no
--- dot. Each is declared: none is created while a model runs yet.
+-- WHERE A MODULE STANDS: what is before the last dot of its path is the module around, after it are
+-- its name and its index. The network's path has no dot. Each is declared: none is created while a
+-- model runs yet.
 abbrev pub standing_of : Module → Standing
 standing_of m = record {
   around = around_of m;

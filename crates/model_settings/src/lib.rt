@@ -1,4 +1,5 @@
-//! What the values of a model rest on: where its modules stand, by their paths alone, and its types.
+//! What the values of a model rest on: where its modules stand, by their paths alone, and its
+//! types.
 #![tactic(auto)]
 
 pub mod laws;

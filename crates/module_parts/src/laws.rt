@@ -8,7 +8,8 @@ ghost use Rattle.module_parts.specs.Scripts.{naming_of};
 
 use crate::player::Scripted;
 
-/// Of every module that goes by a script, what a reply lists as read decides the reply and the state after it.
+/// Of every module that goes by a script, what a reply lists as read decides the reply and the
+/// state after it.
 pub fn scripts_read_by_listing<S: Scripted>()
     ensures { law_of_reads (naming_of S.script) }
 {}

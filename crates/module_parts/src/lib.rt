@@ -1,5 +1,5 @@
-//! What simple modules are written with: replies made step by step, which keep the law of reads whatever they do, and a
-//! box round each module that is written so.
+//! What simple modules are written with: replies made step by step, which keep the law of reads
+//! whatever they do, and a box round each module that is written so.
 #![tactic(auto)]
 
 pub mod bytes;

@@ -1,4 +1,5 @@
--- HELD MESSAGES as bytes: from the front, each as kind (2 bytes), priority (2), bits (8), length of the payload (2) and payload.
+-- HELD MESSAGES as bytes: from the front, each as kind (2 bytes), priority (2), bits (8), length of
+-- the payload (2) and payload.
 use Rattle.std.specs.Prelude.{ℕ, zero, suc, ◌<◌, ◌^◌, nat_le, nat_lt, ℤ, pos, negsuc, int_le, Bool, ◌&&◌, List, [], ◌∷◌, ◌++◌, length, take, drop, Option, Some, None, if◌then◌else◌}
 use Rattle.std.specs.Int.{w16}
 use Rattle.std.specs.Int.RustNames.{FitsSigned}
@@ -10,15 +11,16 @@ use Rattle.module_api.specs.Behaviour.{State}
 use Rattle.module_stock.specs.declared.held.Header.{Header}
 use Rattle.module_parts.specs.Bytes.{word, long, take_word, take_long, without_sign, with_sign}
 
--- a message that these bytes can tell: its numbers have those sizes, and its payload at most 65,535 bytes
+-- a message that these bytes can tell: its numbers have those sizes, and its payload at most 65,535
+-- bytes
 pub record Fits (m : Outgoing) : Type 0 where
   pub kind : FitsSigned w16 m.kind
   pub priority : FitsSigned w16 m.priority
   pub bits : m.bits < 2 ^ 64
   pub payload : length m.payload < 2 ^ 16
 
--- whether a message, as a module is handed it, is one that these bytes can tell; those of a run are, since their numbers have
--- these sizes, and their payloads at most 4,096 bytes
+-- whether a message, as a module is handed it, is one that these bytes can tell; those of a run
+-- are, since their numbers have these sizes, and their payloads at most 4,096 bytes
 abbrev pub has_sign : ℤ → Bool
 has_sign z = int_le (negsuc 32767) z && int_le z (pos 32767)
 
@@ -67,7 +69,8 @@ with_payload p =
 unfoldable pub front_of : State → Option (Outgoing × List ℕ)
 front_of state = option_and_then with_payload (header_in state)
 
--- the messages that these bytes are, of which there are at most so many; none where the bytes are not just some messages
+-- the messages that these bytes are, of which there are at most so many; none where the bytes are
+-- not just some messages
 abbrev pub behind_front : (State → Option (List Outgoing)) → Option (Outgoing × List ℕ) → Option (List Outgoing)
 behind_front messages None = None
 behind_front messages (Some p) = option_map (λ ms. p.0 ∷ ms) (messages p.1)

@@ -22,7 +22,8 @@ abbrev pub admitted : Bool → List Outgoing → Outgoing → Looking (List Outg
 admitted true held m = does held (length_emitted (held ++ m ∷ []) ∷ []) (held ++ m ∷ [])
 admitted false held m = acts held (Emit (codes "dropped") (pos 1) ∷ [])
 
--- a message comes: where none is held, its service begins; else it is held if at most as many as the capacity are held
+-- a message comes: where none is held, its service begins; else it is held if at most as many as
+-- the capacity are held
 abbrev pub joined : List Outgoing → Outgoing → Asking (List Outgoing)
 joined [] m =
     reading (whole (codes "capacity") (λ capacity. time (codes "service") (λ service.

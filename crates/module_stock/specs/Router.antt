@@ -1,5 +1,5 @@
--- What a Router is. It sends each message on through the port that the first byte of the payload names, without that byte,
--- and remembers nothing.
+-- What a Router is. It sends each message on through the port that the first byte of the payload
+-- names, without that byte, and remembers nothing.
 use Rattle.std.specs.Prelude.{ℕ, nat_lt, Bool, true, false, List, [], ◌∷◌, codes, if◌then◌else◌}
 use Rattle.module_api.specs.declared.call.Prompt.{Prompt}
 use Rattle.module_api.specs.declared.call.Prompt.TheVariants as prompt

@@ -1,4 +1,5 @@
-//! The modules that come with the program: what each of them is, that they keep the laws of a catalogue, and their code.
+//! The modules that come with the program: what each of them is, that they keep the laws of a
+//! catalogue, and their code.
 #![tactic(auto)]
 
 pub mod arrivals;

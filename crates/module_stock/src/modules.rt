@@ -29,8 +29,8 @@ pub enum StockModule {
 }
 
 impl StockModule {
-    /// A fresh module of that kind, or none where the stock catalogue does not know it. The allocator is for what holds a
-    /// collection.
+    /// A fresh module of that kind, or none where the stock catalogue does not know it. The
+    /// allocator is for what holds a collection.
     #[tactic(auto, unfolding(crate::specs::Stock::stock))]
     pub fn of_kind(alloc: Global, kind: &[u8]) -> Option<StockModule>
         ensures known { IsSome result ↔ IsTrue (stock.known kind.now) }

@@ -25,9 +25,9 @@ use std::alloc::Global;
 use std::collections::VecDeque;
 use std::marker::Model;
 
-/// A module that holds the messages that reach its gate `in`, or that come from outside, and sends each on through its gate
-/// `out` after its service. Contracts see it as the messages that it holds, from the front, the one that is served
-/// among them.
+/// A module that holds the messages that reach its gate `in`, or that come from outside, and sends
+/// each on through its gate `out` after its service. Contracts see it as the messages that it
+/// holds, from the front, the one that is served among them.
 #[derive(Drop)]
 pub struct Queue {
     held: VecDeque<Outgoing>,

@@ -17,8 +17,8 @@ use sim_values::text::Text;
 use sqlite_items::Items;
 use std::alloc::Global;
 
-/// A module that sends each message on through the element of its gate `port` that the first byte of the payload names,
-/// without that byte. A message with an empty payload ends here.
+/// A module that sends each message on through the element of its gate `port` that the first byte
+/// of the payload names, without that byte. A message with an empty payload ends here.
 #[derive(Drop)]
 pub struct Router {}
 

@@ -13,7 +13,8 @@ use sim_values::NoMemory;
 use sim_values::text::Text;
 use std::alloc::Global;
 
-/// A module that emits how long the messages are that reach its gate `in`, or that come from outside.
+/// A module that emits how long the messages are that reach its gate `in`, or that come from
+/// outside.
 #[derive(Drop)]
 pub struct Sink {}
 

@@ -18,21 +18,22 @@ impl Catalogue for Stock {
     ghost lawful = { stock_lawful };
 }
 
-/// Exactly Tick, Source, Queue, Sink and Router are known. It does nothing: its contract is the law.
+/// Exactly Tick, Source, Queue, Sink and Router are known. It does nothing: its contract is the
+/// law.
 pub fn stock_kinds_are_known()
     ensures { (kind : List ℕ) → IsTrue (stock.known kind) ↔ ((kind ≡ codes "Tick") ⊎ ((kind ≡ codes "Source") ⊎ ((kind ≡ codes "Queue") ⊎ ((kind ≡ codes "Sink") ⊎ (kind ≡ codes "Router"))))) }
 {}
 
-/// What a reply of a stock module lists as read decides the reply and the state after it. It does nothing: its contract
-/// is the law.
+/// What a reply of a stock module lists as read decides the reply and the state after it. It does
+/// nothing: its contract is the law.
 pub fn stock_reads_decide()
     ensures { (kind : List ℕ) → law_of_reads (stock.naming kind) }
 {
     reads_decide::<Stock>()
 }
 
-/// A stock module starts in a state of its own, and a call in a state leaves one. It does nothing: its contract is the
-/// law.
+/// A stock module starts in a state of its own, and a call in a state leaves one. It does nothing:
+/// its contract is the law.
 pub fn stock_states_are_kept()
     ensures { (kind : List ℕ) → IsTrue (stock.known kind) → KeepsStates (stock.naming kind) }
 {

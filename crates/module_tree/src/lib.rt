@@ -8,8 +8,8 @@ ghost use Rattle.module_tree.specs.Boxes.{box_of, last_id, with_box, without_box
 use std::alloc::{AllocError, AllocFailed, Global};
 use std::marker::Model;
 
-/// Boxes by the ids of their modules, which contracts see as a list by rising ids. Each box stands at the number of its id, so
-/// none is searched for.
+/// Boxes by the ids of their modules, which contracts see as a list by rising ids. Each box stands
+/// at the number of its id, so none is searched for.
 #[derive(Drop)]
 pub struct Tree<T> {
     slots: Vec<Option<T>>,
@@ -88,7 +88,8 @@ impl<T> Tree<T> {
 }
 
 impl<T: Drop> Tree<T> {
-    /// Gives the module of that id its box, or hands the box back where memory runs out. That module has none yet.
+    /// Gives the module of that id its box, or hands the box back where memory runs out. That
+    /// module has none yet.
     pub fn place(&mut self, id: u32, value: T) -> Result<(), AllocFailed<T>>
         requires { box_of id self.old.seats ≡ None }
         ensures ok { OnOk result (self.new.seats ≡ with_box id value self.old.seats) }

@@ -1,4 +1,5 @@
-//! The channels of connections: the built-in ones with what they have, and which one a connection names.
+//! The channels of connections: the built-in ones with what they have, and which one a connection
+//! names.
 #![tactic(auto)]
 
 pub mod built_in;

@@ -168,7 +168,8 @@ continues_last p u e = rw e (go (rank p u) refl)
     go None er = refl
     go (Some l) er = le_false 12 l (rank_small p u l er)
 
--- left of an operator stands nothing looser, so it binds looser than what stands on the right of that
+-- left of an operator stands nothing looser, so it binds looser than what stands on the right of
+-- that
 pub left_right : (m l : ℕ) → left_level m ≤ l → l < 12 → m < right_level l
 left_right m l h s = go (m == 11) refl (l == 11) refl h
   where

@@ -18,7 +18,8 @@ ExplainsExpression bytes (errors.NoMemory _) = Unit {0}
 ExplainsExpression bytes errors.TooLarge = suc max_length ≤ length bytes
 ExplainsExpression bytes (errors.NedSyntax line) = MayBlame expression bytes line
 
--- A line that is named is that of the first token that can't go on; where the tokens ran out, that of the last byte.
+-- A line that is named is that of the first token that can't go on; where the tokens ran out, that
+-- of the last byte.
 abbrev pub NamesFirstOfExpression : List ℕ → NedError → Type 0
 NamesFirstOfExpression bytes (errors.NoMemory _) = Unit {0}
 NamesFirstOfExpression bytes errors.TooLarge = Unit {0}

@@ -1,5 +1,6 @@
--- The grammar of NED expressions over tokens, a definition for each rule (OMNeT++ Simulation Manual, "NED Language Grammar").
--- `a ⊗ b` is a and then b; `a ▷ b` the same with the value of b, `a ◁ b` with that of a.
+-- The grammar of NED expressions over tokens, a definition for each rule (OMNeT++ Simulation
+-- Manual, "NED Language Grammar"). `a ⊗ b` is a and then b; `a ▷ b` the same with the value of b,
+-- `a ◁ b` with that of a.
 use denote.Enum.Bare.{sameb}
 use Rattle.std.specs.Prelude.{ℕ, zero, suc, max, Bool, true, false, ◌&&◌, ◌||◌, not, Option, Some, None, nat_lt, nat_le, ◌==◌, if◌then◌else◌, is_some, codes}
 use Rattle.std.specs.Str.{bytes_eq}
@@ -58,7 +59,8 @@ operator_of (token.Mark m.Percent) = Some op.Remainder
 operator_of (token.Mark m.Caret) = Some op.Power
 operator_of _ = None
 
--- THE LEVELS, from the loosest: 0 is `?:`, 11 is `^`, 12 is all that is no operator between operands
+-- THE LEVELS, from the loosest: 0 is `?:`, 11 is `^`, 12 is all that is no operator between
+-- operands
 abbrev pub level_of : Operator → ℕ
 level_of op.Or = 1
 level_of op.Xor = 2
@@ -81,7 +83,8 @@ level_of op.Divide = 10
 level_of op.Remainder = 10
 level_of op.Power = 11
 
--- `^` binds from the right, all others from the left: the least level of what stands on the left, and on the right
+-- `^` binds from the right, all others from the left: the least level of what stands on the left,
+-- and on the right
 abbrev pub left_level : ℕ → ℕ
 left_level l = if l == 11 then 12 else l
 
@@ -128,8 +131,9 @@ tightness_at _ = 12
 abbrev pub tightness : Expression → ℕ
 tightness e = tightness_at (out-Expression e)
 
--- THE DEPTH: 0 for a literal or a name, one more than its deepest part for an operator, a call (1 where it has no parts), an index in
--- brackets or a pair of parentheses. Each part stands here as its depth.
+-- THE DEPTH: 0 for a literal or a name, one more than its deepest part for an operator, a call (1
+-- where it has no parts), an index in brackets or a pair of parentheses. Each part stands here as
+-- its depth.
 abbrev pub depth_at : Expression-F ℕ → ℕ
 depth_at (Expression-F.Literal v) = 0
 depth_at (Expression-F.Name x) = 0
@@ -151,7 +155,8 @@ depth_at (Expression-F.Conditional c a b) = suc (max c (max a b))
 abbrev pub depth : Expression → ℕ
 depth e = fold-Expression ℕ depth_at e
 
--- a part of an expression: where it stands, and the least level of an operator outside its parentheses
+-- a part of an expression: where it stands, and the least level of an operator outside its
+-- parentheses
 abbrev pub Inner : Type 1
 Inner = Place → ℕ → Rule Expression
 
@@ -336,7 +341,8 @@ of_kind k r = sealed (is_kind k) is_tail r
 abbrev pub any_literal : Rule Expression
 any_literal = sealed is_literal is_tail literal
 
--- group | signed | index | parent_index | size_of | exists | chosen | named | scoped | literal: all that is no operator between operands
+-- group | signed | index | parent_index | size_of | exists | chosen | named | scoped | literal: all
+-- that is no operator between operands
 unfoldable pub operand : Inner → Rule Expression → Place → Rule Expression
 operand inner at p =
     either (of_kind kinds.Group (group inner))
@@ -372,7 +378,8 @@ abbrev pub put : Expression → Step → Expression
 put e (steps.Binary o b) = expr.Binary o e b
 put e (steps.Conditional a b) = expr.Conditional e a b
 
--- after e an operator of this level may stand, where the whole is at most this deep and has no looser operator than `least`
+-- after e an operator of this level may stand, where the whole is at most this deep and has no
+-- looser operator than `least`
 abbrev pub may : ℕ → ℕ → Expression → ℕ → Bool
 may deepest least e l = nat_le least l && (nat_le (left_level l) (tightness e) && nat_lt (depth e) deepest)
 

@@ -21,7 +21,8 @@ use Rattle.ned_trees.specs.declared.expressions.Expression.TheOpen.{Expression-F
 use Rattle.ned_expressions.specs.Grammar.{choice_text, depth, max_depth, expression}
 use Rattle.ned_expressions.specs.ExpressionText.{IsExpressionText}
 
--- A quantity is a number of the smallest unit. No literal says an amount below zero: a sign stands before it.
+-- A quantity is a number of the smallest unit. No literal says an amount below zero: a sign stands
+-- before it.
 abbrev pub literal_tokens : Value → List Token
 literal_tokens (values.Whole (pos n)) = token.Number n ∷ []
 literal_tokens (values.Whole (negsuc n)) = []
@@ -85,7 +86,8 @@ tokens_at (Expression-F.Conditional c a b) = c ++ token.Mark m.Question ∷ (a +
 abbrev pub expression_tokens : Expression → List Token
 expression_tokens e = fold-Expression (List Token) tokens_at e
 
--- What a text says is spelled by its own tokens: parentheses stand in the value, so that value and tokens determine each other.
+-- What a text says is spelled by its own tokens: parentheses stand in the value, so that value and
+-- tokens determine each other.
 abbrev pub IsSpelledByItself : List ℕ → Type 0
 IsSpelledByItself bytes = (e : Expression) → IsExpressionText bytes e → tokens_of bytes ≡ expression_tokens e
 

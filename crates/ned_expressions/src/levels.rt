@@ -158,7 +158,8 @@ fn is_shallower(expression: &Expression, limit: u32) -> bool
     }
 }
 
-/// Whether an operator of this level may stand after an expression, where the whole is at most so deep and has no looser operator than `least`.
+/// Whether an operator of this level may stand after an expression, where the whole is at most so
+/// deep and has no looser operator than `least`.
 fn may(deepest: u32, least: u32, left: &Expression, level: u32) -> bool
     ensures { result ≡ grammar.may deepest least left.now level }
 {
@@ -177,7 +178,8 @@ fn follows(place: Place, deepest: u32, least: u32, left: &Expression, token: &To
     }
 }
 
-/// The level of the operator that the first token begins after an expression, if one may stand there.
+/// The level of the operator that the first token begins after an expression, if one may stand
+/// there.
 pub(crate) fn next_level(
     place: Place,
     deepest: u32,

@@ -312,7 +312,8 @@ fn size_of(alloc: Global, tokens: &[Token]) -> Result<(Expression, &[Token]), Re
     Ok((Expression::Sizeof(found), rest))
 }
 
-/// `[ element_index ]`: `[e]` after the name in `exists`, nothing where the call may only be one deep.
+/// `[ element_index ]`: `[e]` after the name in `exists`, nothing where the call may only be one
+/// deep.
 #[cycle(exprs)]
 fn optional_index(
     alloc: Global,
@@ -419,8 +420,8 @@ fn signed(
     Ok((Expression::Signed(sign, inner), rest))
 }
 
-/// All that is no operator between operands.
-/// `operand = group | signed | index | parent_index | size_of | exists_rule | chosen | named | scoped | literal`.
+/// All that is no operator between operands. `operand = group | signed | index | parent_index |
+/// size_of | exists_rule | chosen | named | scoped | literal`.
 #[tactic(auto, unfolding(crate::specs::Grammar::operand))]
 #[cycle(exprs)]
 pub(crate) fn operand(

@@ -8,7 +8,8 @@ use std::alloc::{AllocError, Global};
 use std::marker::Model;
 use std::rc::Rc;
 
-/// What a NED file declares, which contracts see as that. All that share it have it in one place, which counts them.
+/// What a NED file declares, which contracts see as that. All that share it have it in one place,
+/// which counts them.
 pub struct SharedFile {
     file: Rc<NedFile>,
 }
@@ -42,7 +43,8 @@ impl SharedFile {
         }
     }
 
-    /// The same file. It takes no memory, and fails only where there are too many that share it to be counted.
+    /// The same file. It takes no memory, and fails only where there are too many that share it to
+    /// be counted.
     pub fn share(&self) -> Result<SharedFile, AllocError>
         ensures { IfOk result (λ shared. shared ≡ self.now) }
     {

@@ -97,7 +97,8 @@ joined_front flat u (t ∷ ts) e =
     (or_grouped flat.connections.allow_unconnected j.connections.allow_unconnected t.connections.allow_unconnected)
     (append_assoc flat.connections.items j.connections.items t.connections.items))
 
--- a type with the members of a base and of all that this extends has those of the flat type of the base
+-- a type with the members of a base and of all that this extends has those of the flat type of the
+-- base
 inherited_heir : (x b u : TypeDeclaration) (class : List ℕ) (name : List ℕ) (ts : List TypeDeclaration) → Empty u → b.base ≡ Some name → joined_with x ts ≡ with_inherited x (joined_with (bare_heir_with class b) ts)
 inherited_heir x b u class name ts e based =
     joined_front x u ts e

@@ -1,4 +1,5 @@
--- Names that were seen before stand for the lines that declare parameters of those names, or give them fixed values.
+-- Names that were seen before stand for the lines that declare parameters of those names, or give
+-- them fixed values.
 use Rattle.std.proofs.Common.{◌≡◌, ℕ, Bool, true, false, not, ◌||◌, ◌&&◌, List, [], ◌∷◌, ◌++◌, refl, sym, ap, ◌∙◌, bytes_eq, Bor, if◌then◌else◌}
 use Rattle.std.specs.Prelude.{is_some}
 use Rattle.std.specs.List.{list_any}

@@ -346,7 +346,8 @@ later_among x y [] is = absurd is
 later_among x y (z ∷ xs) (inl p) = inr p.1
 later_among x y (z ∷ xs) (inr is) = inr (later_among x y xs is)
 
--- what holds of the pairs of two lists and of those across holds of the pairs of both lists together
+-- what holds of the pairs of two lists and of those across holds of the pairs of both lists
+-- together
 before_either : {X : Type 0} (R : X → X → Type 0) (xs ys : List X) → ((x y : X) → StandsBefore x y xs → R x y) → ((x y : X) → IsAmong x xs → IsAmong y ys → R x y) → ((x y : X) → StandsBefore x y ys → R x y) → (x y : X) → StandsBefore x y (xs ++ ys) → R x y
 before_either R [] ys first across second x y is = second x y is
 before_either R (z ∷ xs) ys first across second x y (inl p) = by (among_either y xs ys p.1)
@@ -434,7 +435,8 @@ body_made lines body b =
     declared : (l : SectionLine) → IsAmong l body → t.is_undeclared lines l ≡ false
     declared l is = and_made (is_some (t.value_in l)) _ (λ give. false_not _ (declared_is (t.name_in l) lines (fewer_lines (t.name_in l) lines body b.undeclaring (b.section.given l (among_second l lines body is) give))))
 
--- the body of a submodule clashes with its type where it clashes with the lines of the one type of that name
+-- the body of a submodule clashes with its type where it clashes with the lines of the one type of
+-- that name
 unfit_by : (types : List TypeDeclaration) (s : Submodule) (u : TypeDeclaration) → ((a b : TypeDeclaration) → StandsBefore a b types → a.name ≢ b.name) → IsAmong u types → u.name ≡ (t.type_name s) → t.has_unfit_body types s ≡ t.body_clashes u.lines s.body.lines
 unfit_by types s u apart is e = ap (t.clashes_with s.body.lines) (ap (λ (n : List ℕ). t.type_named n types) (sym e) ∙ type_is types u apart is)
 
@@ -481,7 +483,8 @@ lines_found types name lines h = by (t.is_built_in name) refl h
     by true e h = inl (e, sym cc)
     by false e h = inr (channel_found types name lines h)
 
--- none of the types has the name of a built-in channel, so a channel among them is found by its name
+-- none of the types has the name of a built-in channel, so a channel among them is found by its
+-- name
 lines_are : (types : List TypeDeclaration) (name : List ℕ) (lines : List SectionLine) → IsWellFormed types → IsChannelNamed types name lines → k.channel_lines types name ≡ Some lines
 lines_are types name lines w (inl built_in) = ap (λ b. if b then Some (built_in_lines name) else k.lines_of_channel (t.type_named name types)) built_in.0 ∙ ap Some (sym built_in.1)
 lines_are types name lines w (inr u) =

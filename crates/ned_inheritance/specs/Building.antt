@@ -25,7 +25,8 @@ base_fault types =
     else (if has_circle types then Some InheritanceCircle
     else (if has_inner_network types || (has_other_base types || has_other_interface types) then Some KindClash else None)))
 
--- the faults of flat types: a clash in one of them, and then a member of an interface that one lacks
+-- the faults of flat types: a clash in one of them, and then a member of an interface that one
+-- lacks
 abbrev pub flat_fault : List TypeDeclaration → Option TypeFault
 flat_fault types =
     if has_clash types then Some KindClash
@@ -35,8 +36,8 @@ flat_fault types =
 abbrev pub fault_of : List TypeDeclaration → Option TypeFault
 fault_of types = or_else (base_fault types) (flat_fault (flat_types types))
 
--- THE PLACE of a fault: the first, type by type, that has it. A clash is one of names and kinds, or else one of flat types; of flat types
--- the place is told where the rules say it (Places)
+-- THE PLACE of a fault: the first, type by type, that has it. A clash is one of names and kinds, or
+-- else one of flat types; of flat types the place is told where the rules say it (Places)
 abbrev pub IsPlace : List TypeDeclaration → TypeFault → Place → Type 0
 IsPlace types DuplicateType p = duplicate_from [] 0 types ≡ Some p.number
 IsPlace types UnknownType p = place_from (unknown_in types) 0 types ≡ Some p
@@ -52,7 +53,8 @@ IsFlatPlace types InheritanceCircle p = ⊥
 IsFlatPlace types KindClash p = Unit {0}
 IsFlatPlace types Interface p = place_from (lacked_in types) 0 types ≡ Some p
 
--- the answer to these types: the flat type of each, or their first fault and its place; or memory ran out
+-- the answer to these types: the flat type of each, or their first fault and its place; or memory
+-- ran out
 abbrev pub Builds : List TypeDeclaration → Result (List TypeDeclaration) BuildError → Type 0
 Builds types (Ok table) = (table ≡ flat_types types) × (fault_of types ≡ None)
 Builds types (Err (NoMemory _)) = Unit {0}
@@ -75,7 +77,8 @@ AnswersTable types (Ok table) = table ≡ types
 AnswersTable types (Err (NoMemory _)) = Unit {0}
 AnswersTable types (Err (Fault _ _)) = ⊥
 
--- a type of that kind may extend what has that name: a type among these, which is of its own kind, or for a channel a built-in one
+-- a type of that kind may extend what has that name: a type among these, which is of its own kind,
+-- or for a channel a built-in one
 abbrev pub MayExtend : TypeKind → List ℕ → List TypeDeclaration → Type 0
 MayExtend Simple name types = IsTypeOf Simple name types
 MayExtend Module name types = IsTypeOf Network name types ⊎ IsTypeOf Module name types
@@ -86,7 +89,8 @@ MayExtend ChannelInterface name types = ⊥
 
 -- THE RULES of types that extend others:
 pub record KeepRules (types : List TypeDeclaration) : Type 0 where
-  -- what is extended is among these and of the kind of what extends it, or a built-in channel that a channel extends;
+  -- what is extended is among these and of the kind of what extends it, or a built-in channel that
+  -- a channel extends;
   pub bases : (t : TypeDeclaration) → IsAmong t types → (name : List ℕ) → t.base ≡ Some name → MayExtend t.kind name types
   -- each interface is among these too, and one for types of that kind;
   pub interfaces : (t : TypeDeclaration) → IsAmong t types → (name : List ℕ) → IsAmong name t.interfaces → (i : TypeDeclaration) × IsAmong i types × (i.name ≡ name) × (can_keep t.kind i.kind ≡ true)

@@ -1,4 +1,5 @@
--- Types that extend themselves, in the words of the manual and not of a count (OMNeT++ Simulation Manual, "Inheritance").
+-- Types that extend themselves, in the words of the manual and not of a count (OMNeT++ Simulation
+-- Manual, "Inheritance").
 use Rattle.std.specs.Prelude.{◌≡◌, ◌↔◌, ◌⊎◌, ℕ, zero, suc, true, List, Some}
 use Rattle.ned_trees.specs.declared.declarations.TypeDeclaration.{TypeDeclaration}
 use Rattle.ned_types.specs.Types.{is_interface_kind}

@@ -169,7 +169,8 @@ fault_like lines gates = fault_of (keeping (codes "A") None (codes "I" ∷ []) l
 abbrev pub gated : List ℕ → Option (List ℕ) → List GateLine → TypeDeclaration
 gated name base gates = record { kind = Simple; name = name; base = base; interfaces = []; lines = []; gates = gates; submodules = []; connections = no_connections }
 
--- why `t: TYPE { LINES }` makes no model, with Tick, Slow, and Fast, which extends Tick and gives nothing
+-- why `t: TYPE { LINES }` makes no model, with Tick, Slow, and Fast, which extends Tick and gives
+-- nothing
 abbrev pub fault_with : List ℕ → List SectionLine → Option TypeFault
 fault_with name body = fault_of (network_of [] (t_with name body ∷ []) ∷ slow ∷ tick ∷ heir (codes "Fast") (codes "Tick") ∷ [])
 
@@ -183,7 +184,8 @@ one_connection = record {
   items = item.Line (record { connection = record { left = own_gate (codes "g"); arrow = arrow.Right; channel = None; right = own_gate (codes "h") }; clauses = [] }) ∷ [];
 }
 
--- why `network N { submodules: SUBMODULE connections: .. }` makes no model, with Tick, the interface I and the channel Slow
+-- why `network N { submodules: SUBMODULE connections: .. }` makes no model, with Tick, the
+-- interface I and the channel Slow
 abbrev pub fault_inside : Submodule → ConnectionSection → Option TypeFault
 fault_inside s connections = fault_of (record { kind = Network; name = codes "N"; base = None; interfaces = []; lines = []; gates = []; submodules = s ∷ []; connections = connections } ∷ tick ∷ gap_and_in ∷ slow_channel ∷ [])
 
@@ -210,8 +212,8 @@ fault_grouped name block = fault_inside (tick_named (codes "t")) (record { allow
 abbrev pub module_m : TypeDeclaration
 module_m = record { kind = Module; name = codes "M"; base = None; interfaces = []; lines = []; gates = []; submodules = []; connections = no_connections }
 
--- the members of the base and then its own, the class of the base, its own value, and its own statistic in the place of
--- the base's; and so also where the base stands after it
+-- the members of the base and then its own, the class of the base, its own value, and its own
+-- statistic in the place of the base's; and so also where the base stands after it
 pub record ExampleIsFlat : Type 0 where
   pub joined : (flat_type (tick ∷ slow ∷ []) slow).lines ≡ line.Class (codes "Tick") ∷ (tick_lines ++ slow_lines)
   pub behind : flat_type (slow ∷ tick ∷ []) slow ≡ flat_type (tick ∷ slow ∷ []) slow
@@ -222,7 +224,8 @@ pub record ExampleIsFlat : Type 0 where
   pub class_between : class_of (flat_type (heir (codes "Last") (codes "Fast") ∷ tick ∷ classed (codes "Fast") (codes "Tick") ∷ []) (heir (codes "Last") (codes "Fast"))) ≡ codes "Own"
   pub root : flat_type (tick ∷ slow ∷ []) tick ≡ tick
 
--- the first fault in the order DuplicateType, UnknownType, InheritanceCircle, KindClash, wherever the types stand
+-- the first fault in the order DuplicateType, UnknownType, InheritanceCircle, KindClash, wherever
+-- the types stand
 pub record ExampleFaults : Type 0 where
   pub none : fault_of (slow ∷ tick ∷ []) ≡ None
   pub twice : fault_of (tick ∷ tick ∷ []) ≡ Some DuplicateType
@@ -236,8 +239,9 @@ pub record ExampleFaults : Type 0 where
   pub third : fault_of (heir (codes "B") (codes "Zed") ∷ heir (codes "A") (codes "A") ∷ []) ≡ Some UnknownType
   pub fourth : fault_of (heir (codes "B") (codes "Zed") ∷ tick ∷ tick ∷ []) ≡ Some DuplicateType
 
--- values in a body are for parameters that the type or what it extends declares, and stand after no fixed value; a body
--- declares nothing; and the parameters of the network around the submodule are not those of the submodule
+-- values in a body are for parameters that the type or what it extends declares, and stand after no
+-- fixed value; a body declares nothing; and the parameters of the network around the submodule are
+-- not those of the submodule
 pub record ExampleBodies : Type 0 where
   pub empty : fault_with (codes "Tick") [] ≡ None
   pub fixed : fault_with (codes "Tick") (fixed_gap 5 ∷ []) ≡ None
@@ -257,8 +261,8 @@ pub record ExampleBodies : Type 0 where
   pub section_unknown : fault_of (network_of (second_for (codes "own") ∷ []) [] ∷ []) ≡ Some KindClash
   pub section_twice : fault_of (network_of (double_named (codes "own") ∷ double_named (codes "own") ∷ []) [] ∷ []) ≡ Some KindClash
 
--- a network that extends another has its parameters, gates and submodules too, those of the root first; a member of the base
--- isn't declared again, and a network extends networks alone
+-- a network that extends another has its parameters, gates and submodules too, those of the root
+-- first; a member of the base isn't declared again, and a network extends networks alone
 pub record ExampleNetworks : Type 0 where
   pub submodules : (flat_type (heir_network (codes "M") [] (tick_named (codes "b") ∷ []) ∷ network_of [] (tick_named (codes "a") ∷ []) ∷ tick ∷ []) (heir_network (codes "M") [] (tick_named (codes "b") ∷ []))).submodules ≡ tick_named (codes "a") ∷ tick_named (codes "b") ∷ []
   pub lines : (flat_type (network_of (double_named (codes "own") ∷ []) [] ∷ heir_network (codes "M") (second_for (codes "own") ∷ []) [] ∷ []) (heir_network (codes "M") (second_for (codes "own") ∷ []) [])).lines ≡ double_named (codes "own") ∷ second_for (codes "own") ∷ []
@@ -273,7 +277,8 @@ pub record ExampleNetworks : Type 0 where
   pub channel_of_simple : fault_of (channel_of (codes "Fast") (Some (codes "Tick")) ∷ tick ∷ []) ≡ Some KindClash
   pub submodule_channel : fault_of (network_of [] (t_with (codes "Slow") [] ∷ []) ∷ channel_of (codes "Slow") None ∷ []) ≡ Some KindClash
 
--- a channel has what the built-in channel has that its root extends, and no more; those are parameters with a default
+-- a channel has what the built-in channel has that its root extends, and no more; those are
+-- parameters with a default
 pub record ExampleChannels : Type 0 where
   pub ideal : (flat_type (channel_with (codes "C") (codes "IdealChannel") [] ∷ []) (channel_with (codes "C") (codes "IdealChannel") [])).lines ≡ []
   pub delay : (flat_type (channel_with (codes "C") (codes "DelayChannel") [] ∷ []) (channel_with (codes "C") (codes "DelayChannel") [])).lines ≡ delay_default ∷ disabled_default ∷ []
@@ -289,8 +294,9 @@ pub record ExampleChannels : Type 0 where
   pub unknown : fault_of (channel_of (codes "C") (Some (codes "Zed")) ∷ []) ≡ Some UnknownType
   pub itself : fault_of (channel_of (codes "C") (Some (codes "C")) ∷ []) ≡ Some InheritanceCircle
 
--- gates stand after those of the base, and none is declared twice, whatever its direction; a gate and a parameter may have
--- one name; and a size, also that of a gate that is declared nowhere, is no fault of types
+-- gates stand after those of the base, and none is declared twice, whatever its direction; a gate
+-- and a parameter may have one name; and a size, also that of a gate that is declared nowhere, is
+-- no fault of types
 pub record ExampleGates : Type 0 where
   pub joined : (flat_type (gated (codes "B") (Some (codes "A")) (output_gates (codes "out") ∷ three_of (codes "out") ∷ []) ∷ gated (codes "A") None (input_gate (codes "in") ∷ []) ∷ []) (gated (codes "B") (Some (codes "A")) (output_gates (codes "out") ∷ three_of (codes "out") ∷ []))).gates ≡ input_gate (codes "in") ∷ output_gates (codes "out") ∷ three_of (codes "out") ∷ []
   pub sized : fault_of (gated (codes "A") None (output_gates (codes "out") ∷ []) ∷ gated (codes "B") (Some (codes "A")) (three_of (codes "out") ∷ three_of (codes "out") ∷ three_of (codes "in") ∷ []) ∷ []) ≡ None
@@ -298,8 +304,9 @@ pub record ExampleGates : Type 0 where
   pub twice : fault_of (gated (codes "A") None (input_gate (codes "g") ∷ input_gate (codes "h") ∷ input_gate (codes "g") ∷ []) ∷ []) ≡ Some KindClash
   pub other_kind : fault_of (record { kind = Simple; name = codes "A"; base = None; interfaces = []; lines = double_named (codes "g") ∷ []; gates = input_gate (codes "g") ∷ []; submodules = []; connections = no_connections } ∷ []) ≡ None
 
--- a type has the parameters and gates of its interfaces, also those that these extend, as it or what it extends declares them:
--- with their words, whatever their units, their directions, and as vectors where they are vectors
+-- a type has the parameters and gates of its interfaces, also those that these extend, as it or
+-- what it extends declares them: with their words, whatever their units, their directions, and as
+-- vectors where they are vectors
 pub record ExampleInterfaces : Type 0 where
   pub none : fault_like (double_named (codes "gap") ∷ []) (input_gate (codes "in") ∷ []) ≡ None
   pub no_parameter : fault_like [] (input_gate (codes "in") ∷ []) ≡ Some Interface
@@ -315,8 +322,9 @@ pub record ExampleInterfaces : Type 0 where
   pub channel : fault_of (record { kind = Channel; name = codes "C"; base = Some (codes "DelayChannel"); interfaces = codes "D" ∷ []; lines = []; gates = []; submodules = []; connections = no_connections } ∷ record { kind = ChannelInterface; name = codes "D"; base = None; interfaces = []; lines = double_named (codes "delay") ∷ []; gates = []; submodules = []; connections = no_connections } ∷ []) ≡ None
   pub last : fault_of (keeping (codes "A") None (codes "I" ∷ []) [] [] ∷ gap_and_in ∷ type_with (codes "B") None (second_for (codes "own") ∷ []) ∷ []) ≡ Some KindClash
 
--- an interface has what those have that it extends, each once, in the order in which they are named; two declarations of one name
--- clash; and what stands among the interfaces of a type is an interface for its kind
+-- an interface has what those have that it extends, each once, in the order in which they are
+-- named; two declarations of one name clash; and what stands among the interfaces of a type is an
+-- interface for its kind
 pub record ExampleExtending : Type 0 where
   pub flat : flat_type (interface_of (codes "J") (codes "I" ∷ []) (double_named (codes "own") ∷ []) [] ∷ gap_and_in ∷ []) (interface_of (codes "J") (codes "I" ∷ []) (double_named (codes "own") ∷ []) []) ≡ interface_of (codes "J") [] (double_named (codes "gap") ∷ double_named (codes "own") ∷ []) (input_gate (codes "in") ∷ [])
   pub two_ways : (flat_type (interface_of (codes "K") (codes "J" ∷ codes "H" ∷ []) (double_named (codes "k") ∷ []) [] ∷ interface_of (codes "H") (codes "I" ∷ []) (double_named (codes "h") ∷ []) [] ∷ interface_of (codes "J") (codes "I" ∷ []) (double_named (codes "j") ∷ []) [] ∷ gap_and_in ∷ []) (interface_of (codes "K") (codes "J" ∷ codes "H" ∷ []) (double_named (codes "k") ∷ []) [])).lines ≡ double_named (codes "gap") ∷ double_named (codes "j") ∷ double_named (codes "h") ∷ double_named (codes "k") ∷ []
@@ -337,9 +345,10 @@ pub record ExampleExtending : Type 0 where
   pub mixed_circle : fault_of (interface_of (codes "J") (codes "A" ∷ []) [] [] ∷ heir (codes "A") (codes "J") ∷ []) ≡ Some InheritanceCircle
   pub kept_circle : fault_of (keeping (codes "A") None (codes "J" ∷ []) [] [] ∷ interface_of (codes "J") (codes "A" ∷ []) [] [] ∷ []) ≡ Some KindClash
 
--- the type of a submodule is one of modules, and what stands after `like` an interface of modules, over whose lines the body stands; a body
--- declares no gate; what a connection names as its channel is a channel, and its block gives values to that channel's parameters alone, and none
--- after a fixed one; a block alone means the built-in channel that has what it sets
+-- the type of a submodule is one of modules, and what stands after `like` an interface of modules,
+-- over whose lines the body stands; a body declares no gate; what a connection names as its channel
+-- is a channel, and its block gives values to that channel's parameters alone, and none after a
+-- fixed one; a block alone means the built-in channel that has what it sets
 pub record ExampleInsides : Type 0 where
   pub like_interface : fault_inside (like_with (codes "I") (second_for (codes "gap") ∷ [])) no_connections ≡ None
   pub like_other : fault_inside (like_with (codes "I") (second_for (codes "own") ∷ [])) no_connections ≡ Some KindClash
@@ -360,8 +369,8 @@ pub record ExampleInsides : Type 0 where
   pub clash_in_group : fault_grouped (Some (codes "Tick")) [] ≡ Some KindClash
   pub inherited : fault_of (heir_network (codes "O") [] [] ∷ record { kind = Network; name = codes "N"; base = None; interfaces = []; lines = []; gates = []; submodules = []; connections = one_connection } ∷ []) ≡ None
 
--- a network may have connections, or a section of connections without any, vectors of submodules, conditions, sizes of gates in bodies,
--- and submodules that are compound modules or networks
+-- a network may have connections, or a section of connections without any, vectors of submodules,
+-- conditions, sizes of gates in bodies, and submodules that are compound modules or networks
 pub record ExampleParts : Type 0 where
   pub unconnected : fault_inside (tick_named (codes "t")) (record { allow_unconnected = true; items = [] }) ≡ None
   pub connections : fault_inside (tick_named (codes "t")) one_connection ≡ None

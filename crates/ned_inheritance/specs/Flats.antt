@@ -24,7 +24,8 @@ bare_heir_with class t = record {
   connections = no_connections;
 }
 
--- the lines of a flat type, but for that of its class, which stands before the others where it is a simple type that extends another
+-- the lines of a flat type, but for that of its class, which stands before the others where it is a
+-- simple type that extends another
 abbrev pub own_lines : TypeDeclaration → List SectionLine
 own_lines flat = if is_simple_kind flat.kind && is_some flat.base then drop 1 flat.lines else flat.lines
 

@@ -58,8 +58,8 @@ abbrev pub is_one_left : List TypeDeclaration → Bool
 is_one_left [] = false
 is_one_left (t ∷ ts) = true
 
--- whether a type extends itself, perhaps by way of others: some are left where those that extend none of the others were taken away
--- as many times as there are types
+-- whether a type extends itself, perhaps by way of others: some are left where those that extend
+-- none of the others were taken away as many times as there are types
 abbrev pub has_circle : List TypeDeclaration → Bool
 has_circle types = is_one_left (left_after (length types) types)
 
@@ -86,8 +86,9 @@ is_module_kind ChannelInterface = false
 abbrev pub is_compound_kind : TypeKind → Bool
 is_compound_kind kind = is_module_kind kind || is_network_kind kind
 
--- whether a type of the first kind may extend one of the second: a simple type a simple type, a compound module or a network one of these two, and a
--- channel a channel; what an interface extends stands among its interfaces
+-- whether a type of the first kind may extend one of the second: a simple type a simple type, a
+-- compound module or a network one of these two, and a channel a channel; what an interface extends
+-- stands among its interfaces
 abbrev pub can_extend : TypeKind → TypeKind → Bool
 can_extend Simple of = is_simple_kind of
 can_extend Module of = is_compound_kind of
@@ -118,11 +119,13 @@ has_other_base types = list_any (λ t. extends_other types t.kind t.base) types
 abbrev pub no_connections : ConnectionSection
 no_connections = record { allow_unconnected = false; items = [] }
 
--- the connections of two sections, those of the first one first; gates may stay unconnected where one of them says so
+-- the connections of two sections, those of the first one first; gates may stay unconnected where
+-- one of them says so
 abbrev pub joined_connections : ConnectionSection → ConnectionSection → ConnectionSection
 joined_connections c d = record { allow_unconnected = c.allow_unconnected || d.allow_unconnected; items = c.items ++ d.items }
 
--- a type with the members of another one after its own; those begin with what a built-in channel has that the other extends
+-- a type with the members of another one after its own; those begin with what a built-in channel
+-- has that the other extends
 abbrev pub with_members : TypeDeclaration → TypeDeclaration → TypeDeclaration
 with_members flat t = record {
   kind = flat.kind;
@@ -140,7 +143,8 @@ abbrev pub joined_with : TypeDeclaration → List TypeDeclaration → TypeDeclar
 joined_with flat [] = flat
 joined_with flat (t ∷ ts) = with_members (joined_with flat ts) t
 
--- the class of a type: the one that it names, or else that of its base; of the root at last its own name
+-- the class of a type: the one that it names, or else that of its base; of the root at last its own
+-- name
 abbrev pub class_along : List TypeDeclaration → List ℕ
 class_along [] = []
 class_along (t ∷ []) = class_of t
@@ -151,8 +155,9 @@ abbrev pub class_lines : Bool → List ℕ → List SectionLine
 class_lines true class = line.Class class ∷ []
 class_lines false class = []
 
--- a type that extends another, before it has any member. The class of a simple type stands before its lines, as the first
--- class that lines name counts; types of other kinds have none. It keeps the name of what it extends: names that values choose are looked up there too
+-- a type that extends another, before it has any member. The class of a simple type stands before
+-- its lines, as the first class that lines name counts; types of other kinds have none. It keeps
+-- the name of what it extends: names that values choose are looked up there too
 abbrev pub bare_heir_of : List TypeDeclaration → TypeDeclaration → TypeDeclaration
 bare_heir_of line t = record {
   kind = t.kind;
@@ -168,7 +173,8 @@ bare_heir_of line t = record {
 abbrev pub bare_heir : List TypeDeclaration → TypeDeclaration → TypeDeclaration
 bare_heir types t = bare_heir_of (line_of types t) t
 
--- a type that extends another, with all that its bases have, what the root has first and its own last
+-- a type that extends another, with all that its bases have, what the root has first and its own
+-- last
 abbrev pub heir_of : List TypeDeclaration → TypeDeclaration → TypeDeclaration
 heir_of types t = joined_with (bare_heir types t) (line_of types t)
 
@@ -191,7 +197,8 @@ abbrev pub joined_behind : List TypeDeclaration → List (List TypeDeclaration) 
 joined_behind line [] = line
 joined_behind line (more ∷ others) = joined_behind (all_behind line more) others
 
--- an interface after all that it extends, where this says the same of each name; nothing where there is none
+-- an interface after all that it extends, where this says the same of each name; nothing where
+-- there is none
 abbrev pub behind_all : (List ℕ → List TypeDeclaration) → Option TypeDeclaration → List TypeDeclaration
 behind_all line None = []
 behind_all line (Some t) = if is_interface_kind t.kind then once_behind (joined_behind [] (map line t.interfaces)) t else []
@@ -201,8 +208,8 @@ abbrev pub reached : ℕ → List TypeDeclaration → List ℕ → List TypeDecl
 reached zero types name = []
 reached (suc n) types name = behind_all (λ m. reached n types m) (type_named name types)
 
--- THE INTERFACES of these names and all that they extend, each once and after what it extends itself: a way without a circle has fewer steps
--- than there are types
+-- THE INTERFACES of these names and all that they extend, each once and after what it extends
+-- itself: a way without a circle has fewer steps than there are types
 abbrev pub interfaces_behind : List TypeDeclaration → List (List ℕ) → List TypeDeclaration
 interfaces_behind types names = joined_behind [] (map (λ n. reached (length types) types n) names)
 

@@ -37,7 +37,8 @@ is_unknown_named types some =
     || (list_any (λ t. extends_unknown types t.base) some
     || (list_any (λ t. names_no_type types t.interfaces) some || list_any (λ t. has_unknown_channel types t.connections.items) some))
 
--- whether some of the types are networks within networks, or name what is of another kind than it should be
+-- whether some of the types are networks within networks, or name what is of another kind than it
+-- should be
 abbrev pub is_other_named : List TypeDeclaration → List TypeDeclaration → Bool
 is_other_named types some = has_inner_network some || (list_any (λ t. extends_other types t.kind t.base) some || list_any (λ t. keeps_other types t.kind t.interfaces) some)
 
@@ -77,7 +78,8 @@ kept_behind line t = if is_bare t then line else once_behind line t
 abbrev pub HaveLines : List (Bor (List ℕ) × List TypeDeclaration) → List TypeDeclaration → Type 0
 HaveLines entries types = (name : List ℕ) → line_at entries name ≡ kept types (reached (length types) types name)
 
--- the line of an interface was added, which joins those of what it extends, and itself where it has members
+-- the line of an interface was added, which joins those of what it extends, and itself where it has
+-- members
 abbrev pub AddsLine : List (Bor (List ℕ) × List TypeDeclaration) → List (Bor (List ℕ) × List TypeDeclaration) → TypeDeclaration → Type 0
 AddsLine before after t = (name : List ℕ) → line_at after name ≡ (if bytes_eq t.name name then kept_behind (joined_behind [] (map (line_at before) t.interfaces)) t else line_at before name)
 
@@ -94,7 +96,8 @@ abbrev pub StandBehind : List TypeDeclaration → List TypeDeclaration → List 
 StandBehind types seen [] = Unit {0}
 StandBehind types seen (t ∷ ts) = IsBehind types seen t × StandBehind types (seen ++ t ∷ []) ts
 
--- at the name of each type that was seen stand those of the line of its interface that have members, and at other names none
+-- at the name of each type that was seen stand those of the line of its interface that have
+-- members, and at other names none
 abbrev pub HaveLinesOf : List (Bor (List ℕ) × List TypeDeclaration) → List TypeDeclaration → List TypeDeclaration → Type 0
 HaveLinesOf entries types seen =
     ((name : List ℕ) → is_type_named name seen ≡ true → (n : ℕ) → length seen ≤ n → kept types (reached n types name) ≡ line_at entries name)

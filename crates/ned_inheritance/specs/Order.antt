@@ -28,7 +28,8 @@ AreAmong some types = (x : TypeDeclaration) → IsAmong x some → IsAmong x typ
 abbrev pub Covers : List TypeDeclaration → List TypeDeclaration → List TypeDeclaration → Type 0
 Covers types seen rest = (name : List ℕ) → is_type_named name types ≡ true → (is_type_named name seen || is_type_named name rest) ≡ true
 
--- an order of some of the types, each after all that it extends, and others, among which are all that it lacks
+-- an order of some of the types, each after all that it extends, and others, among which are all
+-- that it lacks
 abbrev pub IsUnderWay : List TypeDeclaration → List TypeDeclaration → List TypeDeclaration → Type 0
 IsUnderWay types order left = AreAmong left types × Covers types order left × StandBehind types [] order
 

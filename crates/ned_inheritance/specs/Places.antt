@@ -22,7 +22,8 @@ abbrev pub placed : ℕ → Option Member → Option Place
 placed n None = None
 placed n (Some m) = Some (record { number = n; member = m })
 
--- the first place where a type breaks a rule, which tells what of it does; the types are counted on from a number
+-- the first place where a type breaks a rule, which tells what of it does; the types are counted on
+-- from a number
 abbrev pub place_from : (TypeDeclaration → Option Member) → ℕ → List TypeDeclaration → Option Place
 place_from broken n [] = None
 place_from broken n (t ∷ ts) = or_else (placed n (broken t)) (place_from broken (suc n) ts)
@@ -48,14 +49,16 @@ unknown_in types t =
     (or_else (option_map Submodule (first_from (λ s. not (is_submodule_known types s)) 0 t.submodules))
     (unknown_channel_from types 0 t.connections.items))
 
--- ANOTHER KIND: what of a type is of another kind than it should be, or that it is a network within another
+-- ANOTHER KIND: what of a type is of another kind than it should be, or that it is a network within
+-- another
 abbrev pub other_in : List TypeDeclaration → TypeDeclaration → Option Member
 other_in types t =
     if is_inner_network t then Some Whole
     else (if extends_other types t.kind t.base then Some Base
     else option_map Interface (first_from (λ n. not (is_interface_for t.kind (type_named n types))) 0 t.interfaces))
 
--- A MEMBER THAT IS LACKED: the first of an interface that a type lacks, where that is its interface of that number
+-- A MEMBER THAT IS LACKED: the first of an interface that a type lacks, where that is its interface
+-- of that number
 abbrev pub lacked_of : TypeDeclaration → ℕ → TypeDeclaration → Option Member
 lacked_of t n i = or_else (option_map (LacksParameter n) (first_from (λ l. lacks_parameter t.lines l) 0 i.lines))
     (option_map (LacksGate n) (first_from (λ g. lacks_gate t.gates g) 0 i.gates))
@@ -73,8 +76,8 @@ lacked_from types t n (name ∷ names) = or_else (lacked_of_any t n (type_named 
 abbrev pub lacked_in : List TypeDeclaration → TypeDeclaration → Option Member
 lacked_in types t = lacked_from types t 0 t.interfaces
 
--- A NAME THAT IS TAKEN: the number of the first type that has the name of a built-in channel or of a type before it, where these were before and
--- the others are counted on from a number
+-- A NAME THAT IS TAKEN: the number of the first type that has the name of a built-in channel or of
+-- a type before it, where these were before and the others are counted on from a number
 abbrev pub duplicate_from : List TypeDeclaration → ℕ → List TypeDeclaration → Option ℕ
 duplicate_from seen n [] = None
 duplicate_from seen n (t ∷ ts) = if is_built_in t.name || is_type_named t.name seen then Some n else duplicate_from (seen ++ t ∷ []) (suc n) ts

@@ -57,7 +57,8 @@ fn unfit_body(
 /// Why a line can't stand in a body or a block, and its number there.
 #[derive(Clone, Copy)]
 pub(crate) enum Misfit {
-    /// It declares a parameter, or gives a value to one that the type doesn't declare, or has a fixed value for.
+    /// It declares a parameter, or gives a value to one that the type doesn't declare, or has a
+    /// fixed value for.
     Unfit(usize),
     /// It gives a value to a parameter that has a fixed one in a line before it.
     Again(usize),
@@ -74,7 +75,8 @@ fn in_body(number: usize, misfit: Option<Misfit>) -> Option<Member>
     }
 }
 
-/// The first line of a body, or of a channel's block, that can't stand over these lines of a type. Over an empty body nothing is made of them.
+/// The first line of a body, or of a channel's block, that can't stand over these lines of a type.
+/// Over an empty body nothing is made of them.
 pub(crate) fn first_misfit(
     alloc: Global,
     lines: &[SectionLine],
@@ -107,7 +109,8 @@ fn first_unfit(
     first_unfit_over(&mut declared, &mut fixed, lines, body)
 }
 
-/// The first of the lines of a body that can't stand over these lines of a type, whose names are added to two empty sets.
+/// The first of the lines of a body that can't stand over these lines of a type, whose names are
+/// added to two empty sets.
 fn first_unfit_over<'a>(
     declared: &mut IndexSet<&'a [u8]>,
     fixed: &mut IndexSet<&'a [u8]>,
@@ -123,8 +126,8 @@ fn first_unfit_over<'a>(
     Ok(first_unfit_by(declared, fixed, body))
 }
 
-/// The first of the lines of a body that can't stand over lines that declare parameters of the first names, and fix those of the
-/// second.
+/// The first of the lines of a body that can't stand over lines that declare parameters of the
+/// first names, and fix those of the second.
 fn first_unfit_by(
     declared: &IndexSet<&[u8]>,
     fixed: &IndexSet<&[u8]>,

@@ -1,4 +1,5 @@
-//! The channels of connections: whether what they name is there, and is a channel, and whether their blocks fit it.
+//! The channels of connections: whether what they name is there, and is a channel, and whether
+//! their blocks fit it.
 
 ghost use Rattle.std.specs.Prelude.{◌≡◌, [], is_some, IfOk};
 ghost use Rattle.std.specs.List.{list_any};
@@ -22,7 +23,8 @@ use std::alloc::{AllocError, Global};
 
 // ---- names
 
-/// Whether the name of the channel of a connection is neither that of a type nor of a built-in channel.
+/// Whether the name of the channel of a connection is neither that of a type nor of a built-in
+/// channel.
 fn is_channel_unknown(named: &NamedTypes<'_>, line: &ConnectionLine) -> bool
     ensures { result ≡ is_channel_unknown named.now line.now }
 {
@@ -63,7 +65,8 @@ fn first_unknown_in(named: &NamedTypes<'_>, item: &ConnectionItem) -> Option<usi
     }
 }
 
-/// That the name of the channel is unknown of the connection of that number, of the item of the first.
+/// That the name of the channel is unknown of the connection of that number, of the item of the
+/// first.
 fn channel_at(item: usize, line: Option<usize>) -> Option<Member>
     ensures { result ≡ option_map (member.Channel item) line }
 {
@@ -110,7 +113,8 @@ fn in_block(item: usize, line: usize, misfit: Option<Misfit>) -> Option<Member>
     }
 }
 
-/// The first line of a block that can't stand over those of the built-in channel of that name, which are put into an empty list.
+/// The first line of a block that can't stand over those of the built-in channel of that name,
+/// which are put into an empty list.
 fn misfit_over(
     alloc: Global,
     lines: &mut Items<SectionLine>,
@@ -136,7 +140,8 @@ fn built_in_misfit(
     misfit_over(alloc, &mut lines, name, block)
 }
 
-/// What is wrong with the channel of a connection: it is none, or its block can't stand over its lines.
+/// What is wrong with the channel of a connection: it is none, or its block can't stand over its
+/// lines.
 fn block_clash(
     alloc: Global,
     named: &NamedTypes<'_>,
@@ -215,7 +220,8 @@ fn item_clash(
     }
 }
 
-/// What is wrong with the channel of the first connection whose channel is none, or has a block that can't stand over its lines.
+/// What is wrong with the channel of the first connection whose channel is none, or has a block
+/// that can't stand over its lines.
 pub(crate) fn connection_clash(
     alloc: Global,
     named: &NamedTypes<'_>,

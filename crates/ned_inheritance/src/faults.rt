@@ -144,7 +144,8 @@ fn unknown_in(named: &NamedTypes<'_>, declared: &TypeDeclaration) -> Option<Memb
     unknown_channel(named, declared.connections.items.as_slice())
 }
 
-/// The first place where one of the types is a network within another, or names what is of another kind than it should be.
+/// The first place where one of the types is a network within another, or names what is of another
+/// kind than it should be.
 fn other_place(named: &NamedTypes<'_>, types: &[TypeDeclaration]) -> Option<Place>
     ensures { result ≡ place_from (other_in named.now) 0 types.now }
 {
@@ -331,7 +332,8 @@ fn submodule_clash(
     Ok(declared_in_body(submodules))
 }
 
-/// The first submodule that has the name of one before it. The names that were seen stand in a set, so each is compared with few.
+/// The first submodule that has the name of one before it. The names that were seen stand in a set,
+/// so each is compared with few.
 fn repeated_submodule(alloc: Global, submodules: &[Submodule]) -> Result<Option<usize>, AllocError>
     ensures { IfOk result (λ at. is_some at ≡ repeats_submodule submodules.now) }
 {
@@ -359,7 +361,8 @@ fn repeats_seen<'a>(
     Ok(None)
 }
 
-/// The first submodule whose type isn't one of modules, or that after `like` isn't an interface of modules.
+/// The first submodule whose type isn't one of modules, or that after `like` isn't an interface of
+/// modules.
 fn first_of_other_kind(named: &NamedTypes<'_>, submodules: &[Submodule]) -> Option<usize>
     ensures { is_some result ≡ has_other_kind named.now submodules.now }
 {
@@ -371,7 +374,8 @@ fn first_of_other_kind(named: &NamedTypes<'_>, submodules: &[Submodule]) -> Opti
     None
 }
 
-/// Whether a type of that kind may stand there: one of modules by its name, an interface of modules after `like`.
+/// Whether a type of that kind may stand there: one of modules by its name, an interface of modules
+/// after `like`.
 fn suits_kind(of: &SubmoduleType, kind: TypeKind) -> bool
     ensures { result ≡ suits_kind of.now kind }
 {

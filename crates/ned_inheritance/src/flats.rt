@@ -91,7 +91,8 @@ fn behind_first(lines: &[SectionLine]) -> &[SectionLine]
     }
 }
 
-/// The lines of a flat type, but for that of its class, which stands before the others where it is a simple type that extends another.
+/// The lines of a flat type, but for that of its class, which stands before the others where it is
+/// a simple type that extends another.
 fn own_lines(base: &TypeDeclaration) -> &[SectionLine]
     ensures { result.now ≡ own_lines base.now }
 {
@@ -161,7 +162,8 @@ fn heir_alone(alloc: Global, declared: &TypeDeclaration) -> Result<TypeDeclarati
     with_own(alloc, flat, declared)
 }
 
-/// The flat type of a type that extends another, whose flat type this is, where it is one of the types.
+/// The flat type of a type that extends another, whose flat type this is, where it is one of the
+/// types.
 fn heir_by(
     alloc: Global,
     base: Option<&TypeDeclaration>,
@@ -292,8 +294,9 @@ fn found_all(
     changed(flat, done)
 }
 
-/// The flat type of each, where these are the lines of the interfaces among the types, and an order of the types. Each is made from
-/// that of its base, so the time is in proportion to what they have.
+/// The flat type of each, where these are the lines of the interfaces among the types, and an order
+/// of the types. Each is made from that of its base, so the time is in proportion to what they
+/// have.
 pub(crate) fn flat_types<'a>(
     alloc: Global,
     lines: &Lines<'a>,

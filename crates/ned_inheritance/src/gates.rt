@@ -8,7 +8,8 @@ use indexmap::IndexSet;
 use ned_trees::declarations::GateLine;
 use std::alloc::{AllocError, Global};
 
-/// The first line that declares a gate which one before it declares. The names that were seen stand in a set, so each is compared with few.
+/// The first line that declares a gate which one before it declares. The names that were seen stand
+/// in a set, so each is compared with few.
 pub(crate) fn redeclared_gate(
     alloc: Global,
     gates: &[GateLine],

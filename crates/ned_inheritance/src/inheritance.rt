@@ -99,7 +99,8 @@ pub(crate) fn add_connections(
     Ok(())
 }
 
-/// Adds the members of a type after those of the other, and before them what the built-in channel has that it extends.
+/// Adds the members of a type after those of the other, and before them what the built-in channel
+/// has that it extends.
 fn add_members(
     alloc: Global,
     flat: &mut TypeDeclaration,

@@ -1,5 +1,5 @@
-//! What interfaces types may keep, and whether they do. Where a type declares a member is found by hashing, so each line of an interface is
-//! compared with one of the type.
+//! What interfaces types may keep, and whether they do. Where a type declares a member is found by
+//! hashing, so each line of an interface is compared with one of the type.
 
 ghost use Rattle.std.specs.Prelude.{◌≡◌, [], true, not, None, IfOk};
 ghost use Rattle.std.specs.Option.{option_copied};
@@ -117,9 +117,9 @@ fn is_parameter_at(lines: &[SectionLine], at: Option<usize>, declaration: &Decla
     }
 }
 
-/// Whether one of the lines of a type declares a parameter of that name and word. Looked at is the one that declares the name. All lines are
-/// gone through where that has another word, or there is none: this is the end of the search, since a type that comes here declares a name
-/// once.
+/// Whether one of the lines of a type declares a parameter of that name and word. Looked at is the
+/// one that declares the name. All lines are gone through where that has another word, or there is
+/// none: this is the end of the search, since a type that comes here declares a name once.
 fn has_parameter(
     members: &MemberLines<'_>,
     lines: &[SectionLine],
@@ -204,8 +204,8 @@ fn is_gate_at(gates: &[GateLine], at: Option<usize>, gate: &GateDeclaration) -> 
     }
 }
 
-/// Whether one of the lines of a type declares a gate of that name and direction, a vector where that is one. They are looked at as those of
-/// parameters are.
+/// Whether one of the lines of a type declares a gate of that name and direction, a vector where
+/// that is one. They are looked at as those of parameters are.
 fn has_gate(members: &MemberLines<'_>, gates: &[GateLine], gate: &GateDeclaration) -> bool
     ensures { result ≡ has_gate gates.now gate.now }
 {
@@ -293,8 +293,8 @@ fn lacked_of_any(
     }
 }
 
-/// The first member that a type lacks of the interface of that name, which is its interface of that number. Of those whose names were seen it lacks
-/// nothing, so these are not looked at once more.
+/// The first member that a type lacks of the interface of that name, which is its interface of that
+/// number. Of those whose names were seen it lacks nothing, so these are not looked at once more.
 fn lacked_once<'a>(
     seen: &mut IndexSet<&'a [u8]>,
     members: &MemberLines<'_>,
@@ -313,7 +313,8 @@ fn lacked_once<'a>(
     Ok(lacked_of_any(members, declared, number, named.find(name)))
 }
 
-/// The first member that a type lacks of its interfaces, where its own are found by hashing and no interface was seen.
+/// The first member that a type lacks of its interfaces, where its own are found by hashing and no
+/// interface was seen.
 #[tactic(auto, using(crate::proofs::RepeatedLaws::none_kept))]
 fn lacked_by<'a>(
     seen: &mut IndexSet<&'a [u8]>,

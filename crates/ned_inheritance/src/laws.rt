@@ -17,8 +17,8 @@ pub fn examples()
     ensures parts { ExampleParts }
 {}
 
-/// A circle is found exactly where one of the types extends itself, perhaps by way of others: it is no matter that the
-/// definition counts steps.
+/// A circle is found exactly where one of the types extends itself, perhaps by way of others: it is
+/// no matter that the definition counts steps.
 pub fn circles()
     ensures { CirclesAreFound }
 {}

@@ -1,4 +1,5 @@
-//! What files declare, made into a table of flat types: inheritance, interfaces, and why there is no table.
+//! What files declare, made into a table of flat types: inheritance, interfaces, and why there is
+//! no table.
 #![tactic(auto)]
 
 mod bodies;

@@ -13,7 +13,8 @@ use ned_types::made::changed;
 use sim_values::text::Text;
 use std::alloc::{AllocError, Global};
 
-/// At the name of each interface those that it extends, and itself after them: those of them that have members.
+/// At the name of each interface those that it extends, and itself after them: those of them that
+/// have members.
 pub(crate) type Lines<'a> = IndexMap<&'a [u8], NamedTypes<'a>>;
 
 /// Adds a type after the others, unless one of them has its name.

@@ -5,8 +5,9 @@ use ned_trees::declarations::{GateLine, SectionLine, TypeDeclaration};
 use ned_types::made::changed;
 use std::alloc::{AllocError, Global};
 
-/// The number of the line that declares each parameter, and of that which declares each gate, by name. Where lines declare one name twice it
-/// is that of the last. Whoever finds a line here looks whether it is the one that is wanted, so no contract speaks of this.
+/// The number of the line that declares each parameter, and of that which declares each gate, by
+/// name. Where lines declare one name twice it is that of the last. Whoever finds a line here looks
+/// whether it is the one that is wanted, so no contract speaks of this.
 pub(crate) struct MemberLines<'a> {
     parameters: IndexMap<&'a [u8], usize>,
     gates: IndexMap<&'a [u8], usize>,

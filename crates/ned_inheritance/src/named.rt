@@ -12,7 +12,8 @@ use ned_trees::declarations::TypeDeclaration;
 use std::alloc::{AllocError, Global};
 use std::marker::Model;
 
-/// Types, which contracts see as their list. Each is found by its name at once, however many there are.
+/// Types, which contracts see as their list. Each is found by its name at once, however many there
+/// are.
 pub(crate) struct NamedTypes<'a> {
     types: IndexMap<&'a [u8], &'a TypeDeclaration>,
 }
@@ -88,7 +89,8 @@ impl<'a> NamedTypes<'a> {
         self.find(name).is_some()
     }
 
-    /// Adds a type after the others, unless there is one of its name: then it stands in that one's place.
+    /// Adds a type after the others, unless there is one of its name: then it stands in that one's
+    /// place.
     pub(crate) fn add(&mut self, declared: &'a TypeDeclaration) -> Result<bool, AllocError>
         ensures added { IfOk result (λ added. added ≡ not (is_type_named declared.now.name self.old)) }
         ensures names { OnOk result (AddsName self.old self.new declared.now) }
@@ -99,7 +101,8 @@ impl<'a> NamedTypes<'a> {
     }
 }
 
-/// The types by their names; or the number of the first that has the name of one before it, or that of a built-in channel.
+/// The types by their names; or the number of the first that has the name of one before it, or that
+/// of a built-in channel.
 pub(crate) fn by_name<'a>(
     alloc: Global,
     types: &'a [TypeDeclaration],

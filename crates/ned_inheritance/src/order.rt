@@ -103,7 +103,8 @@ fn add_numbered<'a>(
     Ok(())
 }
 
-/// The types in an order that serves: those that extend no other, and others after what they extend, and then all of them again.
+/// The types in an order that serves: those that extend no other, and others after what they
+/// extend, and then all of them again.
 fn candidates<'a>(
     alloc: Global,
     named: &NamedTypes<'a>,
@@ -118,8 +119,8 @@ fn candidates<'a>(
     Ok(refs)
 }
 
-/// Adds a type to the order, where it isn't there and extends only what is there, or else to those that wait, where it isn't there.
-/// Answers whether it was added to the order.
+/// Adds a type to the order, where it isn't there and extends only what is there, or else to those
+/// that wait, where it isn't there. Answers whether it was added to the order.
 fn take_one<'a>(
     named: &NamedTypes<'a>,
     order: &mut NamedTypes<'a>,
@@ -139,8 +140,8 @@ fn take_one<'a>(
     Ok(true)
 }
 
-/// Adds those of the types that extend only what is there to the order, one after the other, and those that don't to none that wait.
-/// Answers whether it added one.
+/// Adds those of the types that extend only what is there to the order, one after the other, and
+/// those that don't to none that wait. Answers whether it added one.
 fn take_ready<'a>(
     named: &NamedTypes<'a>,
     order: &mut NamedTypes<'a>,
@@ -164,8 +165,8 @@ fn take_ready<'a>(
     Ok(taken)
 }
 
-/// Adds the types to the order, each after all that it extends. Answers whether one extends itself, perhaps by way of others: then it
-/// lacks some.
+/// Adds the types to the order, each after all that it extends. Answers whether one extends itself,
+/// perhaps by way of others: then it lacks some.
 fn take_all<'a>(
     alloc: Global,
     named: &NamedTypes<'a>,
@@ -189,7 +190,8 @@ fn take_all<'a>(
     Ok(false)
 }
 
-/// The types, each after all that it extends; none where one extends itself, perhaps by way of others.
+/// The types, each after all that it extends; none where one extends itself, perhaps by way of
+/// others.
 pub(crate) fn ordered<'a>(
     alloc: Global,
     named: &NamedTypes<'a>,

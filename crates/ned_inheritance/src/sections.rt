@@ -1,5 +1,5 @@
-//! Parameter sections: what is declared twice, and given without a declaration or after a fixed value. The names that were seen
-//! stand in sets, so each line is compared with few.
+//! Parameter sections: what is declared twice, and given without a declaration or after a fixed
+//! value. The names that were seen stand in sets, so each line is compared with few.
 
 ghost use Rattle.std.specs.Prelude.{◌≡◌, ◌||◌, [], not, is_some, IfOk, OnOk};
 ghost use Rattle.std.specs.List.{list_any};
@@ -13,8 +13,8 @@ use ned_trees::declarations::SectionLine;
 use ned_types::given::{fixes, name_in, value_in};
 use std::alloc::{AllocError, Global};
 
-/// The first line that clashes: one that declares a parameter a second time, or else one that gives a value to one that isn't declared, or
-/// else one that gives a value to one with a fixed one.
+/// The first line that clashes: one that declares a parameter a second time, or else one that gives
+/// a value to one that isn't declared, or else one that gives a value to one with a fixed one.
 pub(crate) fn section_clash(
     alloc: Global,
     lines: &[SectionLine],
@@ -28,7 +28,8 @@ pub(crate) fn section_clash(
     Ok(given(given_again(alloc, lines)?))
 }
 
-/// The first line that declares a parameter a second time, or else that gives a value to one that isn't declared.
+/// The first line that declares a parameter a second time, or else that gives a value to one that
+/// isn't declared.
 fn misdeclared(alloc: Global, lines: &[SectionLine]) -> Result<Option<Member>, AllocError>
     ensures { IfOk result (λ member. is_some member ≡ (redeclares lines.now || gives_undeclared lines.now)) }
 {
@@ -91,7 +92,8 @@ fn first_number(again: Option<usize>, seen: bool, at: usize) -> Option<usize>
     if seen { Some(at) } else { None }
 }
 
-/// Adds the names of the parameters that these lines declare. Answers the first line whose parameter was seen before, or is declared twice.
+/// Adds the names of the parameters that these lines declare. Answers the first line whose
+/// parameter was seen before, or is declared twice.
 pub(crate) fn see_declared<'a>(
     declared: &mut IndexSet<&'a [u8]>,
     lines: &'a [SectionLine],
@@ -112,7 +114,8 @@ pub(crate) fn see_declared<'a>(
     Ok(again)
 }
 
-/// Adds the name of the parameter that the line declares, if it declares one. Answers whether it was seen before.
+/// Adds the name of the parameter that the line declares, if it declares one. Answers whether it
+/// was seen before.
 fn see_declaration<'a>(
     declared: &mut IndexSet<&'a [u8]>,
     line: &'a SectionLine,
@@ -168,7 +171,8 @@ pub(crate) fn given_again(alloc: Global, lines: &[SectionLine]) -> Result<Option
     one_gives_seen(&mut fixed, lines)
 }
 
-/// The first of these lines that gives a value to a parameter that was seen, or is given a fixed value before it.
+/// The first of these lines that gives a value to a parameter that was seen, or is given a fixed
+/// value before it.
 fn one_gives_seen<'a>(
     seen: &mut IndexSet<&'a [u8]>,
     lines: &'a [SectionLine],

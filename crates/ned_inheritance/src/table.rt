@@ -20,14 +20,17 @@ use std::alloc::{AllocError, Global};
 pub enum TypeFault {
     /// Two types have one name, or one has that of a built-in channel.
     DuplicateType,
-    /// A submodule's type or interface, the channel of a connection, what a type extends, or one of its interfaces isn't declared.
+    /// A submodule's type or interface, the channel of a connection, what a type extends, or one of
+    /// its interfaces isn't declared.
     UnknownType,
     /// A type extends itself, perhaps by way of others.
     InheritanceCircle,
-    /// What a type extends or one of its interfaces is of another kind, a parameter, a gate or a submodule is declared twice, a value is given to an undeclared
-    /// parameter or after a fixed one, by a section, by the body of a submodule or by the block of a channel, a body declares a parameter or a gate, a
-    /// submodule's type is none of modules, what stands after `like` is no interface of modules, what a connection names as its channel is no
-    /// channel, or a network is declared within another.
+    /// What a type extends or one of its interfaces is of another kind, a parameter, a gate or a
+    /// submodule is declared twice, a value is given to an undeclared parameter or after a fixed
+    /// one, by a section, by the body of a submodule or by the block of a channel, a body declares
+    /// a parameter or a gate, a submodule's type is none of modules, what stands after `like` is no
+    /// interface of modules, what a connection names as its channel is no channel, or a network is
+    /// declared within another.
     KindClash,
     /// A type lacks a parameter or a gate of one of its interfaces.
     Interface,
@@ -54,7 +57,8 @@ impl From<AllocError> for BuildError {
     }
 }
 
-/// The flat type of each of these types, whose names are full ones, or the first reason why they make no model.
+/// The flat type of each of these types, whose names are full ones, or the first reason why they
+/// make no model.
 pub fn flat_types(
     alloc: Global,
     types: &[TypeDeclaration],

@@ -120,7 +120,8 @@ fn first_edge(web: &Web, number: usize) -> Option<usize> {
     }
 }
 
-/// Counts one type less that the type of that number extends. Answers whether it extends none of those that are left.
+/// Counts one type less that the type of that number extends. Answers whether it extends none of
+/// those that are left.
 fn is_freed(web: &mut Web, heir: usize) -> bool {
     match web.waiting.get_mut(heir) {
         Some(count) => {
@@ -156,7 +157,8 @@ fn add_roots(web: &Web, taken: &mut Vec<usize>) -> Result<(), AllocError> {
     Ok(())
 }
 
-/// Takes types away, each after all that it extends, as long as there are such, and adds them in this order.
+/// Takes types away, each after all that it extends, as long as there are such, and adds them in
+/// this order.
 fn take_all(web: &mut Web, taken: &mut Vec<usize>) -> Result<(), AllocError> {
     add_roots(web, taken)?;
     for at in 0..web.waiting.len() {
@@ -219,7 +221,8 @@ fn first_left(web: &Web) -> usize {
     0
 }
 
-/// A type in a circle: the last one on a way of as many steps as there are types, from one to the next of those that are left.
+/// A type in a circle: the last one on a way of as many steps as there are types, from one to the
+/// next of those that are left.
 fn place_left(web: &Web, named: &NamedTypes<'_>, types: &[TypeDeclaration]) -> Place {
     let mut number = first_left(web);
     let mut member = Member::Whole;
@@ -240,7 +243,8 @@ fn place_left(web: &Web, named: &NamedTypes<'_>, types: &[TypeDeclaration]) -> P
     Place { number, member }
 }
 
-/// The numbers of the types that extend no other, and of others after all that they extend. What a circle leads to is left out.
+/// The numbers of the types that extend no other, and of others after all that they extend. What a
+/// circle leads to is left out.
 pub(crate) fn roots_first(
     alloc: Global,
     named: &NamedTypes<'_>,
@@ -252,7 +256,8 @@ pub(crate) fn roots_first(
     Ok(taken)
 }
 
-/// Where one of the types extends itself, perhaps by way of others: a type in a circle, and what it extends there.
+/// Where one of the types extends itself, perhaps by way of others: a type in a circle, and what it
+/// extends there.
 pub(crate) fn circle_place(
     alloc: Global,
     named: &NamedTypes<'_>,

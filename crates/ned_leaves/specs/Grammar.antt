@@ -1,5 +1,5 @@
--- The grammar of what NED texts and ini texts share, over tokens (OMNeT++ Simulation Manual, "NED Language Grammar").
--- `a ▷ b` is a and then b, with the value of b.
+-- The grammar of what NED texts and ini texts share, over tokens (OMNeT++ Simulation Manual, "NED
+-- Language Grammar"). `a ▷ b` is a and then b, with the value of b.
 use denote.Enum.Bare.{sameb}
 use Rattle.std.specs.Prelude.{ℕ, pos, neg_ℤ, Bool, true, false, List, Option, Some, None, if◌then◌else◌, codes}
 use Rattle.std.specs.Str.{bytes_eq}

@@ -11,7 +11,8 @@ use thiserror::Error;
 /// Why a text is refused.
 #[derive(Clone, Copy, Debug, PartialEq, Eq, Error)]
 pub enum NedError {
-    /// The line of the first byte that can't go on; at the text's end that of its last byte, 1 in an empty text.
+    /// The line of the first byte that can't go on; at the text's end that of its last byte, 1 in
+    /// an empty text.
     #[error("line {0} is no NED")]
     NedSyntax(usize),
     /// The text is longer than 1 MiB.

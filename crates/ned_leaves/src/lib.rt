@@ -1,4 +1,5 @@
-//! What NED texts and ini texts share: single tokens, literals, expressions, and names of recording modes.
+//! What NED texts and ini texts share: single tokens, literals, expressions, and names of recording
+//! modes.
 #![tactic(auto)]
 
 pub mod ast;

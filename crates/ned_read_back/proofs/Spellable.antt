@@ -209,7 +209,8 @@ CanBeInterface d = Each IsName d.interfaces × Each CanBeLine d.lines × Each Ca
 abbrev pub CanBeCompound : ℕ → TypeDeclaration → Type 0
 CanBeCompound n d = IfThere IsName d.base × Each IsName d.interfaces × Each CanBeLine d.lines × Each CanBeGate d.gates × Each (CanBeSubmodule n) d.submodules × CanBeConnections n d.connections
 
--- A simple module has no submodules and no connections, a channel no gates either. Within its block n more may be open at once.
+-- A simple module has no submodules and no connections, a channel no gates either. Within its block
+-- n more may be open at once.
 abbrev pub CanBeParts : ℕ → TypeKind → TypeDeclaration → Type 0
 CanBeParts n kinds.Simple d = IfThere IsName d.base × Each IsName d.interfaces × Each CanBeLine d.lines × Each CanBeGate d.gates × (d.submodules ≡ []) × (d.connections ≡ no_connections)
 CanBeParts n kinds.Module d = CanBeCompound n d

@@ -94,7 +94,8 @@ types_tokens (ts ∷ tss) = token.Word k.Types ∷ token.Mark m.Colon ∷ listed
 abbrev pub inside_tokens : TypeDeclaration → List (List Token) → List Token
 inside_tokens d inner = section_tokens d.lines ++ (gates_tokens d.gates ++ (types_tokens inner ++ (submodules_tokens d.submodules ++ connections_tokens d.connections)))
 
--- A simple module has parameters and gates, a module or a network an inside too, a channel parameters alone.
+-- A simple module has parameters and gates, a module or a network an inside too, a channel
+-- parameters alone.
 abbrev pub kind_tokens : TypeKind → TypeDeclaration → List (List Token) → List Token
 kind_tokens kinds.Simple d inner = token.Word k.Simple ∷ (head_tokens d ++ in_braces (section_tokens d.lines ++ gates_tokens d.gates))
 kind_tokens kinds.Module d inner = token.Word k.Module ∷ (head_tokens d ++ in_braces (inside_tokens d inner))
@@ -129,7 +130,8 @@ spelled_connection i = spell (item_tokens i)
 
 -- ---- what is read back
 
--- What a text declares is what its standard spelling declares, where that is small enough to be read.
+-- What a text declares is what its standard spelling declares, where that is small enough to be
+-- read.
 abbrev pub IsReadBack : List ℕ → Type 0
 IsReadBack bytes = (declared : NedFile) → IsNedFile bytes declared → length (spelled declared) ≤ max_length → IsNedFile (spelled declared) declared
 
@@ -137,11 +139,13 @@ IsReadBack bytes = (declared : NedFile) → IsNedFile bytes declared → length 
 abbrev pub SaysTheSame : List ℕ → Type 0
 SaysTheSame bytes = (declared : NedFile) → IsNedFile bytes declared → file.Is (tokens_of (spelled declared)) declared
 
--- What an expression's text says is what its standard spelling says, where that is small enough to be read.
+-- What an expression's text says is what its standard spelling says, where that is small enough to
+-- be read.
 abbrev pub ExpressionIsReadBack : List ℕ → Type 0
 ExpressionIsReadBack bytes = (e : Expression) → IsExpressionText bytes e → length (spelled_expression e) ≤ max_length → IsExpressionText (spelled_expression e) e
 
--- What the text of an item of connections says is what its standard spelling says, where that is small enough to be read.
+-- What the text of an item of connections says is what its standard spelling says, where that is
+-- small enough to be read.
 abbrev pub ConnectionIsReadBack : List ℕ → Type 0
 ConnectionIsReadBack bytes = (i : ConnectionItem) → IsConnectionText bytes i → length (spelled_connection i) ≤ max_length → IsConnectionText (spelled_connection i) i
 

@@ -28,7 +28,9 @@ use Rattle.ned_read_back.specs.Declarations.{spelled}
 abbrev pub plain : List ℕ → List ℕ → Submodule
 plain text other = record { name = text; size = None; submodule_type = types_are.Named other; condition = None; body = record { lines = []; gates = [] } }
 
--- a simple module with a line and a gate of each kind, one that extends it, a channel, interfaces of both kinds, a network with a line, types of its own, submodules and connections of each kind, and a module
+-- a simple module with a line and a gate of each kind, one that extends it, a channel, interfaces
+-- of both kinds, a network with a line, types of its own, submodules and connections of each kind,
+-- and a module
 abbrev pub example : NedFile
 example = record {
   types =

@@ -44,9 +44,8 @@ alone t = roll-NestedType (record { declared = t; types = [] })
 abbrev pub around : TypeDeclaration × List TypeDeclaration → NestedType
 around p = roll-NestedType (record { declared = p.0; types = map alone p.1 })
 
--- `simple A {}`
--- `network Base { types: simple B {} }`
--- `network Net extends Base { types: simple A {} simple C extends A {} simple D extends B {} channel DelayChannel {}
+-- `simple A {}` `network Base { types: simple B {} }` `network Net extends Base { types: simple A
+-- {} simple C extends A {} simple D extends B {} channel DelayChannel {}
 --  channel Slow extends DelayChannel {} moduleinterface I {} simple F like I {} network Within { submodules: s: A; }
 --  submodules: s: A; s: B; s: E; }`
 abbrev pub first_file : List (TypeDeclaration × List TypeDeclaration)
@@ -93,11 +92,13 @@ lines_by first second = record {
 abbrev pub one_like : List ℕ → Submodule
 one_like interface = record { name = codes "p"; size = None; submodule_type = submodule_type.Like (record { given = None; interface = interface }); condition = None; body = record { lines = []; gates = [] } }
 
--- `network Lines { submodules: p: <> like FIRST; p: <> like SECOND; connections: g --> SLOW --> h; if f { g --> FAST --> h; } }`
+-- `network Lines { submodules: p: <> like FIRST; p: <> like SECOND; connections: g --> SLOW --> h;
+-- if f { g --> FAST --> h; } }`
 abbrev pub lines_network : List ℕ → List ℕ → List ℕ → List ℕ → TypeDeclaration
 lines_network first second slow fast = record { kind = Network; name = codes "Lines"; base = None; interfaces = []; lines = []; gates = []; submodules = one_like first ∷ one_like second ∷ []; connections = lines_by slow fast }
 
--- that network with the interfaces I and J and the channels Slow and Fast, and with `types: moduleinterface I {} channel Slow {}`
+-- that network with the interfaces I and J and the channels Slow and Fast, and with `types:
+-- moduleinterface I {} channel Slow {}`
 abbrev pub line_file : List (TypeDeclaration × List TypeDeclaration)
 line_file = (lines_network (codes "I") (codes "J") (codes "Slow") (codes "Fast"), root ModuleInterface (codes "I") ∷ root Channel (codes "Slow") ∷ []) ∷ []
 
@@ -109,8 +110,9 @@ abbrev pub head_of : TypeDeclaration → List ℕ × Option (List ℕ)
 head_of t = (t.name, t.base)
 
 pub record ExampleScopes : Type 0 where
-  -- a type stands directly before those within it. What a head names is found in the types of the network around it before a global
-  -- one (Net.A), then in those of its base (Base.B), and it hides a built-in channel (Net.DelayChannel)
+  -- a type stands directly before those within it. What a head names is found in the types of the
+  -- network around it before a global one (Net.A), then in those of its base (Base.B), and it hides
+  -- a built-in channel (Net.DelayChannel)
   pub heads : map head_of example ≡
       (codes "A", None)
       ∷ (codes "Base", None)
@@ -129,13 +131,14 @@ pub record ExampleScopes : Type 0 where
   -- so is an interface
   pub interfaces : map (λ (t : TypeDeclaration). t.interfaces) example ≡
       [] ∷ [] ∷ [] ∷ [] ∷ [] ∷ [] ∷ [] ∷ [] ∷ [] ∷ [] ∷ (codes "Net.I" ∷ []) ∷ [] ∷ [] ∷ []
-  -- and the type of a submodule, but in the types of its own network and of that one's bases alone: A in Within isn't that of
-  -- Net. What is found nowhere keeps its name
+  -- and the type of a submodule, but in the types of its own network and of that one's bases alone:
+  -- A in Within isn't that of Net. What is found nowhere keeps its name
   pub parts : map (λ (t : TypeDeclaration). map (λ (s : Submodule). type_name s) t.submodules) example ≡
       [] ∷ [] ∷ [] ∷ (codes "Net.A" ∷ codes "Base.B" ∷ codes "E" ∷ []) ∷ [] ∷ [] ∷ [] ∷ [] ∷ [] ∷ [] ∷ [] ∷ (codes "A" ∷ []) ∷ [] ∷ []
   -- a simple type within another has the class of its own name, unless it extends one
   pub classes : map (λ (t : TypeDeclaration). t.lines) example ≡
       [] ∷ [] ∷ (line.Class (codes "B") ∷ []) ∷ [] ∷ (line.Class (codes "A") ∷ []) ∷ [] ∷ [] ∷ [] ∷ [] ∷ [] ∷ (line.Class (codes "F") ∷ []) ∷ [] ∷ [] ∷ []
-  -- so is the interface after `like` of a submodule, and the type of a connection's channel, in groups too
+  -- so is the interface after `like` of a submodule, and the type of a connection's channel, in
+  -- groups too
   pub lines : types_of (record { types = map around line_file } ∷ []) ≡
       lines_network (codes "Lines.I") (codes "J") (codes "Lines.Slow") (codes "Fast") ∷ root ModuleInterface (codes "Lines.I") ∷ root Channel (codes "Lines.Slow") ∷ []

@@ -25,11 +25,13 @@ use Rattle.ned_scopes.specs.Known.{is_known, base_named, all_behind}
 
 -- ---- full names
 
--- the full name of a type within another: that one's full name, a dot, and its own. A name in NED has no dot
+-- the full name of a type within another: that one's full name, a dot, and its own. A name in NED
+-- has no dot
 abbrev pub inner_name : List ℕ → List ℕ → List ℕ
 inner_name outer name = outer ++ codes "." ++ name
 
--- the full name of a type where these are the scopes of the type around it, the nearest first; a type of a file has none
+-- the full name of a type where these are the scopes of the type around it, the nearest first; a
+-- type of a file has none
 abbrev pub full_name : List (List ℕ) → List ℕ → List ℕ
 full_name [] name = name
 full_name (scope ∷ scopes) name = inner_name scope name
@@ -81,26 +83,29 @@ abbrev pub declaring : TypesByName → List (List ℕ) → List ℕ → List (Li
 declaring types [] name = []
 declaring types (scope ∷ scopes) name = if is_known types.inner (inner_name scope name) then scope ∷ scopes else declaring types scopes name
 
--- THE TYPE THAT IS MEANT by a name that is looked up in these scopes: that of the first scope that declares it, or else what
--- has that name globally
+-- THE TYPE THAT IS MEANT by a name that is looked up in these scopes: that of the first scope that
+-- declares it, or else what has that name globally
 abbrev pub meant : TypesByName → List (List ℕ) → List ℕ → List ℕ
 meant types scopes name = full_name (declaring types scopes name) name
 
--- what is extended, what that extends, and so on, so many of them, where the first is looked up in these scopes. A base that
--- one of them declares is a type within that scope, so its own base is looked up in that scope and those after it
+-- what is extended, what that extends, and so on, so many of them, where the first is looked up in
+-- these scopes. A base that one of them declares is a type within that scope, so its own base is
+-- looked up in that scope and those after it
 abbrev pub bases_within : ℕ → TypesByName → List (List ℕ) → Option (List ℕ) → List (List ℕ)
 bases_within n types scopes None = []
 bases_within zero types scopes (Some base) = []
 bases_within (suc n) types scopes (Some base) = meant types scopes base ∷ bases_within n types (declaring types scopes base) (base_named types.all (meant types scopes base))
 
--- THE SCOPES of what stands within a type, whose head is looked up in these: the type itself, and all that it extends, perhaps by
--- way of others, as no line without a circle has more types than there are
+-- THE SCOPES of what stands within a type, whose head is looked up in these: the type itself, and
+-- all that it extends, perhaps by way of others, as no line without a circle has more types than
+-- there are
 abbrev pub scopes_of : TypesByName → List (List ℕ) → TypeDeclaration → List (List ℕ)
 scopes_of types scopes t = full_name scopes t.name ∷ bases_within (length types.all) types scopes t.base
 
 -- ---- types whose names mean one type everywhere
 
--- the line that names the class of a simple type that extends none: its own name, without those of the types around it
+-- the line that names the class of a simple type that extends none: its own name, without those of
+-- the types around it
 abbrev pub class_line : TypeKind → Option (List ℕ) → List ℕ → List SectionLine
 class_line kind.Simple None name = line.Class name ∷ []
 class_line kind.Simple (Some base) name = []
@@ -110,7 +115,8 @@ class_line kind.Channel base name = []
 class_line kind.ModuleInterface base name = []
 class_line kind.ChannelInterface base name = []
 
--- the line stands after the lines of a type within another, as the first class that lines name counts
+-- the line stands after the lines of a type within another, as the first class that lines name
+-- counts
 abbrev pub own_class : List (List ℕ) → TypeDeclaration → List SectionLine
 own_class [] t = []
 own_class (scope ∷ scopes) t = class_line t.kind t.base t.name
@@ -142,7 +148,8 @@ resolved_item types scopes (item.Group g) = item.Group (record { clauses = g.cla
 abbrev pub resolved_connections : TypesByName → List (List ℕ) → ConnectionSection → ConnectionSection
 resolved_connections types scopes c = record { allow_unconnected = c.allow_unconnected; items = map (resolved_item types scopes) c.items }
 
--- A TYPE WITH FULL NAMES: its head is looked up in the first scopes, and what stands within it in the others
+-- A TYPE WITH FULL NAMES: its head is looked up in the first scopes, and what stands within it in
+-- the others
 abbrev pub resolved : TypesByName → List (List ℕ) → List (List ℕ) → TypeDeclaration → TypeDeclaration
 resolved types scopes own t = record {
   kind = t.kind;

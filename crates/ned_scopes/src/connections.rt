@@ -1,4 +1,5 @@
-//! Copies of sections of connections, and those in which the types of channels are the ones that are meant.
+//! Copies of sections of connections, and those in which the types of channels are the ones that
+//! are meant.
 
 ghost use Rattle.std.specs.Prelude.{◌≡◌, ◌++◌, map, option_map, IfOk, OnOk};
 ghost use Rattle.ned_scopes.specs.Scopes.{meant, resolved_channel, resolved_connection, resolved_connections, resolved_item, resolved_line};

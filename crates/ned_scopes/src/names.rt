@@ -223,7 +223,8 @@ fn resolved_lines(
     Ok(lines)
 }
 
-/// A type with full names: its head is looked up in the first scopes, and what stands within it in the others.
+/// A type with full names: its head is looked up in the first scopes, and what stands within it in
+/// the others.
 pub(crate) fn resolved(
     alloc: Global,
     types: &TypesByName,

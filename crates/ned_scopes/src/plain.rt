@@ -1,4 +1,5 @@
-//! Types of files within which there are no others: no name in them means anything but itself, so they stay as they are.
+//! Types of files within which there are no others: no name in them means anything but itself, so
+//! they stay as they are.
 
 ghost use Rattle.std.specs.Prelude.{◌≡◌, map, reverse, IfOk};
 ghost use Rattle.ned_scopes.specs.Scopes.{declared_of};

@@ -158,8 +158,8 @@ fn resolved_types(
 }
 
 #[tactic(auto, using(crate::proofs::PlainLaws::plain), unfolding(crate::specs::Scopes::types_of))]
-/// All types of all files, each directly before those within it, by their full names: each name in them is that of the type
-/// that it means where it stands.
+/// All types of all files, each directly before those within it, by their full names: each name in
+/// them is that of the type that it means where it stands.
 pub fn types_of(alloc: Global, files: Vec<NedFile>) -> Result<Items<TypeDeclaration>, AllocError>
     ensures { IfOk result (λ types. types ≡ types_of files.items) }
 {

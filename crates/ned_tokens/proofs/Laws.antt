@@ -1,4 +1,5 @@
--- What each rule keeps: what is read is spelled so and is read again, what is spelled is read, and a fault depends on no token after it.
+-- What each rule keeps: what is read is spelled so and is read again, what is spelled is read, and
+-- a fault depends on no token after it.
 use Rattle.std.proofs.Common.{◌≡◌, ℕ, Bool, true, false, ◌&&◌, ◌||◌, cond, List, [], ◌∷◌, ◌++◌, length, Option, Some, None, Result, Ok, Err, ◌⊎◌, inl, inr, refl, sym, ap, subst, ◌∙◌, append_assoc}
 use Rattle.std.specs.Prelude.{is_some}
 use Rattle.ned_tokens.specs.declared.token.Token.{Token}

@@ -1,4 +1,5 @@
--- Reading all of the tokens: what is read is spelled so, what is spelled is read, and no spelling begins as far as the fault.
+-- Reading all of the tokens: what is read is spelled so, what is spelled is read, and no spelling
+-- begins as far as the fault.
 use Rattle.std.proofs.Common.{◌≡◌, ℕ, suc, List, [], ◌∷◌, ◌++◌, length, Ok, Err, ◌⊎◌, inl, inr, refl, sym, ap, subst, ◌∙◌}
 use Rattle.std.proofs.lemmas.List.{append-nil}
 use Rattle.ned_tokens.specs.declared.token.Token.{Token}

@@ -53,7 +53,8 @@ balanced turn = record {
   empty = true;
 }
 
--- how many parentheses are open after a token, where this many are before it; none where the text ends at it
+-- how many parentheses are open after a token, where this many are before it; none where the text
+-- ends at it
 abbrev pub depth_behind : Turn → ℕ → Option ℕ
 depth_behind opens n = Some (n + 1)
 depth_behind stays n = Some n

@@ -31,7 +31,8 @@ abbrev pub is_slash_next : Bytes → Bool
 is_slash_next [] = false
 is_slash_next (b ∷ bs) = b == 47
 
--- the token with which the bytes begin, and what is after it; none at the end or a comment, which goes up to the end
+-- the token with which the bytes begin, and what is after it; none at the end or a comment, which
+-- goes up to the end
 unfoldable pub token_of : Bytes → Option (Token × Bytes)
 token_of [] = None
 token_of (b ∷ bs) = if b == 47 && is_slash_next bs then None else Some (token_at b bs)
@@ -55,7 +56,8 @@ scanned bs = scan (length bs) bs
 abbrev pub behind_literal : Token × Bytes → List Token
 behind_literal t = t.0 ∷ scanned t.1
 
--- The tokens of a line that begins inside a text in quotes, or outside one. A line that isn't UTF-8 is broken.
+-- The tokens of a line that begins inside a text in quotes, or outside one. A line that isn't UTF-8
+-- is broken.
 unfoldable pub line_tokens : Bool → Bytes → List Token
 line_tokens inside line = if is_utf8 line then (if inside then behind_literal (literal_from false (Some []) line) else scanned line) else token.Broken ∷ []
 

@@ -19,7 +19,8 @@ with_byte None b = None
 with_byte (Some text) None = None
 with_byte (Some text) (Some b) = Some (text ++ b ∷ [])
 
--- The rest of a text in quotes after its bytes so far. At the line's end a backslash takes the end in; else the text has no end.
+-- The rest of a text in quotes after its bytes so far. At the line's end a backslash takes the end
+-- in; else the text has no end.
 abbrev pub literal_from : Bool → Option Bytes → Bytes → Token × Bytes
 literal_from true text [] = (token.OpenLiteral, [])
 literal_from false text [] = (token.Broken, [])

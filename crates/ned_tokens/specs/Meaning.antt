@@ -14,6 +14,7 @@ pub record Means {X : Type 0} (r : Rule X) (bytes : Bytes) (x : X) : Type 0 wher
 abbrev pub NoneBegins : {X : Type 0} → Rule X → Bytes → Type 0
 NoneBegins {X} r front = (more : Bytes) (x : X) → Means r (front ++ more) x → ⊥
 
--- The line that a refused text is given: that of its last byte, or one up to whose end no text with a meaning begins as this does.
+-- The line that a refused text is given: that of its last byte, or one up to whose end no text with
+-- a meaning begins as this does.
 abbrev pub MayBlame : {X : Type 0} → Rule X → Bytes → ℕ → Type 0
 MayBlame r bytes line = (line ≡ last_line bytes) ⊎ NoneBegins r (through_line line bytes)

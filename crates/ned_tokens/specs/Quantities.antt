@@ -1,5 +1,6 @@
--- Quantities: digits, perhaps a point and digits, and right after them a unit. Several in a row, separated by nothing or by
--- spaces and tabs, are summed (OMNeT++ Simulation Manual, "Quantities with Units").
+-- Quantities: digits, perhaps a point and digits, and right after them a unit. Several in a row,
+-- separated by nothing or by spaces and tabs, are summed (OMNeT++ Simulation Manual, "Quantities
+-- with Units").
 use Rattle.std.specs.Prelude.{◌≡◌, ◌↔◌, ℕ, zero, suc, ◌+◌, ◌*◌, ◌/◌, ◌%◌, ◌^◌, Bool, false, ◌&&◌, ◌||◌, [], ◌∷◌, length, Option, Some, None, ◌==◌, if◌then◌else◌, option_map}
 use Rattle.sim_values.specs.declared.value.Dimension.{Dimension}
 pub use Rattle.sim_values.specs.Dimensions.{same_dimension}
@@ -36,8 +37,8 @@ fraction_at bs = if begins_fraction bs then (run class.Digit (rest_of bs), behin
 abbrev pub tenth : ℕ → Option ℕ
 tenth n = if n % 10 == 0 then Some (n / 10) else None
 
--- Of a unit of so many ps, bps or b, the digits after the point say a tenth of what the first digit and the digits after it,
--- put after the point, say; it has to be a whole number.
+-- Of a unit of so many ps, bps or b, the digits after the point say a tenth of what the first digit
+-- and the digits after it, put after the point, say; it has to be a whole number.
 abbrev pub part_of : ℕ → Bytes → Option ℕ
 part_of factor [] = Some 0
 part_of factor (d ∷ ds) = and_then (part_of factor ds) (λ part. tenth (part + digit_of d * factor))
@@ -84,7 +85,7 @@ row_token r = (quantity_token r.0, r.1)
 unfoldable pub quantity_at : Bytes → Token × Bytes
 quantity_at bs = row_token (row_from (piece_at bs).0 (piece_at bs).1)
 
--- The digits after the point, of a unit of so many, say the whole number p exactly where p, ten times as much for each digit, is
--- the number that the digits spell times the unit.
+-- The digits after the point, of a unit of so many, say the whole number p exactly where p, ten
+-- times as much for each digit, is the number that the digits spell times the unit.
 abbrev pub PartIsExact : ℕ → Bytes → Type 0
 PartIsExact factor ds = (p : ℕ) → (part_of factor ds ≡ Some p) ↔ (p * 10 ^ length ds ≡ value_of class.Digit ds * factor)

@@ -1,4 +1,5 @@
--- Rules of a grammar over tokens. A rule says which tokens spell which value, and how the value at the front is read.
+-- Rules of a grammar over tokens. A rule says which tokens spell which value, and how the value at
+-- the front is read.
 use Rattle.std.specs.Prelude.{◌≡◌, ℕ, zero, suc, Bool, true, false, ◌&&◌, ◌||◌, List, [], ◌∷◌, ◌++◌, length, Option, Some, None, Result, Ok, Err, ◌⊎◌, if◌then◌else◌, is_some}
 use Rattle.std.specs.Borrow.{Bor}
 use Rattle.ned_tokens.specs.declared.token.Token.{Token}
@@ -24,7 +25,8 @@ pub record Rule (X : Type 0) : Type 1 where
   pub Is : List Token → X → Type 0
   -- what is read at the front
   pub read : List Token → Reading X
-  -- a token with which a spelling may begin; with which a whole spelling may go on; whether there is an empty spelling
+  -- a token with which a spelling may begin; with which a whole spelling may go on; whether there
+  -- is an empty spelling
   pub starts : Token → Bool
   pub goes_on : Token → Bool
   pub empty : Bool
@@ -173,7 +175,8 @@ abbrev pub Gives : {X Y : Type 0} → (X → Y) → Result X Refusal → Result 
 Gives view (Ok x) read = read ≡ Ok (view x)
 Gives view (Err e) read = Fails e read
 
--- What a reader returned, a value and the tokens after it, is what the rule reads of these tokens, unless memory ran out.
+-- What a reader returned, a value and the tokens after it, is what the rule reads of these tokens,
+-- unless memory ran out.
 abbrev pub Reads : {X : Type 0} → Rule X → List Token → Result (X × Bor (List Token)) Refusal → Type 0
 Reads rule ts result = Gives (λ x. (x.0, x.1.now)) result (rule.read ts)
 

@@ -14,8 +14,9 @@ abbrev pub IsBad : {X : Type 0} → Rule X → List Token → List Token → Typ
 IsBad r front [] = Unit {0}
 IsBad r front (t ∷ more) = CanGoOn r (front ++ t ∷ []) → ⊥
 
--- This many tokens are left at the first that can't go on: some spelling begins with those before it, and none with it too.
--- With none left the tokens ran out, and some spelling begins with all of them.
+-- This many tokens are left at the first that can't go on: some spelling begins with those before
+-- it, and none with it too. With none left the tokens ran out, and some spelling begins with all of
+-- them.
 pub record IsFirstBad {X : Type 0} (r : Rule X) (ts : List Token) (left : ℕ) : Type 0 where
   pub front : List Token
   pub rest : List Token

@@ -1,4 +1,5 @@
--- The words of the language: none of them is a name, but each may name a property (OMNeT++ Simulation Manual, "Reserved Words").
+-- The words of the language: none of them is a name, but each may name a property (OMNeT++
+-- Simulation Manual, "Reserved Words").
 use Rattle.std.specs.Prelude.{Option, Some, None, if◌then◌else◌, codes}
 use Rattle.std.specs.Str.{bytes_eq}
 use Rattle.ned_tokens.specs.declared.token.Keyword.{Keyword}

@@ -143,7 +143,8 @@ fn add_from_inside(
     scan(alloc, after, carried, number, tokens, lines)
 }
 
-/// Adds the tokens of a line that begins in a text in quotes, or outside one, and says whether the next does.
+/// Adds the tokens of a line that begins in a text in quotes, or outside one, and says whether the
+/// next does.
 #[tactic(auto, unfolding(crate::specs::Lexing::line_tokens))]
 pub(crate) fn line_tokens(
     alloc: Global,

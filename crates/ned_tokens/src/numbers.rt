@@ -8,7 +8,8 @@ use crate::quantity::{begins_quantity, quantity};
 use crate::runs::{Class, split_run};
 use crate::token::Token;
 
-/// The number with these digits of this class; a stray byte where there are none, or it is too large.
+/// The number with these digits of this class; a stray byte where there are none, or it is too
+/// large.
 #[tactic(auto, unfolding(crate::specs::Numbers::number_of))]
 fn number_of(class: Class, digits: &[u8]) -> Token
     ensures { result ≡ numbers.number_of class digits.now }

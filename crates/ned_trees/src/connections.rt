@@ -69,7 +69,8 @@ impl Drop for End {
 pub struct Channel {
     /// Its type; none for a block alone, whose lines tell which built-in channel it is.
     pub type_name: Option<Text>,
-    /// The lines of its block: declarations, assignments and ignored properties; none where it has no block.
+    /// The lines of its block: declarations, assignments and ignored properties; none where it has
+    /// no block.
     pub lines: Items<SectionLine>,
 }
 

@@ -60,7 +60,8 @@ pub struct Statistic {
     pub modes: Items<RecordedMode>,
 }
 
-/// A line of a type's parameter section, or of the body of a submodule or a channel, where no property has an effect.
+/// A line of a type's parameter section, or of the body of a submodule or a channel, where no
+/// property has an effect.
 #[derive(Drop)]
 pub enum SectionLine {
     Declaration(Declaration),
@@ -186,7 +187,8 @@ pub struct TypeDeclaration {
     pub name: Text,
     /// The type that it extends; none for an interface.
     pub base: Option<Text>,
-    /// The interfaces that it keeps: those after `like`, and after `extends` where it is an interface itself.
+    /// The interfaces that it keeps: those after `like`, and after `extends` where it is an
+    /// interface itself.
     pub interfaces: Items<Text>,
     pub lines: Items<SectionLine>,
     pub gates: Items<GateLine>,

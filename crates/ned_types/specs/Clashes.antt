@@ -27,7 +27,8 @@ abbrev pub names_no_channel : List TypeDeclaration → Option Channel → Bool
 names_no_channel types None = false
 names_no_channel types (Some c) = has_unknown_name types c.type_name
 
--- whether the name of the channel of a connection is neither that of a type nor of a built-in channel
+-- whether the name of the channel of a connection is neither that of a type nor of a built-in
+-- channel
 abbrev pub is_channel_unknown : List TypeDeclaration → ConnectionLine → Bool
 is_channel_unknown types l = names_no_channel types l.connection.channel
 
@@ -74,14 +75,16 @@ channel_clashes types (Some c) = block_clashes c.lines (channel_lines types (cha
 abbrev pub line_clashes : List TypeDeclaration → ConnectionLine → Bool
 line_clashes types l = channel_clashes types l.connection.channel
 
--- whether what the channel of a connection names is no channel, or its block can't stand over the lines of that channel
+-- whether what the channel of a connection names is no channel, or its block can't stand over the
+-- lines of that channel
 abbrev pub connections_clash : List TypeDeclaration → List ConnectionItem → Bool
 connections_clash types items = list_any (λ i. list_any (λ l. line_clashes types l) (connections_of i)) items
 
 -- ---- all clashes
 
--- whether a parameter, a gate or a submodule of the type is declared twice, a value is given to an undeclared parameter or
--- after a fixed one, a submodule's type isn't one of modules, the body of a submodule clashes with its type, or the channel of a connection does
+-- whether a parameter, a gate or a submodule of the type is declared twice, a value is given to an
+-- undeclared parameter or after a fixed one, a submodule's type isn't one of modules, the body of a
+-- submodule clashes with its type, or the channel of a connection does
 abbrev pub clashes : List TypeDeclaration → TypeDeclaration → Bool
 clashes types t = section_clashes t.lines || (redeclares_gate t.gates || (submodules_clash types t.submodules || connections_clash types t.connections.items))
 

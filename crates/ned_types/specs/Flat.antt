@@ -65,8 +65,8 @@ abbrev pub last_statistic : List ℕ → List SectionLine → Option Statistic
 last_statistic name [] = None
 last_statistic name (l ∷ ls) = or_else (last_statistic name ls) (statistic_named name l)
 
--- the statistic that has its place at a line, with the lines before and after it: the first line of a name gives the
--- place, and the last one the statistic
+-- the statistic that has its place at a line, with the lines before and after it: the first line of
+-- a name gives the place, and the last one the statistic
 abbrev pub statistic_at : List SectionLine → SectionLine → List SectionLine → Option Statistic
 statistic_at before (line.Statistic s) after =
     if is_statistic_declared s.name before then None else or_else (last_statistic s.name after) (Some s)
@@ -76,7 +76,7 @@ abbrev pub statistics_after : List SectionLine → List SectionLine → List Sta
 statistics_after before [] = []
 statistics_after before (l ∷ ls) = option_to_list (statistic_at before l ls) ++ statistics_after (before ++ l ∷ []) ls
 
--- the statistics that lines declare, in the order of the first line of each name; a later line of a name stands in the
--- place of an earlier one
+-- the statistics that lines declare, in the order of the first line of each name; a later line of a
+-- name stands in the place of an earlier one
 abbrev pub statistics_of : List SectionLine → List Statistic
 statistics_of lines = statistics_after [] lines

@@ -126,8 +126,8 @@ is_fixed_in name lines = list_any (λ l. gives_fixed name l) lines
 abbrev pub is_refixed : List SectionLine → SectionLine → Bool
 is_refixed lines l = is_some (value_in l) && is_fixed_in (name_in l) lines
 
--- whether a line can't stand in a body over these lines of a type: it declares a parameter, or gives a value to one that
--- isn't declared there or has a fixed value there
+-- whether a line can't stand in a body over these lines of a type: it declares a parameter, or
+-- gives a value to one that isn't declared there or has a fixed value there
 abbrev pub is_unfit : List SectionLine → SectionLine → Bool
 is_unfit lines l = is_declaration l || (is_undeclared lines l || is_refixed lines l)
 
@@ -253,7 +253,8 @@ has_inner_network types = list_any is_inner_network types
 
 -- ---- submodules
 
--- whether it is a kind of types of modules: that of simple types, of compound modules or of networks
+-- whether it is a kind of types of modules: that of simple types, of compound modules or of
+-- networks
 abbrev pub is_kind_of_modules : TypeKind → Bool
 is_kind_of_modules Simple = true
 is_kind_of_modules Module = true
@@ -262,7 +263,8 @@ is_kind_of_modules Channel = false
 is_kind_of_modules ModuleInterface = false
 is_kind_of_modules ChannelInterface = false
 
--- whether a type of that kind may stand there: a type of modules where its name does, an interface of modules after `like`
+-- whether a type of that kind may stand there: a type of modules where its name does, an interface
+-- of modules after `like`
 abbrev pub suits_kind : SubmoduleType → TypeKind → Bool
 suits_kind (submodule_type.Named name) kind = is_kind_of_modules kind
 suits_kind (submodule_type.Like p) kind = is_module_interface kind
@@ -274,7 +276,8 @@ suits of (Some t) = suits_kind of t.kind
 abbrev pub is_submodule_suited : List TypeDeclaration → Submodule → Bool
 is_submodule_suited types s = suits s.submodule_type (type_named (type_name s) types)
 
--- whether the type of a submodule isn't one of modules, or that after `like` isn't an interface of modules
+-- whether the type of a submodule isn't one of modules, or that after `like` isn't an interface of
+-- modules
 abbrev pub has_other_kind : List TypeDeclaration → List Submodule → Bool
 has_other_kind types submodules = list_any (λ s. not (is_submodule_suited types s)) submodules
 

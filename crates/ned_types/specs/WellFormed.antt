@@ -66,7 +66,8 @@ IsTypeOf kind name types = (u : TypeDeclaration) × IsAmong u types × (u.name �
 abbrev pub IsOfModules : TypeKind → Type 0
 IsOfModules k = (k ≡ kinds.Simple) ⊎ ((k ≡ kinds.Module) ⊎ (k ≡ kinds.Network))
 
--- a type of that kind may stand there: one of modules by its name, an interface of modules after `like`
+-- a type of that kind may stand there: one of modules by its name, an interface of modules after
+-- `like`
 abbrev pub Suits : SubmoduleType → TypeKind → Type 0
 Suits (submodule_type.Named name) k = IsOfModules k
 Suits (submodule_type.Like p) k = k ≡ kinds.ModuleInterface
@@ -75,7 +76,8 @@ Suits (submodule_type.Like p) k = k ≡ kinds.ModuleInterface
 abbrev pub HasType : Submodule → List TypeDeclaration → Type 0
 HasType s types = (u : TypeDeclaration) × IsAmong u types × (u.name ≡ type_name s) × Suits s.submodule_type u.kind
 
--- these are the lines of the channel of that name: of a built-in one, or of a channel among these types
+-- these are the lines of the channel of that name: of a built-in one, or of a channel among these
+-- types
 abbrev pub IsChannelNamed : List TypeDeclaration → List ℕ → List SectionLine → Type 0
 IsChannelNamed types name lines =
     ((is_built_in name ≡ true) × (lines ≡ built_in_lines name)) ⊎ ((u : TypeDeclaration) × IsAmong u types × (u.name ≡ name) × (u.kind ≡ kinds.Channel) × (lines ≡ u.lines))
@@ -84,7 +86,8 @@ IsChannelNamed types name lines =
 abbrev pub HasChannel : List TypeDeclaration → Channel → Type 0
 HasChannel types c = (lines : List SectionLine) × IsChannelNamed types (channel_name c) lines × IsSoundBody lines c.lines
 
--- a type has all parameters and gates of an interface: those of its names, with the same words and directions, and vectors where those are vectors
+-- a type has all parameters and gates of an interface: those of its names, with the same words and
+-- directions, and vectors where those are vectors
 pub record HasMembers (t i : TypeDeclaration) : Type 0 where
   pub parameters : (d : Declaration) → IsAmong (line.Declaration d) i.lines → (e : Declaration) × IsAmong (line.Declaration e) t.lines × (e.name ≡ d.name) × (e.word ≡ d.word)
   pub gates : (d : GateDeclaration) → IsAmong (gate.Declaration d) i.gates → (e : GateDeclaration) × IsAmong (gate.Declaration e) t.gates × (e.name ≡ d.name) × (e.direction ≡ d.direction) × (is_vector e.size ≡ is_vector d.size)
@@ -109,5 +112,6 @@ pub record IsWellFormed (types : List TypeDeclaration) : Type 0 where
   pub bodies : (t : TypeDeclaration) → IsAmong t types → (s : Submodule) → IsAmong s t.submodules → (u : TypeDeclaration) → IsAmong u types → u.name ≡ type_name s → IsSoundBody u.lines s.body.lines
   -- and declares no gate;
   pub sizes : (t : TypeDeclaration) → IsAmong t types → (s : Submodule) → IsAmong s t.submodules → (d : GateDeclaration) → IsAmong (gate.Declaration d) s.body.gates → ⊥
-  -- and what the channel of each connection names is a channel, after whose lines its block is sound.
+  -- and what the channel of each connection names is a channel, after whose lines its block is
+  -- sound.
   pub channels : (t : TypeDeclaration) → IsAmong t types → (i : ConnectionItem) → IsAmong i t.connections.items → (l : ConnectionLine) → IsAmong l (connections_of i) → (c : Channel) → l.connection.channel ≡ Some c → HasChannel types c

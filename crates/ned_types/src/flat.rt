@@ -63,7 +63,8 @@ pub fn class_of(declared: &TypeDeclaration) -> &[u8]
     }
 }
 
-/// The name that stands for the type of a submodule: that of the type, or that of the interface after `like`.
+/// The name that stands for the type of a submodule: that of the type, or that of the interface
+/// after `like`.
 pub fn type_name(submodule: &Submodule) -> &[u8]
     ensures { result.now ≡ type_name submodule.now }
 {

@@ -1,4 +1,5 @@
-//! The types of a model: the table of flat types, and what each says of parameters, submodules and statistics.
+//! The types of a model: the table of flat types, and what each says of parameters, submodules and
+//! statistics.
 #![tactic(auto)]
 
 pub mod flat;

@@ -1,4 +1,5 @@
-//! What is made in several steps, each of which can fail. In a function of its own each exit would open the drop of all that is there; here no type is known, so there is nothing to open.
+//! What is made in several steps, each of which can fail. In a function of its own each exit would
+//! open the drop of all that is there; here no type is known, so there is nothing to open.
 
 ghost use Rattle.std.specs.Prelude.{◌≡◌, Ok, IfOk};
 

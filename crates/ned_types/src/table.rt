@@ -15,8 +15,9 @@ use std::collections::BTreeMap;
 use std::marker::Model;
 use std::rc::Rc;
 
-/// The flat types of all that are declared, in the order of the files and within them, which contracts see as their list. They
-/// keep the rules of types. A flat type has what its bases have, and extends nothing. A copy shares them.
+/// The flat types of all that are declared, in the order of the files and within them, which
+/// contracts see as their list. They keep the rules of types. A flat type has what its bases have,
+/// and extends nothing. A copy shares them.
 pub struct TypeTable {
     types: Rc<Items<TypeDeclaration>>,
     /// The place of each name: where a type is looked for first.
@@ -62,7 +63,8 @@ impl TypeTable {
         Ok(TypeTable { types, places })
     }
 
-    /// An equal table, which shares the types. It takes no memory, and fails only where there are too many copies to be counted.
+    /// An equal table, which shares the types. It takes no memory, and fails only where there are
+    /// too many copies to be counted.
     pub fn copy(&self) -> Result<TypeTable, AllocError>
         ensures { IfOk result (λ copy. copy ≡ self.now) }
     {

@@ -25,8 +25,8 @@ abbrev pub end_of : Bool → Result Unit Stop
 end_of true = Err stop.Fault
 end_of false = Ok tt
 
--- WHY A SESSION ENDS EARLY: the texts are refused, for that reason and with the text that says so; or the user can't go on; or, where the words
--- want that told, the last run ended in a fault
+-- WHY A SESSION ENDS EARLY: the texts are refused, for that reason and with the text that says so;
+-- or the user can't go on; or, where the words want that told, the last run ended in a fault
 abbrev pub EndsEarly : List (List ℕ) → List ℕ → List ℕ → Bool → Stop → Type 0
 EndsEarly texts ini config strict s =
     ((fault : BeginFault) × Refuses texts ini config fault × IsStopOf fault s)

@@ -34,7 +34,8 @@ use std::io::IsTerminal;
 use std::process::ExitCode;
 use std::rt::{Clock, Env, Files};
 
-/// Serves the user at a desk of the model that the files make, until the user asks nothing more or can't go on. It is reported how far runs are, or not.
+/// Serves the user at a desk of the model that the files make, until the user asks nothing more or
+/// can't go on. It is reported how far runs are, or not.
 fn serve_user<'a, R: Files + Input + Print + Eprint + Clock + AllocGlobal>(
     rt: &'a R,
     words: &'a Words,
@@ -47,10 +48,12 @@ fn serve_user<'a, R: Files + Input + Print + Eprint + Clock + AllocGlobal>(
     ensures served { IfOk result (λ r. (model : Model)
         × IsModelOf sources.now.texts.now sources.now.ini.now (string_bytes words.now.config) model
         × Ends stock (fresh_machine model words.now.interval) r.0.dialogue.transcript.asked r.0.dialogue.transcript.heard r.1) }
-    // What is asked: the run of the words, then to write its files, then the lines of standard input;
+    // What is asked: the run of the words, then to write its files, then the lines of standard
+    // input;
     ensures asked { IfOk result (λ r. AsksInOrder words.now.limit r.0.dialogue.at_terminal r.0.dialogue.ask r.0.dialogue.transcript.asked
         r.0.dialogue.lines.source.given.bytes r.0.dialogue.lines.buffer) }
-    // and nothing that it gave is left unasked up to `quit`, unless the user can't go on, or a device fails, and knows why.
+    // and nothing that it gave is left unasked up to `quit`, unless the user can't go on, or a
+    // device fails, and knows why.
     ensures stopped { IfOk result (λ r. at_stop (((r.0.dialogue.ask ≡ ask.Line) × (r.0.dialogue.lines.buffer.bytes ≡ [])) ⊎ (r.0.dialogue.ask ≡ ask.Nothing))
         (IsSomeAnd r.0.stop (IsReason r.0.dialogue.lines.buffer)) (λ _ _. IsSomeAnd r.0.stop IsLost) r.1) }
     // The user knows whether the last run ended in a fault.

@@ -25,11 +25,13 @@ IsLost s = (path : List ℕ) × IsUnwritable path s
 abbrev pub IsUnmade : List ℕ → Stop → Type 0
 IsUnmade directory s = Fails (codes "this folder can't be made") directory s
 
--- why a user asks nothing: the folder of the result files can't be made, or the dialogue asks nothing
+-- why a user asks nothing: the folder of the result files can't be made, or the dialogue asks
+-- nothing
 abbrev pub IsAskless : List ℕ → Ask → ℕ → ℕ → Waiting → Stop → Type 0
 IsAskless directory a failures failures' waiting s = IsUnmade directory s ⊎ IsUnasked a failures failures' waiting s
 
--- what is told of a stream of the user, of a file or the folder of a run, or of a file that a command names
+-- what is told of a stream of the user, of a file or the folder of a run, or of a file that a
+-- command names
 abbrev pub IsOfUser : List ℕ → Type 0
 IsOfUser line = (line ≡ codes "standard input: the next command can't be read")
     ⊎ ((line ≡ codes "standard output: the answer can't be printed")
@@ -38,8 +40,8 @@ IsOfUser line = (line ≡ codes "standard input: the next command can't be read"
     ⊎ (((path : List ℕ) × (line ≡ path ++ codes ": this folder can't be made"))
     ⊎ ((path : List ℕ) × (line ≡ path ++ codes ": this file can't be read"))))))
 
--- WHY A USER CAN'T GO ON: as many lines as are read are counted; a stream of the user, a file of a run, the folder of its files
--- or a file that a command names failed; or memory ran out
+-- WHY A USER CAN'T GO ON: as many lines as are read are counted; a stream of the user, a file of a
+-- run, the folder of its files or a file that a command names failed; or memory ran out
 abbrev pub IsReason : Waiting → Stop → Type 0
 IsReason waiting stop.Spent = IsSpent waiting
 IsReason waiting (stop.Failed line error) = IsOfUser (string_bytes line)

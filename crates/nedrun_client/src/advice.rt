@@ -1,4 +1,5 @@
-//! What the program says of its own: what has no effect, what is said after a refusal or a fault, and that a text is saved.
+//! What the program says of its own: what has no effect, what is said after a refusal or a fault,
+//! and that a text is saved.
 
 ghost use Rattle.std.specs.Prelude.{IfErr};
 ghost use Rattle.nedrun_files.specs.Stops.{IsUnadvised};

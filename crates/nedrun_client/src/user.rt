@@ -36,8 +36,8 @@ use sim_values::text::Text;
 use std::rt::Files;
 use transcripts::asked::Asked;
 
-/// Asks for the run of the words, then to write its files, and then what the lines of standard input ask for. Prints each
-/// answer on a line of standard output before the next line is read.
+/// Asks for the run of the words, then to write its files, and then what the lines of standard
+/// input ask for. Prints each answer on a line of standard output before the next line is read.
 #[derive(Drop)]
 pub struct User<'a, R: Files + Input> {
     rt: &'a R,
@@ -115,8 +115,8 @@ impl<'a, R: Files + Input + Print + Eprint + AllocGlobal> User<'a, R> {
         Gone
     }
 
-    /// What is asked next. The folder of the result files is made before the first thing: only a user who is served asks, so where the
-    /// texts are refused none is made.
+    /// What is asked next. The folder of the result files is made before the first thing: only a
+    /// user who is served asks, so where the texts are refused none is made.
     fn ask(&mut self) -> Result<Option<Asked>, Stop>
         requires kept { Keeps self.old.dialogue }
         ensures kept { Keeps self.new.dialogue }
@@ -178,8 +178,9 @@ impl<'a, R: Files + Input + Print + Eprint + AllocGlobal> User<'a, R> {
         );
     }
 
-    /// Prints an answer that tells this, or that memory ran out where it tells nothing. A command of the program's own, which the
-    /// session doesn't know, is answered in place of that. At a terminal a blank line has no answer.
+    /// Prints an answer that tells this, or that memory ran out where it tells nothing. A command
+    /// of the program's own, which the session doesn't know, is answered in place of that. At a
+    /// terminal a blank line has no answer.
     fn tell(&mut self, answer: &[u8], told: Option<&Told>) -> Result<(), Stop>
         ensures failed { IfErr result IsUntold }
         ensures words { self.new.words ≡ self.old.words }
@@ -197,7 +198,8 @@ impl<'a, R: Files + Input + Print + Eprint + AllocGlobal> User<'a, R> {
         }
     }
 
-    /// Prints the first answer: warnings before it, and after it that the limit ended the run, where none was given.
+    /// Prints the first answer: warnings before it, and after it that the limit ended the run,
+    /// where none was given.
     fn tell_first(&mut self, answer: &[u8], told: Option<&Told>) -> Result<(), Stop>
         ensures failed { IfErr result IsUntold }
         ensures words { self.new.words ≡ self.old.words }
@@ -248,7 +250,8 @@ impl<'a, R: Files + Input + Print + Eprint + AllocGlobal> User<'a, R> {
         }
     }
 
-    /// What the file of that path holds; or what it held, where an edit is taken back that replaced it.
+    /// What the file of that path holds; or what it held, where an edit is taken back that replaced
+    /// it.
     fn asked_text(&mut self, path: &[u8]) -> Result<Text, Stop>
         ensures failed { IfErr result (IsUnreadable (shown path.now)) }
         ensures words { self.new.words ≡ self.old.words }
@@ -295,14 +298,16 @@ impl<'a, R: Files + Input + Print + Eprint + AllocGlobal> User<'a, R> {
     }
 }
 
-/// Writes what is gathered still of both files, and puts them in the place of those that were there: none of them before both are written whole.
+/// Writes what is gathered still of both files, and puts them in the place of those that were
+/// there: none of them before both are written whole.
 fn finish<R: Files + AllocGlobal>(pages: &mut Pages<FileOut<'_, R>>) -> Result<(), Stop>
     ensures scalars { OnOk result (unwritten pages.new.scalars ≡ []) }
     ensures vectors { OnOk result (unwritten pages.new.vectors ≡ []) }
     ensures scalars_taken { pages.new.scalars.content.bytes ≡ pages.old.scalars.content.bytes }
     ensures vectors_taken { pages.new.vectors.content.bytes ≡ pages.old.vectors.content.bytes }
     ensures config { pages.new.config ≡ pages.old.config }
-    // The scalar file comes first: where the other one can't be written, nothing is left of it to write.
+    // The scalar file comes first: where the other one can't be written, nothing is left of it to
+    // write.
     ensures failed { IfErr result (λ stop. IsUnwritable (string_bytes pages.old.scalars.path) stop
         ⊎ ((unwritten pages.new.scalars ≡ []) × IsUnwritable (string_bytes pages.old.vectors.path) stop)) }
 {

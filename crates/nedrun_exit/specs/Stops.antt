@@ -8,7 +8,8 @@ use Rattle.clap.specs.declared.error.kind.ErrorKind.TheVariants as kind
 use Rattle.nedrun_exit.specs.declared.stops.Stop.{Stop}
 use Rattle.nedrun_exit.specs.declared.stops.Stop.TheVariants as stop
 
--- a file, a folder or a stream of that name failed: what of it, and what the system says; or memory ran out for the line that tells so
+-- a file, a folder or a stream of that name failed: what of it, and what the system says; or memory
+-- ran out for the line that tells so
 abbrev pub IsFailed : List ℕ → List ℕ → SystemError → Stop → Type 0
 IsFailed what name error (stop.Failed line told) = (string_bytes line ≡ name ++ (codes ": " ++ what)) × (told ≡ error)
 IsFailed what name error (stop.NoMemory _) = Unit {0}

@@ -46,7 +46,8 @@ IsOneUnreadable {A} paths (stop.Failed line error) =
 IsOneUnreadable paths (stop.NoMemory _) = Unit {0}
 IsOneUnreadable paths _ = ⊥
 
--- THE STATUS OF THE PROGRAM: 0 where it did not end early; else the one of the reason, or 1 where that can't be told
+-- THE STATUS OF THE PROGRAM: 0 where it did not end early; else the one of the reason, or 1 where
+-- that can't be told
 abbrev pub IsStatus : Result Unit Stop → ℕ → Type 0
 IsStatus (Ok _) status = status ≡ 0
 IsStatus (Err s) status = (status ≡ status_of s) ⊎ (status ≡ 1)

@@ -42,8 +42,9 @@ impl<R: Files> Write for LateFile<'_, R> {
     }
 }
 
-/// A file as a device. Bytes are gathered before they are written, in room that is there before the first of them. They are written to another file
-/// beside it, which takes its place when all is written: so a write that fails leaves the file that was there.
+/// A file as a device. Bytes are gathered before they are written, in room that is there before the
+/// first of them. They are written to another file beside it, which takes its place when all is
+/// written: so a write that fails leaves the file that was there.
 #[derive(Drop)]
 pub struct FileOut<'a, R: Files> {
     rt: &'a R,
@@ -126,7 +127,8 @@ impl<'a, R: Files + AllocGlobal> FileOut<'a, R> {
         }
     }
 
-    /// Removes what was written of it and has not taken its place, where something was. What is gathered still is not written.
+    /// Removes what was written of it and has not taken its place, where something was. What is
+    /// gathered still is not written.
     pub fn discard(self) {
         let FileOut {
             rt,

@@ -10,9 +10,10 @@ use sim_values::text::Text;
 use std::io;
 use std::process::ExitCode;
 
-/// The status of the program, which says why it ends early where it does: 0 at the end of standard input; 1 where a file or a
-/// stream fails, where memory runs out for what the program says or reads, or where as many lines were read as are; 2 where the
-/// words or the texts are refused; 3 where the last run ended in a fault, and the words want that told.
+/// The status of the program, which says why it ends early where it does: 0 at the end of standard
+/// input; 1 where a file or a stream fails, where memory runs out for what the program says or
+/// reads, or where as many lines were read as are; 2 where the words or the texts are refused; 3
+/// where the last run ended in a fault, and the words want that told.
 pub fn status<R: Print + Eprint>(rt: &R, ended: Result<(), Stop>) -> ExitCode
     ensures { IsStatus ended (exit_status result) }
 {
@@ -25,7 +26,8 @@ pub fn status<R: Print + Eprint>(rt: &R, ended: Result<(), Stop>) -> ExitCode
     }
 }
 
-/// Says why the program ends early, on standard error but for help. The first line has the name of a refusal, the second is for a person.
+/// Says why the program ends early, on standard error but for help. The first line has the name of
+/// a refusal, the second is for a person.
 fn tell<R: Print + Eprint>(rt: &R, stop: &Stop) -> io::Result<()> {
     match stop {
         Stop::Words(error) => error.print(rt),

@@ -10,7 +10,8 @@ use std::fs::DirEntry;
 use std::rt::Files;
 use std::{fs, io};
 
-/// Of how many NED files the paths are found at most: one more than there may be, so that there are too many is still seen.
+/// Of how many NED files the paths are found at most: one more than there may be, so that there are
+/// too many is still seen.
 const MOST: usize = 257;
 
 /// What was found below folders.
@@ -29,7 +30,8 @@ fn unlisted<R: AllocGlobal>(rt: &R, path: &str, error: io::Error) -> Stop
     Stop::failed(rt.alloc(), "this folder can't be read", path, error)
 }
 
-/// The folders that a word names, with `:` or `;` between them, the last one first. An empty name is the folder that the program runs in.
+/// The folders that a word names, with `:` or `;` between them, the last one first. An empty name
+/// is the folder that the program runs in.
 fn named_folders(alloc: Global, word: &str) -> Result<Vec<String>, AllocError> {
     let mut folders = Vec::new(alloc);
     for name in word.split([':', ';'].as_slice()) {
@@ -41,7 +43,8 @@ fn named_folders(alloc: Global, word: &str) -> Result<Vec<String>, AllocError> {
 }
 
 impl Search {
-    /// Takes up an entry of a folder: a folder is looked at later, and a NED file is found. Names that begin with a dot are left out.
+    /// Takes up an entry of a folder: a folder is looked at later, and a NED file is found. Names
+    /// that begin with a dot are left out.
     fn take<R: Files>(&mut self, alloc: Global, entry: &DirEntry<R, Global>) -> io::Result<()> {
         let name = entry.file_name();
         if name.starts_with('.') {
@@ -102,7 +105,8 @@ fn add_in_order(paths: &mut Vec<String>, found: Vec<String>) -> Result<(), Alloc
     Ok(())
 }
 
-/// Adds the paths of all NED files below folders, which a word names, after these paths: in the order of their names.
+/// Adds the paths of all NED files below folders, which a word names, after these paths: in the
+/// order of their names.
 pub fn add_ned_paths<R: Files + AllocGlobal + Clone + Drop>(
     rt: &R,
     word: &str,

@@ -1,4 +1,5 @@
-//! What the program reads of files, writes to files and prints, and what ends it where one of these fails.
+//! What the program reads of files, writes to files and prints, and what ends it where one of these
+//! fails.
 #![tactic(auto)]
 
 pub mod devices;

@@ -77,7 +77,8 @@ pub fn make_folder<R: Files + AllocGlobal>(rt: &R, directory: &str) -> Result<()
     }
 }
 
-/// The path of a file of a run, by the last part of its name: it is named by the configuration, in the folder.
+/// The path of a file of a run, by the last part of its name: it is named by the configuration, in
+/// the folder.
 pub fn file_path(
     alloc: Global,
     directory: &str,

@@ -13,8 +13,9 @@ const EVENTS: u64 = 1024;
 /// How many milliseconds pass from one line to the next, at least.
 const PAUSE: u128 = 2000;
 
-/// Reports how far a run is: every two seconds while it goes on, a line on standard error with the number of events that are executed, the time of
-/// the last one, how many there were a second since the last line, and how much of the run's limit that is. That a line can't be printed, or the
+/// Reports how far a run is: every two seconds while it goes on, a line on standard error with the
+/// number of events that are executed, the time of the last one, how many there were a second since
+/// the last line, and how much of the run's limit that is. That a line can't be printed, or the
 /// clock can't be read, is no matter.
 #[derive(Drop)]
 pub struct Progress<'a, R> {
@@ -61,7 +62,8 @@ impl<'a, R: Eprint + Clock> Progress<'a, R> {
         ensures limit { self.new.limit ≡ limit }
         ensures reported { self.new.reported ≡ count }
         ensures shown { self.new.is_shown ≡ self.old.is_shown }
-        // Where no lines are shown there is no time to count from, and no event at which the clock is looked at.
+        // Where no lines are shown there is no time to count from, and no event at which the clock
+        // is looked at.
         ensures silent { self.old.is_shown ≡ false → self.new.since ≡ None }
         ensures unlooked { self.old.is_shown ≡ false → self.new.next ≡ 18446744073709551615 }
     {
@@ -74,7 +76,8 @@ impl<'a, R: Eprint + Clock> Progress<'a, R> {
         };
     }
 
-    /// So many events are executed, the last one at that time. Most of the time this is all: the clock is not looked at.
+    /// So many events are executed, the last one at that time. Most of the time this is all: the
+    /// clock is not looked at.
     pub fn event(&mut self, count: u64, time: SimTime)
         ensures limit { self.new.limit ≡ self.old.limit }
         ensures shown { self.new.is_shown ≡ self.old.is_shown }
@@ -128,7 +131,8 @@ fn rate(events: u64, passed: u128) -> u128
     events as u128 * 1000 / passed
 }
 
-/// How many hundredths of the limit so many events are, in whole numbers; all of them where the limit is 0.
+/// How many hundredths of the limit so many events are, in whole numbers; all of them where the
+/// limit is 0.
 fn percent(count: u64, limit: u64) -> u128
     ensures { 1 ≤ limit → result ≡ count * 100 / limit }
 {

@@ -69,7 +69,8 @@ abbrev pub ini_of : Option (List ℕ) → List (List ℕ) → List ℕ
 ini_of (Some named) files = named
 ini_of None files = first_ini files
 
--- THE NED FILES are all of the files, where the word for the ini file names that; or else those after it
+-- THE NED FILES are all of the files, where the word for the ini file names that; or else those
+-- after it
 abbrev pub texts_of : Option (List ℕ) → List (List ℕ) → List (List ℕ)
 texts_of (Some named) files = files
 texts_of None files = ned_files files
@@ -87,7 +88,8 @@ pub record IsGiven (found : Found) (words : Words) : Type 0 where
   pub texts : map string_bytes words.texts.items ≡ texts_of (first_value found (codes "file")) (files_of found)
   pub folders : option_map string_bytes words.folders ≡ first_value found (codes "folders")
 
--- why the words aren't there: they can't be had; they are not as they should be, or ask for help; or memory ran out
+-- why the words aren't there: they can't be had; they are not as they should be, or ask for help;
+-- or memory ran out
 abbrev pub AreUnreadWords : Stop → Type 0
 AreUnreadWords (stop.Words _) = Unit {0}
 AreUnreadWords (stop.Failed line error) = string_bytes line ≡ codes "command line: the words can't be read"

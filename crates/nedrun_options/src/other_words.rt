@@ -94,7 +94,8 @@ fn instead_of(word: &str) -> Option<(&'static str, &'static str)> {
     None
 }
 
-/// How the first word of OMNeT++'s own among the words of the program is called, which were refused for one that is not known, and what serves instead.
+/// How the first word of OMNeT++'s own among the words of the program is called, which were refused
+/// for one that is not known, and what serves instead.
 pub fn instead_of_words<R: Env + AllocGlobal>(
     rt: &R,
     error: &clap::Error,

@@ -164,8 +164,8 @@ fn ned_word<'a>(alloc: Global, is_wanted: bool) -> Arg<'a> {
         .help("The NED files")
 }
 
-/// A command with the options: the configuration, the limit, the interval, the directory, whether faults are told by the status, and whether it is
-/// reported how far a run is.
+/// A command with the options: the configuration, the limit, the interval, the directory, whether
+/// faults are told by the status, and whether it is reported how far a run is.
 fn with_options<'a>(alloc: Global, command: Command<'a>) -> Result<Command<'a>, AllocError> {
     let command = command.arg(config_word(alloc))?;
     let command = command.arg(limit_word(alloc))?;
@@ -175,7 +175,8 @@ fn with_options<'a>(alloc: Global, command: Command<'a>) -> Result<Command<'a>, 
     command.arg(progress_word(alloc))
 }
 
-/// A command with the words that the program has in common with OMNeT++'s own: an ini file, folders, the user interface and the run.
+/// A command with the words that the program has in common with OMNeT++'s own: an ini file,
+/// folders, the user interface and the run.
 fn with_common<'a>(alloc: Global, command: Command<'a>) -> Result<Command<'a>, AllocError> {
     let command = command.arg(file_word(alloc))?;
     let command = command.arg(folders_word(alloc))?;
@@ -293,7 +294,8 @@ fn begins_with_ini(files: &[String]) -> bool
     }
 }
 
-/// Takes the path of the ini file out of the files, where it is among them: the one that the word for it names goes before that.
+/// Takes the path of the ini file out of the files, where it is among them: the one that the word
+/// for it names goes before that.
 fn take_ini(
     alloc: Global,
     files: &mut Vec<String>,
@@ -322,7 +324,8 @@ fn given_folders(alloc: Global, matches: &ArgMatches<'_>) -> Result<Option<Strin
     }
 }
 
-/// Whether words that lack an ini file or NED files name enough: a folder of NED files, or NED files alone.
+/// Whether words that lack an ini file or NED files name enough: a folder of NED files, or NED
+/// files alone.
 fn names_enough(matches: &ArgMatches<'_>) -> bool {
     if matches.contains_id("folders") {
         return true;
@@ -375,8 +378,8 @@ fn given_words<R: Env + AllocGlobal>(rt: &R) -> Result<Vec<String>, Stop>
 }
 
 impl Words {
-    /// What the words say that were given: what `clap` found of each, by its name, or else the word's default. Fails where
-    /// memory runs out.
+    /// What the words say that were given: what `clap` found of each, by its name, or else the
+    /// word's default. Fails where memory runs out.
     pub fn given(alloc: Global, matches: &ArgMatches<'_>) -> Result<Words, AllocError>
         ensures given { IfOk result (λ words. IsGiven (found_of matches.now) words) }
         ensures interval { IfOk result (λ words. 1 ≤ words.interval) }
@@ -400,7 +403,8 @@ impl Words {
         })
     }
 
-    /// The program's own words. Fails where they can't be had, where `clap` refuses them or they ask for help, or where memory runs out.
+    /// The program's own words. Fails where they can't be had, where `clap` refuses them or they
+    /// ask for help, or where memory runs out.
     pub fn read<R: Env + AllocGlobal>(rt: &R) -> Result<Words, Stop>
         ensures interval { IfOk result (λ words. 1 ≤ words.interval) }
         ensures failed { IfErr result AreUnreadWords }

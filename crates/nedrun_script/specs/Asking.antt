@@ -24,7 +24,8 @@ firsts ask.Nothing = 0
 abbrev pub left_of : Ask → Waiting → ℕ
 left_of a waiting = firsts a + (most_lines - waiting.counted)
 
--- WHY A LINE ISN'T READ: as many lines as are read are counted; standard input failed, once more; or memory ran out
+-- WHY A LINE ISN'T READ: as many lines as are read are counted; standard input failed, once more;
+-- or memory ran out
 abbrev pub IsUnread : ℕ → ℕ → Waiting → Stop → Type 0
 IsUnread failures failures' waiting stop.Spent = IsSpent waiting × (failures' ≡ failures)
 IsUnread failures failures' waiting (stop.Failed line error) =
@@ -58,7 +59,8 @@ module _ {I : Type 0} where
     pub kept : IsInOrder after
     -- one thing more is asked, and less is left to be asked; or nothing is asked
     pub next : AsksNext before.transcript.asked (left_in before) answer after.transcript.asked (left_in after)
-    -- there is nothing more to ask only where nothing that standard input gave is left unasked, or after `quit`
+    -- there is nothing more to ask only where nothing that standard input gave is left unasked, or
+    -- after `quit`
     pub over : IfOk answer (λ next. next ≡ None → HasAskedAll after)
     -- where nothing can be asked, that is why
     pub unasked : IfErr answer (IsUnasked before.ask before.lines.source.failures after.lines.source.failures after.lines.buffer)

@@ -12,7 +12,8 @@ use Rattle.nedrun_script.specs.declared.dialogue.Dialogue.{Dialogue}
 abbrev pub begins : List ℕ → List ℕ → Bool
 begins answer front = starts_with (λ a b. a == b) answer front
 
--- an answer tells that a run is done: with a fault or not; after any other one it is as it was before
+-- an answer tells that a run is done: with a fault or not; after any other one it is as it was
+-- before
 abbrev pub fault_behind : Bool → Heard → Bool
 fault_behind before (Answer text) = if begins text (codes "done fault ") then true else (if begins text (codes "done ") then false else before)
 fault_behind before (Files _ _ _) = before
@@ -38,6 +39,7 @@ module _ {I : Type 0} where
   abbrev pub KnowsFault : Dialogue I → Type 0
   KnowsFault d = d.has_fault ≡ ends_in_fault d.transcript.heard
 
-  -- WHAT A DIALOGUE KEEPS: what was asked is in its order, and it knows whether the last run ended in a fault
+  -- WHAT A DIALOGUE KEEPS: what was asked is in its order, and it knows whether the last run ended
+  -- in a fault
   abbrev pub Keeps : Dialogue I → Type 0
   Keeps d = IsInOrder d × KnowsFault d

@@ -11,17 +11,19 @@ use Rattle.transcripts.specs.declared.asked.Asked.TheVariants as asked
 use Rattle.nedrun_script.specs.declared.dialogue.Ask.{Ask}
 use Rattle.nedrun_script.specs.declared.dialogue.Ask.TheVariants as ask
 
--- These bytes begin with this line, and then come the others: a line feed parts them; or nothing does, as where the source was at its end after
--- the line, which then is not empty.
+-- These bytes begin with this line, and then come the others: a line feed parts them; or nothing
+-- does, as where the source was at its end after the line, which then is not empty.
 abbrev pub BeginsWithLine : List ℕ → List ℕ → List ℕ → Type 0
 BeginsWithLine all line rest = (all ≡ line ++ 10 ∷ rest) ⊎ ((all ≡ line ++ rest) × (0 < length line))
 
--- what a line says is the line itself; or also, where it was typed at a terminal, the line without the blanks at its end
+-- what a line says is the line itself; or also, where it was typed at a terminal, the line without
+-- the blanks at its end
 abbrev pub IsTyped : Bool → List ℕ → List ℕ → Type 0
 IsTyped true text line = (text ≡ line) ⊎ IsTrimAsciiEnd line text
 IsTyped false text line = text ≡ line
 
--- what is asked for what a line says: that; or, in the place of `undo`, a command of the program's own
+-- what is asked for what a line says: that; or, in the place of `undo`, a command of the program's
+-- own
 abbrev pub IsMeant : List ℕ → List ℕ → Type 0
 IsMeant text said = (text ≡ said) ⊎ (said ≡ codes "undo")
 
@@ -38,7 +40,8 @@ pub record IsFirstLine (at_terminal : Bool) (all : List ℕ) (a : Asked) (rest :
   pub one : has_feed line ≡ false
   pub told : IsAskedAs at_terminal a line
 
--- THE LINES at the front of these bytes are asked, one after the other, and none is left out; the rest of the bytes follows
+-- THE LINES at the front of these bytes are asked, one after the other, and none is left out; the
+-- rest of the bytes follows
 abbrev pub AreLines : Bool → List Asked → List ℕ → List ℕ → Type 0
 AreLines at_terminal [] all rest = all ≡ rest
 AreLines at_terminal (a ∷ asks) all rest = (next : List ℕ) × IsFirstLine at_terminal all a next × AreLines at_terminal asks next rest
@@ -52,8 +55,9 @@ write_line = asked.Line (codes "write")
 abbrev pub quit_line : Asked
 quit_line = asked.Line (codes "quit")
 
--- WHAT IS ASKED: first the run to the limit of the words, then to write its files, and then the lines that standard input gave, at a terminal or
--- not. Where nothing more is asked, the line after those says `quit`.
+-- WHAT IS ASKED: first the run to the limit of the words, then to write its files, and then the
+-- lines that standard input gave, at a terminal or not. Where nothing more is asked, the line after
+-- those says `quit`.
 abbrev pub AsksInOrder : ℕ → Bool → Ask → List Asked → List ℕ → Waiting → Type 0
 AsksInOrder limit at_terminal ask.Run asks given waiting = (asks ≡ []) × (given ≡ waiting.bytes)
 AsksInOrder limit at_terminal ask.Write asks given waiting = (asks ≡ run_line limit ∷ []) × (given ≡ waiting.bytes)

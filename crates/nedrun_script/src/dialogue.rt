@@ -64,7 +64,8 @@ fn unread_line(alloc: Global, error: io::Error) -> Stop
     )
 }
 
-/// A line that was typed at a terminal, without the blanks at its end; as it is where memory runs out.
+/// A line that was typed at a terminal, without the blanks at its end; as it is where memory runs
+/// out.
 fn without_blanks(alloc: Global, line: Text) -> Text
     ensures { IsTyped true result line }
 {
@@ -74,12 +75,14 @@ fn without_blanks(alloc: Global, line: Text) -> Text
     }
 }
 
-/// Whether the blanks at the end of a line are of the text that it gives, which may have no other bytes.
+/// Whether the blanks at the end of a line are of the text that it gives, which may have no other
+/// bytes.
 fn has_own_blanks(line: &[u8]) -> bool {
     line.starts_with(b"ini insert ") || line.starts_with(b"ini replace ")
 }
 
-/// What is asked for a line, and whether that takes an edit back: the line itself, or in the place of `undo` the command that does, where there is one.
+/// What is asked for a line, and whether that takes an edit back: the line itself, or in the place
+/// of `undo` the command that does, where there is one.
 fn meant(alloc: Global, said: Text, undo: Option<&Text>) -> (Text, bool)
     ensures { IsMeant result.0 said }
 {
@@ -106,17 +109,19 @@ fn has_fault_behind(has_fault: bool, told: &Told) -> bool
     }
 }
 
-/// What the program asks at its desk: the run to a limit, then to write its files, and then what the lines of standard input ask for,
-/// up to the line `quit`; and what it hears of that.
+/// What the program asks at its desk: the run to a limit, then to write its files, and then what
+/// the lines of standard input ask for, up to the line `quit`; and what it hears of that.
 #[derive(Drop)]
 pub struct Dialogue<I> {
     /// The limit of the first run, in events.
     limit: u64,
     ask: Ask,
     lines: LineReader<NotedReader<I>>,
-    /// Whether the lines are typed at a terminal, where blanks at the end of a line are no part of it.
+    /// Whether the lines are typed at a terminal, where blanks at the end of a line are no part of
+    /// it.
     at_terminal: bool,
-    /// Whether the line that was asked last takes an edit back: it stands in the place of the line `undo`.
+    /// Whether the line that was asked last takes an edit back: it stands in the place of the line
+    /// `undo`.
     pub undoes: bool,
     /// Whether the last run that was heard of ended in a fault.
     pub has_fault: bool,
@@ -124,8 +129,8 @@ pub struct Dialogue<I> {
 }
 
 impl<I: Read> Dialogue<I> {
-    /// A dialogue in which nothing was asked yet: with that limit of its first run, in events, and lines of that input, which was not read yet, and
-    /// is a terminal or not.
+    /// A dialogue in which nothing was asked yet: with that limit of its first run, in events, and
+    /// lines of that input, which was not read yet, and is a terminal or not.
     pub fn new(alloc: Global, limit: u64, input: I, at_terminal: bool) -> Dialogue<I>
         ensures limit { result.limit ≡ limit }
         ensures at_terminal { result.at_terminal ≡ at_terminal }
@@ -162,7 +167,8 @@ impl<I: Read> Dialogue<I> {
         self.transcript.hears(answer);
     }
 
-    /// Hears that both files of a run were kept, of these bytes, with the name of the configuration that they are of.
+    /// Hears that both files of a run were kept, of these bytes, with the name of the configuration
+    /// that they are of.
     #[tactic(auto, using(crate::proofs::Faults::fault_more))]
     pub fn hears_files(&mut self, config: &Noted, scalars: &Noted, vectors: &Noted)
         requires known { KnowsFault self.old }
@@ -254,7 +260,8 @@ impl<I: Read> Dialogue<I> {
         line
     }
 
-    /// Asks what the next line of standard input asks for, with the command that takes the last edit back. After the line `quit` nothing is asked.
+    /// Asks what the next line of standard input asks for, with the command that takes the last
+    /// edit back. After the line `quit` nothing is asked.
     fn ask_line(&mut self, alloc: Global, undo: Option<&Text>) -> Result<Option<Asked>, Stop>
         requires typed { self.old.ask ≡ ask.Line }
         requires kept { IsInOrder self.old }
@@ -286,8 +293,10 @@ impl<I: Read> Dialogue<I> {
         }
     }
 
-    /// Asks the next thing, where `undo` is the command that takes the last edit back; or nothing more: standard input is at its end then, and all that it gave was asked; or the line `quit` was read. Fails where memory
-    /// runs out, where standard input failed, or where as many lines were read as are; then nothing is asked.
+    /// Asks the next thing, where `undo` is the command that takes the last edit back; or nothing
+    /// more: standard input is at its end then, and all that it gave was asked; or the line `quit`
+    /// was read. Fails where memory runs out, where standard input failed, or where as many lines
+    /// were read as are; then nothing is asked.
     pub fn next(&mut self, alloc: Global, undo: Option<&Text>) -> Result<Option<Asked>, Stop>
         requires kept { IsInOrder self.old }
         ensures { Asks self.old result self.new }

@@ -1,4 +1,5 @@
--- What holds after setup of the records and of the modules that live, which are all that were created, holds all through a run.
+-- What holds after setup of the records and of the modules that live, which are all that were
+-- created, holds all through a run.
 use Rattle.std.proofs.Common.{◌≡◌, ℕ, zero, suc, List, [], Option, Some, None, sym, subst}
 use Rattle.module_api.specs.Behaviour.{Behaviour}
 use Rattle.model_questions.specs.declared.record.Record.{Record}

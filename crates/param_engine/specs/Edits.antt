@@ -19,8 +19,8 @@ module _ {K V F : Type 0} (rules : Rules K V F) (es : Entries K V) where
   abbrev pub IsSorted : Type 0
   IsSorted = IsInOrder rules.same asks_for (entry_keys es) []
 
--- Let each key that isn't marked as changed ask as before. What the pass keeps is right and closed under the new rules, and
--- each key that it gives up rests on a changed one.
+-- Let each key that isn't marked as changed ask as before. What the pass keeps is right and closed
+-- under the new rules, and each key that it gives up rests on a changed one.
 abbrev pub AfterEdit : {K V F : Type 0} → Rules K V F → Rules K V F → Entries K V → Type 0
 AfterEdit {K} before after es = (changed : K → Bool) → ((k : K) → changed k ≡ false → after.asking k ≡ before.asking k) →
     let keep : K → Bool = λ k. is_on before.same k (kept_keys before.same (asks_for before es) changed (entry_keys es) []) in

@@ -15,8 +15,8 @@ use Rattle.param_engine.specs.Working.{IsGoing, IsAnswered}
 abbrev pub room : {K V : Type 0} → Entries K V → List K → ℕ
 room es keys = 2 * (2 ^ 63 - length es) + (2 ^ 63 - length keys)
 
--- There is a key that is being evaluated, none of these has a value yet, and each evaluation that was begun was of one of
--- these or of one that has a value.
+-- There is a key that is being evaluated, none of these has a value yet, and each evaluation that
+-- was begun was of one of these or of one that has a value.
 pub record IsBusy {K V : Type 0} (same : K → K → Bool) (table : Known K V) (keys : List K) : Type 0 where
   pub some : 0 < length keys
   pub counted : table.begun ≤ length table.entries + length keys
@@ -28,7 +28,8 @@ IsLess before after (step.Goes turn) = after < before
 IsLess before after (step.Ended found) = Unit {0}
 
 module _ {K V F E : Type 0} (rules : Rules K V F) (resumed : E → V → Asking K V F V) where
-  -- a question about the key `asked` goes on by a table that began as `start`, and has come to this turn
+  -- a question about the key `asked` goes on by a table that began as `start`, and has come to this
+  -- turn
   abbrev pub IsGoingBy : Entries K V → K → Known K V → Going K E → Turn K V F → Type 0
   IsGoingBy start asked table going turn = IsGoing rules resumed start asked table.entries table.begun going.keys.keys going.waiting
       going.current.asked (came_to (resumed going.current.evaluation) turn)

@@ -38,8 +38,8 @@ IsHeldUp known (turn.Fault f) = Unit {0}
 abbrev pub Opened : Type 0 → Type 0 → Type 0
 Opened K E = K × Frame E
 
--- The keys that are being evaluated, the one asked first first, and how those that wait go on: k is the last, and the
--- others are those that wait, the last first.
+-- The keys that are being evaluated, the one asked first first, and how those that wait go on: k is
+-- the last, and the others are those that wait, the last first.
 abbrev pub Stand : {K E : Type 0} → List K → List (Frame E) → K → List (Opened K E) → Type 0
 Stand keys frames k [] = (keys ≡ k ∷ []) × (frames ≡ [])
 Stand {K} {E} keys frames k (o ∷ os) = (ks : List K) × (fs : List (Frame E)) × (keys ≡ ks ++ k ∷ []) × (frames ≡ fs ++ o.1 ∷ []) × Stand ks fs o.0 os
@@ -59,8 +59,9 @@ abbrev pub AreDistinct : {K : Type 0} → (K → K → Bool) → List K → Type
 AreDistinct same [] = Unit {0}
 AreDistinct same (k ∷ ks) = (is_on same k ks ≡ false) × AreDistinct same ks
 
--- The key `asked` is being evaluated over a table that began as `start`: now k, the last of the keys, whose asking has come
--- to t and asked for the keys at these places, and those that wait, each for the one after it.
+-- The key `asked` is being evaluated over a table that began as `start`: now k, the last of the
+-- keys, whose asking has come to t and asked for the keys at these places, and those that wait,
+-- each for the one after it.
 pub record IsGoingAt {K V F E : Type 0} (rules : Rules K V F) (resumed : E → V → Asking K V F V) (start : Entries K V) (asked : K)
     (es : Entries K V) (begun : ℕ) (keys : List K) (frames : List (Frame E)) (places : List ℕ) (t : Asking K V F V) (k : K) (os : List (Opened K E)) : Type 0 where
   pub stand : Stand keys frames k os
@@ -80,13 +81,15 @@ abbrev pub IsGoing : {K V F E : Type 0} → Rules K V F → (E → V → Asking 
 IsGoing {K} {V} {F} {E} rules resumed start asked es begun keys frames places t =
     (k : K) × (os : List (Opened K E)) × IsGoingAt rules resumed start asked es begun keys frames places t k os
 
--- Each evaluation was of another key: of one that was added to the table, or of one that has no value.
+-- Each evaluation was of another key: of one that was added to the table, or of one that has no
+-- value.
 abbrev pub AreBegunOnce : {K V F : Type 0} → Rules K V F → Entries K V → Entries K V → ℕ → Type 0
 AreBegunOnce {K} rules start es begun = (left : List K) × (begun + length start ≡ length es + length left) × AreDistinct rules.same left
     × ((s : K) → is_on rules.same s left ≡ true → known rules.same es s ≡ None)
 
--- What is answered to a question about a key, with a table that began as `start`: its value, which stands in the table, or
--- its fault. The table may be kept, and each key was evaluated once at most: where there is a value, those that were added.
+-- What is answered to a question about a key, with a table that began as `start`: its value, which
+-- stands in the table, or its fault. The table may be kept, and each key was evaluated once at
+-- most: where there is a value, those that were added.
 pub record IsAnswered {K V F : Type 0} (rules : Rules K V F) (start : Entries K V) (asked : K) (es : Entries K V) (begun : ℕ) (found : Result ℕ F) : Type 0 where
   pub value : found_in es found ≡ Some (value_of rules asked)
   pub kept : IsKept rules es

@@ -9,8 +9,8 @@ use sim_values::NoMemory;
 use std::alloc::Global;
 use std::hash::Hash;
 
-/// Who knows what each key asks, and evaluates one key at a time. What it evaluates stops where it needs the value of
-/// another key, and goes on when it is given that value.
+/// Who knows what each key asks, and evaluates one key at a time. What it evaluates stops where it
+/// needs the value of another key, and goes on when it is given that value.
 pub trait Asker {
     /// What has a value.
     type Key: Eq + Hash + Drop;

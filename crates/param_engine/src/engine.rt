@@ -1,5 +1,5 @@
-//! The value of a key, found by following references. What waits for a value lies on a list in memory, so no native
-//! recursion goes as deep as a chain of references.
+//! The value of a key, found by following references. What waits for a value lies on a list in
+//! memory, so no native recursion goes as deep as a chain of references.
 
 ghost use Rattle.std.specs.Prelude.{◌≡◌, ◌+◌, ◌<◌, ◌≤◌, ◌^◌, ◌++◌, ◌∷◌, [], None, Some, false, IfOk, OnOk, OnErr, length, zero};
 ghost use Rattle.std.specs.List.{list_any};
@@ -227,9 +227,9 @@ pub fn empty_table<A: Asker>(alloc: Global, _asker: &A) -> Table<A::Key, A::Valu
     Table::new(alloc)
 }
 
-/// The value of a key, as its place in the table, or its fault. The table, of which nothing is asked but that it knows
-/// values of this asker, has what it had, and after that the values that were found on the way; also after a fault, and
-/// after lack of memory.
+/// The value of a key, as its place in the table, or its fault. The table, of which nothing is
+/// asked but that it knows values of this asker, has what it had, and after that the values that
+/// were found on the way; also after a fault, and after lack of memory.
 pub fn value_of<A: Asker>(
     alloc: Global,
     asker: &A,

@@ -16,8 +16,9 @@ pub fn kept_is_sorted<K, V, F>()
     ensures { (rules : Rules K V F) (es : Entries K V) → IsExact rules → IsKept rules es → IsSorted rules es }
 {}
 
-/// After an edit one pass over such a table, from its front to its end, chooses what to keep: it is right in the new
-/// model and rests on kept values alone, and each key that it gives up rests on a changed one.
+/// After an edit one pass over such a table, from its front to its end, chooses what to keep: it is
+/// right in the new model and rests on kept values alone, and each key that it gives up rests on a
+/// changed one.
 pub fn after_edit<K, V, F>()
     ensures { (before after : Rules K V F) (es : Entries K V) → IsExact before → IsKept before es → AfterEdit before after es }
 {}

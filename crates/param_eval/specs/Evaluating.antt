@@ -1,4 +1,5 @@
--- An expression that is being evaluated: what is left to be done, as a list of tasks of which the last is the next.
+-- An expression that is being evaluated: what is left to be done, as a list of tasks of which the
+-- last is the next.
 use Rattle.std.specs.Prelude.{ℕ, ◌+◌, List, [], ◌∷◌, Ok, Err}
 use Rattle.param_following.specs.Asking.{Done, Ask, ◌>>=◌}
 use Rattle.sim_values.specs.declared.value.Value.{Value}

@@ -1,4 +1,5 @@
--- What operators make of values (the kinds of values that each takes are a rule of this project's own; what is no such kind is Mismatch).
+-- What operators make of values (the kinds of values that each takes are a rule of this project's
+-- own; what is no such kind is Mismatch).
 use Rattle.std.specs.Prelude.{ℕ, Bool, true, false, not, ◌&&◌, ◌||◌, ℤ, List, ◌++◌, Option, Some, None, Result, Ok, Err, if◌then◌else◌}
 use Rattle.std.specs.Cmp.Lexicographic.{slice_cmp}
 use Rattle.std.specs.Int.{w64, int_min, int_max, int_bit_and, int_bit_or, int_bit_xor}
@@ -105,7 +106,8 @@ applied o (value.Text a) (value.Text b) = of_texts o a b
 applied o (value.Truth a) (value.Truth b) = of_truths o a b
 applied _ _ _ = Err Mismatch
 
--- what the left side alone decides: of `&&` and `||` what is no truth value, and the one that the other side can't change
+-- what the left side alone decides: of `&&` and `||` what is no truth value, and the one that the
+-- other side can't change
 abbrev pub decided : Operator → Value → Option Evaluated
 decided op.And (value.Truth true) = None
 decided op.And (value.Truth false) = Some (truth false)

@@ -4,7 +4,8 @@ use Rattle.ned_trees.specs.declared.expressions.Scope.{Scope}
 use Rattle.param_eval.specs.declared.names.Name.{Name}
 use Rattle.param_eval.specs.declared.names.Name.TheVariants as name
 
--- what an expression asks the value of. The index of `sub[e].x` and of `exists(sub[e])` stands here as the number that it is
+-- what an expression asks the value of. The index of `sub[e].x` and of `exists(sub[e])` stands here
+-- as the number that it is
 pub data Reference : Type 0 where
   Own : List ℕ → Reference
   Scoped : Scope → List ℕ → Reference

@@ -1,4 +1,5 @@
--- The value of an expression: what it asks, and what it makes of the answers (OMNeT++ Simulation Manual, "NED Language", expressions).
+-- The value of an expression: what it asks, and what it makes of the answers (OMNeT++ Simulation
+-- Manual, "NED Language", expressions).
 use Rattle.std.specs.Prelude.{ℤ, true, false, Option, Some, None, Ok, Err}
 use Rattle.param_following.specs.Asking.{Asking, Done, Ask, ◌>>=◌}
 use Rattle.sim_values.specs.declared.value.Value.{Value}

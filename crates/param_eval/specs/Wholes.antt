@@ -1,4 +1,5 @@
--- Whole numbers. Each rule is one of whole numbers without bounds; what it gives is Overflow where it is outside -2^63 to 2^63 - 1.
+-- Whole numbers. Each rule is one of whole numbers without bounds; what it gives is Overflow where
+-- it is outside -2^63 to 2^63 - 1.
 use Rattle.std.specs.Prelude.{ℕ, zero, suc, ◌^◌, nat_lt, ℤ, pos, negsuc, ◌+ℤ◌, ◌-ℤ◌, ◌*ℤ◌, neg_ℤ, int_div, int_rem, Bool, true, false, ◌||◌, not, Result, Ok, Err, if◌then◌else◌}
 use Rattle.std.specs.Int.{int_pow}
 use Rattle.std.specs.Int.Signed.{shr_z}
@@ -31,7 +32,8 @@ product a b = bounded (a *ℤ b)
 abbrev pub quotient : ℤ → ℤ → Result ℤ Fault
 quotient a b = if is_zero b || not (is_zero (int_rem a b)) then Err Inexact else bounded (int_div a b)
 
--- what is left of the one number, with its sign, when the other is taken from it as often as it goes
+-- what is left of the one number, with its sign, when the other is taken from it as often as it
+-- goes
 abbrev pub remainder : ℤ → ℤ → Result ℤ Fault
 remainder a b = if is_zero b then Err Inexact else Ok (int_rem a b)
 

@@ -1,5 +1,6 @@
-//! An expression that is being evaluated. It stops where it needs the value of a reference, and goes on when it is given
-//! that value. What is still to be done lies on a list in memory, so no native recursion goes as deep as an expression.
+//! An expression that is being evaluated. It stops where it needs the value of a reference, and
+//! goes on when it is given that value. What is still to be done lies on a list in memory, so no
+//! native recursion goes as deep as an expression.
 
 ghost use Rattle.std.specs.Prelude.{◌≡◌, ℕ, ◌+◌, ◌<◌, ◌≤◌, IfOk};
 ghost use Rattle.param_eval.specs.Evaluating.{step_of, step_weight, valued_then, valued_with, done_after, task_weight, weight, weight_of, kept, ended, resumed, came_to, asks, left};

@@ -22,7 +22,8 @@ pub fn is_rounded_down()
     ensures { IsRoundedDown }
 {}
 
-/// The value of an expression is what its asking comes to where each reference has an answer: one is always there.
+/// The value of an expression is what its asking comes to where each reference has an answer: one
+/// is always there.
 pub fn is_outcome()
     ensures { IsOutcome }
 {}

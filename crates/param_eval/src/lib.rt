@@ -1,4 +1,5 @@
-//! Values of NED expressions: what operators make of values, and evaluations, which ask for what references mean.
+//! Values of NED expressions: what operators make of values, and evaluations, which ask for what
+//! references mean.
 #![tactic(auto)]
 
 pub mod evaluation;

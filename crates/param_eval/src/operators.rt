@@ -174,7 +174,8 @@ fn of_truths(operator: Operator, left: bool, right: bool) -> Result<Value, Fault
 
 /// What an operator makes of two values. `&&` and `||` take both here: see [`decided`].
 ///
-/// The fault is the first in this order: what is no kind of value for the operator is `Mismatch`, then as each rule has it.
+/// The fault is the first in this order: what is no kind of value for the operator is `Mismatch`,
+/// then as each rule has it.
 pub fn applied(
     alloc: Global,
     operator: Operator,

@@ -31,7 +31,8 @@ IsClosed {K} {V} rules known = (k : K) (v : V) → known k ≡ Some v → outcom
 abbrev pub kept_of : {K V : Type 0} → (K → Bool) → (K → Option V) → K → Option V
 kept_of keep known k = if keep k then known k else None
 
--- A choice of what to keep is sound where each key that is kept asks as before, and rests on kept keys alone.
+-- A choice of what to keep is sound where each key that is kept asks as before, and rests on kept
+-- keys alone.
 abbrev pub IsSound : {K V F : Type 0} → Rules K V F → Rules K V F → (K → Option V) → (K → Bool) → Type 0
 IsSound {K} {V} old new known keep = (k : K) (v : V) → keep k ≡ true → known k ≡ Some v →
     (new.asking k ≡ old.asking k) × AllKept keep (asked_by known (old.asking k))
@@ -46,7 +47,8 @@ abbrev pub IsAsked : {K : Type 0} → K → List K → Type 0
 IsAsked j [] = ⊥
 IsAsked j (k ∷ ks) = (j ≡ k) ⊎ IsAsked j ks
 
--- A key rests on a changed one: it is changed, or asked directly for one that rests on a changed one.
+-- A key rests on a changed one: it is changed, or asked directly for one that rests on a changed
+-- one.
 pub data RestsOnChanged {K : Type 0} (asked : K → List K) (changed : K → Bool) : K → Type 0 where
   itself : (k : K) → changed k ≡ true → RestsOnChanged asked changed k
   asks : (k j : K) → IsAsked j (asked k) → RestsOnChanged asked changed j → RestsOnChanged asked changed k
@@ -80,9 +82,9 @@ abbrev pub GivesUpOnlyAffected : {K : Type 0} → (K → K → Bool) → (K → 
 GivesUpOnlyAffected {K} same asked changed = (ks : List K) (k : K) → IsInOrder same asked ks [] → is_on same k ks ≡ true →
     is_on same k (kept_keys same asked changed ks []) ≡ false → RestsOnChanged asked changed k
 
--- AFTER AN EDIT: let the keys of a table stand in the order in which their values were found, and each key that isn't
--- marked as changed ask as before. What the pass keeps is right and closed in the new model, and each key that it gives
--- up rests on a changed one.
+-- AFTER AN EDIT: let the keys of a table stand in the order in which their values were found, and
+-- each key that isn't marked as changed ask as before. What the pass keeps is right and closed in
+-- the new model, and each key that it gives up rests on a changed one.
 abbrev pub EditKeeps : {K V F : Type 0} → Rules K V F → Rules K V F → Type 0
 EditKeeps {K} {V} old new = (n : ℕ) (known : K → Option V) (changed : K → Bool) (ks : List K) →
     let asked : K → List K = λ k. asked_by known (old.asking k) in

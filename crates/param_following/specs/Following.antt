@@ -13,9 +13,10 @@ pub record Rules (K V F : Type 0) : Type 0 where
   pub asking : K → Asking K V F V
   pub circle : F
 
--- THE VALUE OF A KEY, found by following references with the list of the keys that are being evaluated. A key that is
--- on it already is a circle. The number bounds the length of the list, so that the recursion ends; none where it is
--- reached. It decides nothing else: see `CountIsNoMatter` in Laws.
+-- THE VALUE OF A KEY, found by following references with the list of the keys that are being
+-- evaluated. A key that is on it already is a circle. The number bounds the length of the list, so
+-- that the recursion ends; none where it is reached. It decides nothing else: see `CountIsNoMatter`
+-- in Laws.
 abbrev pub value_within : {K V F : Type 0} → Rules K V F → ℕ → List K → K → Option (Result V F)
 value_within rules zero evaluated k = None
 value_within rules (suc n) evaluated k =

@@ -3,8 +3,8 @@ use Rattle.std.specs.Prelude.{ℕ, suc, ◌≡◌, ◌≤◌, ◌<◌, ◌⊎◌
 use Rattle.param_following.specs.Asking.{Asking, Done, Ask, ◌>>=◌, with_value, outcome}
 use Rattle.param_following.specs.Following.{Rules, is_on, value_within, followed}
 
--- IN TURN: of askings one after the other it doesn't matter how they are grouped, and what comes of the first decides what
--- comes of both.
+-- IN TURN: of askings one after the other it doesn't matter how they are grouped, and what comes of
+-- the first decides what comes of both.
 pub record IsInTurn (K V F R S T : Type 0) : Type 0 where
   pub grouped : (t : Asking K V F R) (f : R → Asking K V F S) (g : S → Asking K V F T) → t >>= f >>= g ≡ t >>= (λ r. f r >>= g)
   pub comes : (answers : K → Option (Result V F)) (t : Asking K V F R) (f : R → Asking K V F S)
@@ -21,8 +21,8 @@ module _ {K V F : Type 0} (rules : Rules K V F) where
   CountIsNoMatter = (m n : ℕ) (evaluated : List K) (k : K) (r : Result V F) → m ≤ n →
       value_within rules m evaluated k ≡ Some r → value_within rules n evaluated k ≡ Some r
 
-  -- NO CIRCLE: what following alone finds is the value, whatever keys are being evaluated, as long as following from
-  -- none of these comes to an end in so many steps
+  -- NO CIRCLE: what following alone finds is the value, whatever keys are being evaluated, as long
+  -- as following from none of these comes to an end in so many steps
   abbrev pub EndsWithoutCircle : Type 0
   EndsWithoutCircle = (n : ℕ) (evaluated : List K) (k : K) (r : Result V F) →
       ((s : K) → is_on rules.same s evaluated ≡ true → followed rules n s ≡ None) →
@@ -38,8 +38,8 @@ abbrev pub AsksOnly : {K V F R : Type 0} → (K → Type 0) → Asking K V F R �
 AsksOnly IsIn (Done r) = Unit {0}
 AsksOnly {K} {V} IsIn (Ask k rest) = IsIn k × ((v : V) → AsksOnly IsIn (rest v))
 
--- ENOUGH: of keys that ask for one another alone, and have different numbers below `bound`, there are no longer lists
--- without one that comes twice; so the bound of the definition is never reached
+-- ENOUGH: of keys that ask for one another alone, and have different numbers below `bound`, there
+-- are no longer lists without one that comes twice; so the bound of the definition is never reached
 abbrev pub IsEnough : {K V F : Type 0} → Rules K V F → (K → Type 0) → Type 0
 IsEnough {K} rules IsIn = (number : K → ℕ) (bound : ℕ) → ((k : K) → IsIn k → AsksOnly IsIn (rules.asking k)) →
     ((k : K) → IsIn k → number k < bound) → ((a b : K) → IsIn a → IsIn b → number a ≡ number b → rules.same a b ≡ true) →

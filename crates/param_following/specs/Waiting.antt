@@ -1,4 +1,5 @@
--- Keys that are being evaluated, each waiting for the value of the next, over a table of values that are known.
+-- Keys that are being evaluated, each waiting for the value of the next, over a table of values
+-- that are known.
 use Rattle.std.specs.Prelude.{ℕ, ◌≡◌, List, [], ◌∷◌, Result, Ok, Option, Some}
 use Rattle.param_following.specs.Asking.{Asking, Ask, outcome}
 use Rattle.param_following.specs.Following.{Rules, followed}

@@ -5,8 +5,8 @@ ghost use Rattle.param_following.specs.Edits.{EditKeeps};
 ghost use Rattle.param_following.specs.Following.{Rules};
 ghost use Rattle.param_following.specs.Laws.{IsInTurn, IsExact, CountIsNoMatter, EndsWithoutCircle, IsFollowedOrCircle, IsEnough};
 
-/// Of askings one after the other it doesn't matter how they are grouped; and what comes of the first
-/// decides what comes of both.
+/// Of askings one after the other it doesn't matter how they are grouped; and what comes of the
+/// first decides what comes of both.
 pub fn is_in_turn<K, V, F, R, S, T>()
     ensures { IsInTurn K V F R S T }
 {}
@@ -23,9 +23,9 @@ pub fn ends_without_circle<K, V, F>()
     ensures { (rules : Rules K V F) → IsExact rules → EndsWithoutCircle rules }
 {}
 
-/// Each value, and each fault but a circle, is what following references alone finds. So a circle is
-/// answered exactly where following comes to no end, unless something that is asked ends in that very
-/// fault.
+/// Each value, and each fault but a circle, is what following references alone finds. So a circle
+/// is answered exactly where following comes to no end, unless something that is asked ends in that
+/// very fault.
 pub fn is_followed_or_circle<K, V, F>()
     ensures { (rules : Rules K V F) → IsFollowedOrCircle rules }
 {}

@@ -1,4 +1,5 @@
--- Which values a parameter may have (OMNeT++ Simulation Manual, "Parameters"). The one numbers are whole; those with a unit are quantities.
+-- Which values a parameter may have (OMNeT++ Simulation Manual, "Parameters"). The one numbers are
+-- whole; those with a unit are quantities.
 use Rattle.std.specs.Prelude.{Bool, true, false, Some, None, Ok, Err, if◌then◌else◌}
 use Rattle.sim_values.specs.Dimensions.{same_dimension}
 use Rattle.sim_values.specs.declared.value.Dimension.{Dimension}
@@ -26,8 +27,8 @@ abbrev pub is_text : Value → Bool
 is_text (value.Text t) = true
 is_text _ = false
 
--- WHICH VALUES a parameter of a kind may have: a whole number, or with a unit a quantity of its dimension; `double` always
--- has a unit
+-- WHICH VALUES a parameter of a kind may have: a whole number, or with a unit a quantity of its
+-- dimension; `double` always has a unit
 abbrev pub is_of_kind : Kind → Value → Bool
 is_of_kind kind.Truth v = is_truth v
 is_of_kind kind.Text v = is_text v

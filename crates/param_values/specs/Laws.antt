@@ -1,4 +1,5 @@
--- What holds of values of parameters that refer to other parameters, and small settings whose values were worked out by hand.
+-- What holds of values of parameters that refer to other parameters, and small settings whose
+-- values were worked out by hand.
 use Rattle.std.specs.Prelude.{ℕ, suc, ◌≡◌, ◌<◌, ◌^◌, ℤ, pos, Bool, true, List, Option, Some, None, Ok, Err, codes, if◌then◌else◌}
 use Rattle.param_following.specs.Asking.{Done, Ask}
 use Rattle.sim_values.specs.declared.value.Value.{Value}
@@ -34,8 +35,9 @@ AsksAmong values among (Ask k rest) = (among k ≡ true) × where_ok (values k) 
 abbrev pub IsSelfContained : Setting → (Key → Bool) → Type 0
 IsSelfContained s among = (k : Key) → among k ≡ true → AsksAmong (value_at s) among (asking_of s k)
 
--- ALIKE: what a parameter asks is decided by how it is declared and what the ini text says for it. Where two models agree on what each of these
--- parameters asks, and with the values of the one these ask for one another alone, they give them the same values and faults.
+-- ALIKE: what a parameter asks is decided by how it is declared and what the ini text says for it.
+-- Where two models agree on what each of these parameters asks, and with the values of the one
+-- these ask for one another alone, they give them the same values and faults.
 pub record AlikeIsTheSame : Type 0 where
   pub alike : (s t : Setting) (k : Key) → s.declared k ≡ t.declared k → s.entry k ≡ t.entry k → asking_of s k ≡ asking_of t k
   pub same : (s t : Setting) (among : Key → Bool) → IsSelfContained s among → ((k : Key) → among k ≡ true → asking_of s k ≡ asking_of t k)
@@ -62,7 +64,8 @@ default s e = Default (record { section = s; expression = e })
 abbrev pub own : List ℕ → Expression
 own name = expression.Scoped scope.This name
 
--- CHAINS: let x0 be `this.x1`, x1 be `this.x2` and so on, and xn be a number: x0 is that number, however long the chain is
+-- CHAINS: let x0 be `this.x1`, x1 be `this.x2` and so on, and xn be a number: x0 is that number,
+-- however long the chain is
 abbrev pub IsChained : Type 0
 IsChained = (s : Setting) (id parent n : ℕ) (name : ℕ → List ℕ) (z : ℤ) → n < 2 ^ 64 →
     ((i : ℕ) → i < n → s.declared (key_of id (name i)) ≡ Some (whole parent (fixed section.OfType (own (name (suc i)))))) →
@@ -106,7 +109,8 @@ default_four = tick (parameter 2 (codes "count") (whole 1 (default section.OfBod
 abbrev pub default_kept : Setting
 default_kept = tick (parameter 2 (codes "count") (whole 1 (default section.OfBody (number 4))) no_parameter) (Some entry.Default)
 
--- `t: Tick { count = late; late = 3; }` in a network with `late = 5`: in a body a bare name is the network's
+-- `t: Tick { count = late; late = 3; }` in a network with `late = 5`: in a body a bare name is the
+-- network's
 abbrev pub lates : Given → Option EntryValue → Setting
 lates g found = tick (parameter 2 (codes "count") (whole 1 g) (parameter 2 (codes "late") (whole 1 (fixed section.OfBody (number 3))) (parameter 1 (codes "late") (whole 0 (fixed section.OfType (number 5))) no_parameter))) found
 

@@ -7,7 +7,8 @@ use Rattle.param_values.specs.declared.place.Place.{Place}
 use Rattle.param_values.specs.declared.scene.Section.{Section}
 use Rattle.param_values.specs.declared.scene.Section.TheVariants as section
 
--- whose parameter a bare name is: in a section of the type the module's own, in a submodule's body that of the enclosing module
+-- whose parameter a bare name is: in a section of the type the module's own, in a submodule's body
+-- that of the enclosing module
 abbrev pub named_in : Section → ℕ → ℕ → ℕ
 named_in section.OfType parent id = id
 named_in section.OfBody parent id = parent
@@ -15,8 +16,8 @@ named_in section.OfBody parent id = parent
 abbrev pub key_of : ℕ → List ℕ → Key
 key_of id name = record { id = id; name = name }
 
--- WHICH PARAMETER A REFERENCE MEANS in an expression that stands there. Submodules, gates, vectors and conditions are not there yet: no
--- parameter is meant by what refers to one
+-- WHICH PARAMETER A REFERENCE MEANS in an expression that stands there. Submodules, gates, vectors
+-- and conditions are not there yet: no parameter is meant by what refers to one
 abbrev pub meant : Place → Reference → Option Key
 meant p (Own x) = Some (key_of (named_in p.section p.parent p.id) x)
 meant p (Scoped scope.This x) = Some (key_of p.id x)

@@ -1,5 +1,5 @@
--- Values of parameters whose expressions refer to other parameters: what the value of each rests on. The values by that are those of `param_following`,
--- which finds circles.
+-- Values of parameters whose expressions refer to other parameters: what the value of each rests
+-- on. The values by that are those of `param_following`, which finds circles.
 use Rattle.std.specs.Prelude.{ℕ, ◌==◌, Bool, ◌&&◌, bytes_eq, Option, Some, None, Err}
 use Rattle.param_following.specs.Asking.{Asking, Done, Ask, ◌>>=◌}
 use Rattle.param_following.specs.Following.{Rules, value_of}
@@ -43,8 +43,8 @@ referring_to kind place t = referring (meant place) t >>= λ v. Done (of_kind ki
 abbrev pub of_entry : Expression → Written
 of_entry e = record { section = section.OfType; expression = e }
 
--- WHAT GIVES A PARAMETER ITS VALUE, the first that exists of: the fixed value; the expression of the first matching entry, where `default`
--- means the next case; the default
+-- WHAT GIVES A PARAMETER ITS VALUE, the first that exists of: the fixed value; the expression of
+-- the first matching entry, where `default` means the next case; the default
 abbrev pub first_given : Option Given → Option EntryValue → Option Written
 first_given (Some (Fixed w)) found = Some w
 first_given (Some (Default w)) (Some (entry.Given e)) = Some (of_entry e)
@@ -96,7 +96,8 @@ abbrev pub kept_literal : Kind → Option Value → Option Evaluated
 kept_literal kind None = None
 kept_literal kind (Some v) = Some (of_kind kind v)
 
--- what a literal comes to that gives a parameter its value, where one does: the parameter is declared so, and this is its entry
+-- what a literal comes to that gives a parameter its value, where one does: the parameter is
+-- declared so, and this is its entry
 abbrev pub literal_value : Declared → Option EntryValue → Option Evaluated
 literal_value d found = kept_literal d.kind (literal_of (first_given d.given found))
 
@@ -108,7 +109,7 @@ abbrev pub found_by : Setting → Key → Option Declared → Evaluated
 found_by s k None = Err Unassigned
 found_by s k (Some d) = found_or (literal_value d (s.entry k)) (value_at s k)
 
--- the value of a parameter, where a literal is its own value and only what is no literal is followed. The laws say that this is its value
--- (`IsFollowed`)
+-- the value of a parameter, where a literal is its own value and only what is no literal is
+-- followed. The laws say that this is its value (`IsFollowed`)
 abbrev pub found_at : Setting → Key → Evaluated
 found_at s k = found_by s k (s.declared k)

@@ -6,7 +6,8 @@ ghost use Rattle.param_values.specs.Kinds as kinds;
 use param_eval::fault::Fault;
 use sim_values::value::{Dimension, Value};
 
-/// Of what kind the values of a parameter are, as it is declared; of a number with the dimension of its unit.
+/// Of what kind the values of a parameter are, as it is declared; of a number with the dimension of
+/// its unit.
 #[derive(Clone, Copy, PartialEq, Eq)]
 pub enum Kind {
     /// `bool`.

@@ -1,4 +1,5 @@
-//! What holds of the definitions themselves. The functions do nothing: their contracts are the laws.
+//! What holds of the definitions themselves. The functions do nothing: their contracts are the
+//! laws.
 
 ghost use Rattle.param_values.specs.Laws.{IsChained, IsFollowed, AreWorked, AlikeIsTheSame};
 

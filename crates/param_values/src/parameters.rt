@@ -45,7 +45,8 @@ pub enum Progress<'m> {
     Over,
 }
 
-/// What gives a parameter its value, of what the NED text gives it and what the ini text says for it.
+/// What gives a parameter its value, of what the NED text gives it and what the ini text says for
+/// it.
 pub(crate) fn chosen<'m>(
     given: Option<Given<'m>>,
     entry: Option<&'m EntryValue>,

@@ -29,9 +29,9 @@ pub fn empty_table<S: Scene>(alloc: Global, _scene: &S) -> Table<Key, Value>
     engine::empty_table(alloc, &Parameters { scene: _scene })
 }
 
-/// The value of a parameter, as its place in the table, or its fault. The table, of which nothing is asked but that it
-/// knows values of this model, has what it had, and after that the values that were found on the way; also after a
-/// fault, and after lack of memory.
+/// The value of a parameter, as its place in the table, or its fault. The table, of which nothing
+/// is asked but that it knows values of this model, has what it had, and after that the values that
+/// were found on the way; also after a fault, and after lack of memory.
 pub fn parameter_value<S: Scene>(
     alloc: Global,
     scene: &S,
@@ -64,8 +64,8 @@ fn literal_of<'m>(written: Option<Written<'m>>) -> Option<&'m Value>
     }
 }
 
-/// What a literal comes to that gives a parameter its value, where one does: the parameter is declared so, and this is what the
-/// ini text says for it.
+/// What a literal comes to that gives a parameter its value, where one does: the parameter is
+/// declared so, and this is what the ini text says for it.
 pub fn literal_value(
     alloc: Global,
     parameter: Parameter<'_>,
@@ -79,8 +79,8 @@ pub fn literal_value(
     }
 }
 
-/// A copy of the value of a parameter, or its fault. It is looked for in the table, and noted there with those that were found
-/// on the way.
+/// A copy of the value of a parameter, or its fault. It is looked for in the table, and noted there
+/// with those that were found on the way.
 pub fn copied_value<S: Scene>(
     alloc: Global,
     scene: &S,

@@ -62,7 +62,8 @@ values_in_turn : (p : Emission → Bool) (es : List Emission) → flat_map (λ (
 values_in_turn p [] = refl
 values_in_turn p (e ∷ es) = one_value (p e) e (filter p es) (flat_map (λ (f : Emission). if p f then f.value ∷ [] else []) es) (values_in_turn p es)
 
--- the values of the emissions of a vector's signal at the places for its module are those that it hears
+-- the values of the emissions of a vector's signal at the places for its module are those that it
+-- hears
 pub values_by_places : (records : List Record) (es : List Emission) (v : VectorLine) → flat_map (of_place (value_of v) es) (heard_places records v.id es) ≡ values_heard records es v
 values_by_places records es v =
     read_all (λ (e : Emission). is_within records v.id e.id) (value_of v) (λ (e : Emission). if hears records v e then e.value ∷ [] else [])

@@ -9,8 +9,8 @@ use Rattle.ned_trees.specs.declared.declarations.RecordedMode.{RecordedMode}
 abbrev pub same_mode : Mode → Mode → Bool
 same_mode = sameb mode_kind.the_type
 
--- a statistic with these modes is recorded in a mode that it names without a `?`; of one mode twice the first place
--- counts (OMNeT++ Simulation Manual, "Result Recording Modes")
+-- a statistic with these modes is recorded in a mode that it names without a `?`; of one mode twice
+-- the first place counts (OMNeT++ Simulation Manual, "Result Recording Modes")
 abbrev pub is_recorded : Mode → List RecordedMode → Bool
 is_recorded mode [] = false
 is_recorded mode (m ∷ ms) = if same_mode m.mode mode then not m.optional else is_recorded mode ms
@@ -46,7 +46,7 @@ modes_among modes others = filter (λ (m : Mode). is_among m others) modes
 abbrev pub modes_not_among : List Mode → List Mode → List Mode
 modes_not_among modes others = filter (λ (m : Mode). not (is_among m others)) modes
 
--- chosen modes in the order of their recording: first those that the statistic names, as it names them, then the others, as they
--- were added
+-- chosen modes in the order of their recording: first those that the statistic names, as it names
+-- them, then the others, as they were added
 abbrev pub in_order : List RecordedMode → List Mode → List Mode
 in_order modes chosen = modes_among (declared_modes modes) chosen ++ modes_not_among chosen (declared_modes modes)

@@ -73,7 +73,8 @@ noted place list = if is_place place (slice_get list (length list - 1)) then lis
 abbrev pub noted_if : Bool → ℕ → List ℕ → List ℕ
 noted_if is_meant place list = if is_meant then noted place list else list
 
--- the lists for ids below a number are the places of the elements that the test for their id lets pass
+-- the lists for ids below a number are the places of the elements that the test for their id lets
+-- pass
 abbrev pub AreOf : {A : Type 0} → ℕ → (ℕ → A → Bool) → List A → PlaceLists → Type 0
 AreOf count is_meant elements lists =
     (length lists ≡ count) × ((id : ℕ) → id < count → places_at lists id ≡ places_from 0 (is_meant id) elements)
@@ -95,7 +96,8 @@ is_number q ids = list_any (λ id. id == q) ids
 abbrev pub ids_at : List (Vec ℕ Global) → ℕ → List ℕ
 ids_at = places_at
 
--- the first so many lists have the ids of the wanted modules in whose subtree the module of their id stands
+-- the first so many lists have the ids of the wanted modules in whose subtree the module of their
+-- id stands
 abbrev pub AreHearers : List Bool → List Record → ℕ → List (Vec ℕ Global) → Type 0
 AreHearers wanted records count hearers =
     (length hearers ≡ count) × ((e : ℕ) → e < count → (q : ℕ) → is_number q (ids_at hearers e) ≡ (is_within records q e && is_wanted wanted q))

@@ -19,7 +19,8 @@ use Rattle.recorders.specs.Vectors.{vector_of}
 use Rattle.run_semantics.specs.declared.traces.Emission.{Emission}
 use Rattle.run_semantics.specs.declared.traces.Scalar.{Scalar}
 
--- a scalar of that name and value of the module of that path: a line, where the option lets it be recorded
+-- a scalar of that name and value of the module of that path: a line, where the option lets it be
+-- recorded
 abbrev pub line_of : List Entry → List ℕ → List ℕ → ℤ → List ScalarLine
 line_of entries path name value =
     if records_scalar_named entries path name then record { path = path; name = name; value = value } ∷ [] else []
@@ -45,7 +46,8 @@ mode_line entries path statistic values mode = line_of_value entries path (resul
 abbrev pub mode_lines : List Entry → List ℕ → List ℕ → List ℤ → List Mode → List ScalarLine
 mode_lines entries path statistic values modes = flat_map (mode_line entries path statistic values) modes
 
--- the lines of a statistic of the module of that id, one for each mode in which the options let it be recorded
+-- the lines of a statistic of the module of that id, one for each mode in which the options let it
+-- be recorded
 unfoldable pub statistic_lines : Model → List Record → List Emission → ℕ → Statistic → List ScalarLine
 statistic_lines m records emissions id s =
     mode_lines (entries_in m) (path_of records id) s.name (values_heard records emissions (vector_of records id s))
@@ -59,12 +61,14 @@ lines_among m records emissions id statistics = flat_map (statistic_lines m reco
 abbrev pub is_finished : List ℕ → ℕ → Bool
 is_finished finished id = list_any (λ f. f == id) finished
 
--- the lines of the statistics of the module of that id, in the order of its type's statistics: it has some only where it was finished
+-- the lines of the statistics of the module of that id, in the order of its type's statistics: it
+-- has some only where it was finished
 abbrev pub statistics_at : Model → List Record → List ℕ → List Emission → ℕ → List ScalarLine
 statistics_at m records finished emissions id =
     if is_finished finished id then lines_among m records emissions id (statistics_of (lines_of (type_at m records id))) else []
 
--- the lines of the module of that id: those of the scalars that it recorded, and after them those of its statistics
+-- the lines of the module of that id: those of the scalars that it recorded, and after them those
+-- of its statistics
 abbrev pub scalars_at : Model → List Record → List ℕ → List Scalar → List Emission → ℕ → List ScalarLine
 scalars_at m records finished recorded emissions id =
     recorded_lines m records id recorded ++ statistics_at m records finished emissions id
@@ -75,8 +79,8 @@ scalars_from m records finished recorded emissions id [] = []
 scalars_from m records finished recorded emissions id (r ∷ rs) =
     scalars_at m records finished recorded emissions id ++ scalars_from m records finished recorded emissions (id + 1) rs
 
--- THE SCALARS that a run records, with the modules of these records, of which these were finished, with what these modules recorded and these
--- emissions: by rising id of the module, first what it recorded, then, if it was finished, what the options let be recorded of its
--- statistics
+-- THE SCALARS that a run records, with the modules of these records, of which these were finished,
+-- with what these modules recorded and these emissions: by rising id of the module, first what it
+-- recorded, then, if it was finished, what the options let be recorded of its statistics
 abbrev pub scalars_of : Model → List Record → List ℕ → List Scalar → List Emission → List ScalarLine
 scalars_of m records finished recorded emissions = scalars_from m records finished recorded emissions 1 records

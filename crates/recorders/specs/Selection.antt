@@ -43,13 +43,13 @@ abbrev pub begins_signed : List ModeItem → Bool
 begins_signed [] = false
 begins_signed (i ∷ is) = is_signed i
 
--- the modes with which a list of items begins: those that the statistic names without a `?`, where the first item has a
--- sign, and none otherwise
+-- the modes with which a list of items begins: those that the statistic names without a `?`, where
+-- the first item has a sign, and none otherwise
 abbrev pub first_modes : List RecordedMode → List ModeItem → List Mode
 first_modes modes items = if begins_signed items then default_modes modes else []
 
--- THE MODES that the option `result-recording-modes` chooses for a statistic with these modes; without the option those that
--- it names without a `?`
+-- THE MODES that the option `result-recording-modes` chooses for a statistic with these modes;
+-- without the option those that it names without a `?`
 abbrev pub chosen_modes : List RecordedMode → Option ObjectOption → List Mode
 chosen_modes modes (Some (object.Modes items)) = after_items modes (first_modes modes items) items
 chosen_modes modes _ = default_modes modes
@@ -74,7 +74,8 @@ records_statistic entries path name = is_on (option_of entries path name (codes 
 abbrev pub modes_of : List Entry → List ℕ → Statistic → List Mode
 modes_of entries path s = recorded_modes s.modes (option_of entries path s.name (codes "result-recording-modes"))
 
--- THE MODES in which the options let a statistic of the module of that path be recorded, in their order
+-- THE MODES in which the options let a statistic of the module of that path be recorded, in their
+-- order
 unfoldable pub selected_modes : List Entry → List ℕ → Statistic → List Mode
 selected_modes entries path s = if records_statistic entries path s.name then modes_of entries path s else []
 
@@ -90,12 +91,13 @@ records_scalar_named entries path name = is_on (option_of entries path name (cod
 abbrev pub records_scalar_among : List Entry → List ℕ → List ℕ → List Mode → Bool
 records_scalar_among entries path name modes = list_any (λ mode. records_scalar_named entries path (result_name name mode)) modes
 
--- whether a statistic of the module of that path is recorded as a scalar in one of its modes, if it makes a value of its values
+-- whether a statistic of the module of that path is recorded as a scalar in one of its modes, if it
+-- makes a value of its values
 abbrev pub records_scalars : List Entry → List ℕ → Statistic → Bool
 records_scalars entries path s = records_scalar_among entries path s.name (selected_modes entries path s)
 
--- WHETHER THE VECTOR of a statistic of the module of that path is recorded: the mode `vector` is among those that are
--- selected, and the vector is
+-- WHETHER THE VECTOR of a statistic of the module of that path is recorded: the mode `vector` is
+-- among those that are selected, and the vector is
 abbrev pub records_vector : List Entry → List ℕ → Statistic → Bool
 records_vector entries path s =
     is_among mode.Vector (selected_modes entries path s)

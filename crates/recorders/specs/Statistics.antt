@@ -10,7 +10,8 @@ use Rattle.recorders.specs.declared.vector_line.VectorLine.{VectorLine}
 use Rattle.recorders.specs.Hearing.{hears}
 use Rattle.run_semantics.specs.declared.traces.Emission.{Emission}
 
--- THE VALUES that a statistic hears: those of all emissions of its signal in the subtree of its module, in their order
+-- THE VALUES that a statistic hears: those of all emissions of its signal in the subtree of its
+-- module, in their order
 abbrev pub values_heard : List Record → List Emission → VectorLine → List ℤ
 values_heard records emissions v = map (λ (e : Emission). e.value) (filter (hears records v) emissions)
 

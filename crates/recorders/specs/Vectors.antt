@@ -22,7 +22,8 @@ vector_of records id s = record { id = id; path = path_of records id; statistic 
 abbrev pub hears_any : List Record → List Emission → VectorLine → Bool
 hears_any records emissions v = list_any (λ e. hears records v e) emissions
 
--- whether a statistic of the module of that id has a vector that is recorded and has at least one value
+-- whether a statistic of the module of that id has a vector that is recorded and has at least one
+-- value
 abbrev pub has_vector : Model → List Record → List Emission → ℕ → Statistic → Bool
 has_vector m records emissions id s =
     records_vector (entries_in m) (path_of records id) s && hears_any records emissions (vector_of records id s)
@@ -43,7 +44,8 @@ vectors_from m records emissions id [] = []
 vectors_from m records emissions id (r ∷ rs) =
     vectors_at m records emissions id ++ vectors_from m records emissions (id + 1) rs
 
--- THE VECTORS that a run records, with the modules of these records and these emissions: all that the options let be
--- recorded and that hear at least one value, by rising id of the module, then in the order of its type's statistics
+-- THE VECTORS that a run records, with the modules of these records and these emissions: all that
+-- the options let be recorded and that hear at least one value, by rising id of the module, then in
+-- the order of its type's statistics
 abbrev pub vectors_of : Model → List Record → List Emission → List VectorLine
 vectors_of m records emissions = vectors_from m records emissions 1 records

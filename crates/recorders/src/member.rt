@@ -23,7 +23,8 @@ pub(crate) struct Member<'r, 'a, 'm> {
     pub records: &'r [Record],
     /// What they emitted.
     pub emissions: &'r [Emission],
-    /// The places of those emissions that come from the subtree of this module, none where it is not wanted.
+    /// The places of those emissions that come from the subtree of this module, none where it is
+    /// not wanted.
     pub heard: &'r [usize],
     /// Its id.
     pub id: u32,

@@ -196,7 +196,8 @@ fn lists_heard(
     Ok(lists)
 }
 
-/// For each id of a wanted module the places of the emissions that come from its subtree; those of the others are left out.
+/// For each id of a wanted module the places of the emissions that come from its subtree; those of
+/// the others are left out.
 pub fn heard_lists(
     alloc: Global,
     wanted: &[bool],

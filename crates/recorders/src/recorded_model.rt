@@ -18,7 +18,8 @@ use sim_values::NoMemory;
 use std::alloc::Global;
 use std::marker;
 
-/// The model of a run, with whether its ini text has any per-object option: where it has none, none is looked for. Contracts see the model.
+/// The model of a run, with whether its ini text has any per-object option: where it has none, none
+/// is looked for. Contracts see the model.
 #[derive(Drop)]
 pub struct RecordedModel<'r, 'm> {
     answers: &'r PlainAnswers<'m>,

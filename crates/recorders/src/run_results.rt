@@ -29,7 +29,8 @@ fn are_same(one: &[bool], other: &[bool]) -> bool
 }
 
 #[tactic(auto, using(crate::proofs::Unwanted::heard_of_same))]
-/// The vectors that a run records. Where the modules that are wanted for them are those that are wanted for its scalars, what each hears is known.
+/// The vectors that a run records. Where the modules that are wanted for them are those that are
+/// wanted for its scalars, what each hears is known.
 fn vectors_beside(
     alloc: Global,
     model: &RecordedModel<'_, '_>,
@@ -57,7 +58,8 @@ fn vectors_beside(
     )
 }
 
-/// The scalars and the vectors that a run records, with the modules of these records, of which these were finished, with what the modules recorded and these emissions.
+/// The scalars and the vectors that a run records, with the modules of these records, of which
+/// these were finished, with what the modules recorded and these emissions.
 pub fn results(
     alloc: Global,
     answers: &PlainAnswers<'_>,

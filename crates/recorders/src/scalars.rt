@@ -209,8 +209,8 @@ fn push_type_lines(
     push_statistics(found, alloc, member, statistics.as_slice())
 }
 
-/// Adds the lines of the statistics of the module, where it was finished, which is where there is a place at which it
-/// was, and is wanted: it has none else.
+/// Adds the lines of the statistics of the module, where it was finished, which is where there is a
+/// place at which it was, and is wanted: it has none else.
 fn push_statistics_at(
     found: &mut Items<ScalarLine>,
     alloc: Global,

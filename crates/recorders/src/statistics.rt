@@ -121,9 +121,9 @@ fn widened(value: Option<i64>) -> Option<i128>
     }
 }
 
-/// The scalar that a mode makes of these values, none for a vector. Of no values the count and the sum are 0, and
-/// there is no least, no greatest and no last.
-/// See OMNeT++ Simulation Manual, "Result Recording Modes".
+/// The scalar that a mode makes of these values, none for a vector. Of no values the count and the
+/// sum are 0, and there is no least, no greatest and no last. See OMNeT++ Simulation Manual,
+/// "Result Recording Modes".
 pub fn value_in(mode: Mode, values: &[i64]) -> Option<i128>
     ensures { result ≡ value_in mode values.now }
 {

@@ -120,9 +120,9 @@ fn push_wanted_vectors(
 }
 
 /// The vectors that a run records, with the modules of these records and these emissions: all that
-/// the options let be recorded and that hear at least one value, by rising id of the module, then in the order of its type's statistics.
-/// These modules are wanted, and these are the places of what each of them hears.
-/// See OMNeT++ Simulation Manual, "Result Recording".
+/// the options let be recorded and that hear at least one value, by rising id of the module, then
+/// in the order of its type's statistics. These modules are wanted, and these are the places of
+/// what each of them hears. See OMNeT++ Simulation Manual, "Result Recording".
 pub(crate) fn vectors<'r>(
     alloc: Global,
     model: &'r RecordedModel<'_, '_>,

@@ -11,8 +11,9 @@ use Rattle.result_lines.specs.VectorText.{vector_text}
 use Rattle.run_semantics.specs.declared.traces.Emission.{Emission}
 use Rattle.run_semantics.specs.declared.traces.Scalar.{Scalar}
 
--- what is known of the result files of a run of that model before they are written: by the records of its modules, the ids of those that
--- were finished, the scalars that were recorded, and the emissions
+-- what is known of the result files of a run of that model before they are written: by the records
+-- of its modules, the ids of those that were finished, the scalars that were recorded, and the
+-- emissions
 abbrev pub files_of : Model → List Record → List ℕ → List Scalar → List Emission → ResultFiles
 files_of m records finished recorded emissions = record {
   header = header_of m;

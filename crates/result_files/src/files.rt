@@ -43,8 +43,9 @@ impl Drop for ResultFiles {
     }
 }
 
-/// Gathers what the result files need, so that they are written without memory: of a run with the modules of these records, of
-/// which those with these ids were finished, with the scalars that they recorded, and with these emissions.
+/// Gathers what the result files need, so that they are written without memory: of a run with the
+/// modules of these records, of which those with these ids were finished, with the scalars that
+/// they recorded, and with these emissions.
 pub fn prepare(
     alloc: Global,
     model: &EvaluatedModel,
@@ -77,9 +78,9 @@ fn answer_of(progress: Progress) -> Result<(), Device>
     }
 }
 
-/// Writes the scalar file of a run, which takes no memory. Where the device fails or takes nothing, no more is written, and
-/// the error tells how many bytes of the text it took.
-/// See OMNeT++ Simulation Manual, "Native Result Files".
+/// Writes the scalar file of a run, which takes no memory. Where the device fails or takes nothing,
+/// no more is written, and the error tells how many bytes of the text it took. See OMNeT++
+/// Simulation Manual, "Native Result Files".
 pub fn write_scalars<O: Out>(out: &mut O, files: &ResultFiles) -> Result<(), Device>
     ensures { IsWritten (O.taken out.old) (O.taken out.new)
         (scalar_text files.now.header files.now.scalars) result }

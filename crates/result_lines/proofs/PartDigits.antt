@@ -1,4 +1,5 @@
--- The digits of a part of a second up to the last that is not zero, and the number that has a one before them.
+-- The digits of a part of a second up to the last that is not zero, and the number that has a one
+-- before them.
 use Rattle.std.proofs.Common.{◌≡◌, ◌≢◌, ℕ, zero, suc, ◌+◌, ◌*◌, ◌/◌, ◌%◌, ◌^◌, ◌<◌, List, [], ◌∷◌, ◌++◌, length, drop, set, refl, sym, ap, ◌∙◌, arith, append_assoc}
 use Rattle.std.proofs.Math.Nat.{pow-succ', div-div-eq-div-mul}
 use Rattle.std.proofs.lemmas.Bool.{ne_eqb}

@@ -11,7 +11,8 @@ use Rattle.module_api.specs.Names.{is_plain, is_quoting}
 abbrev pub escaped : ℕ → List ℕ
 escaped c = if is_quoting c then 92 ∷ c ∷ [] else c ∷ []
 
--- a value in a result file: as it is where all its bytes are plain, else between `"`, with `\` before each `"` and `\`
+-- a value in a result file: as it is where all its bytes are plain, else between `"`, with `\`
+-- before each `"` and `\`
 abbrev pub value_text : List ℕ → List ℕ
 value_text value = if list_all is_plain value then value else 34 ∷ (flat_map escaped value ++ 34 ∷ [])
 
@@ -19,7 +20,8 @@ value_text value = if list_all is_plain value then value else 34 ∷ (flat_map e
 unfoldable pub item_line : List ℕ → List ℕ → List ℕ → List ℕ
 item_line word key value = word ++ 32 ∷ (key ++ 32 ∷ (value_text value ++ 10 ∷ []))
 
--- the line of an entry, but for one that says what is extended: the entries of a base stand there themselves
+-- the line of an entry, but for one that says what is extended: the entries of a base stand there
+-- themselves
 abbrev pub config_line : Entry → List ℕ
 config_line e = if is_extends e.meaning then [] else item_line (codes "config") e.key e.value
 

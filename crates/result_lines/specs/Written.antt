@@ -6,9 +6,9 @@ use Rattle.result_lines.specs.declared.progress.Progress.TheVariants.{Whole, Sho
 use Rattle.sim_values.specs.Counts.{next_count}
 use Rattle.result_lines.specs.Taken.{Taken}
 
--- What a call that writes a text may answer, by what the device had taken before it and has taken after it: all of the text
--- was written, and the device did not fail; or the device failed once, and took as many of the text's first bytes as the
--- answer says, and not all of them.
+-- What a call that writes a text may answer, by what the device had taken before it and has taken
+-- after it: all of the text was written, and the device did not fail; or the device failed once,
+-- and took as many of the text's first bytes as the answer says, and not all of them.
 abbrev pub IsWritten : Taken → Taken → List ℕ → Result Unit Device → Type 0
 IsWritten before after text (Ok _) = (after.bytes ≡ before.bytes ++ text) × (after.failures ≡ before.failures)
 IsWritten before after text (Err device) =
@@ -23,8 +23,8 @@ abbrev pub written_in : Progress → ℕ
 written_in (Whole n) = n
 written_in (Short n) = n
 
--- A piece of a text is written: all of it, or the device failed once and took some of its first bytes, and not all.
--- After a failure no more is written.
+-- A piece of a text is written: all of it, or the device failed once and took some of its first
+-- bytes, and not all. After a failure no more is written.
 abbrev pub IsPiece : Progress → Taken → Progress → Taken → List ℕ → Type 0
 IsPiece (Whole n) before (Whole m) after piece =
     (m ≡ n + length piece) × (after.bytes ≡ before.bytes ++ piece) × (after.failures ≡ before.failures)

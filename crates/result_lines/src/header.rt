@@ -104,7 +104,8 @@ fn push_section(
     push_listed(header, lists[number].as_slice())
 }
 
-/// Adds the lines of all entries of the chain. The text is walked once, and not once for each section of the chain.
+/// Adds the lines of all entries of the chain. The text is walked once, and not once for each
+/// section of the chain.
 fn push_entries(
     alloc: Global,
     header: &mut Vec<u8>,
@@ -151,7 +152,8 @@ fn push_attributes(header: &mut Vec<u8>, config: &[u8], network: &[u8]) -> Resul
     push_item(header, b"attr", b"runnumber", b"0")
 }
 
-/// The header of the run with the number 0 of a configuration of that name, network, chain and lines.
+/// The header of the run with the number 0 of a configuration of that name, network, chain and
+/// lines.
 pub fn header_text(
     alloc: Global,
     config: &[u8],

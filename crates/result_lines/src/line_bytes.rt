@@ -1,5 +1,5 @@
-//! The bytes of a value's line, put together in place. They are written from the last to the first, so that each number
-//! is written where it stays.
+//! The bytes of a value's line, put together in place. They are written from the last to the first,
+//! so that each number is written where it stays.
 
 ghost use Rattle.std.specs.Prelude.{◌≡◌, ◌+◌, ◌^◌, ◌≤◌, ◌<◌, ◌∷◌, ◌++◌, length, drop};
 ghost use Rattle.std.specs.Fmt.{decimal, signed_decimal};
@@ -13,7 +13,8 @@ use sim_time::SimTime;
 
 const PS_PER_SECOND: u64 = 1_000_000_000_000;
 
-/// Room for the longest line: three numbers of up to 20 bytes, a time of up to 21, and a byte after each.
+/// Room for the longest line: three numbers of up to 20 bytes, a time of up to 21, and a byte after
+/// each.
 pub const MAX_LINE: usize = 96;
 
 /// Writes a byte before that place, and answers where it stands.
@@ -37,7 +38,8 @@ fn number_before(line: &mut [u8], end: usize, number: u64, mark: u8) -> usize
     write_digits(number, line, at)
 }
 
-/// Writes a number that may be negative and the byte that ends it before that place, and answers where they begin.
+/// Writes a number that may be negative and the byte that ends it before that place, and answers
+/// where they begin.
 fn signed_before(line: &mut [u8], end: usize, number: i64, mark: u8) -> usize
     requires { (21 ≤ end) × (end ≤ length line.old) }
     ensures within { result ≤ end }
@@ -52,7 +54,8 @@ fn signed_before(line: &mut [u8], end: usize, number: i64, mark: u8) -> usize
     byte_before(line, start, b'-')
 }
 
-/// The number that has a one, and after it the digits of a part of a second, in picoseconds, up to the last that is not zero.
+/// The number that has a one, and after it the digits of a part of a second, in picoseconds, up to
+/// the last that is not zero.
 fn part_digits(part: u64) -> u64
     requires { (0 < part) × (part < 10 ^ 12) }
     ensures short { result < 10 ^ 13 }
@@ -65,8 +68,9 @@ fn part_digits(part: u64) -> u64
     digits
 }
 
-/// Writes a point and a part of a second, in picoseconds, before that place, nothing where it is zero, and answers where
-/// that begins. The digits are written as one number with a one before them, in whose place the point then stands.
+/// Writes a point and a part of a second, in picoseconds, before that place, nothing where it is
+/// zero, and answers where that begins. The digits are written as one number with a one before
+/// them, in whose place the point then stands.
 fn part_before(line: &mut [u8], end: usize, part: u64) -> usize
     requires { (part < 10 ^ 12) × (13 ≤ end) × (end ≤ length line.old) }
     ensures within { result ≤ end }
@@ -81,7 +85,8 @@ fn part_before(line: &mut [u8], end: usize, part: u64) -> usize
     start
 }
 
-/// Writes a time in seconds and the byte that ends it before that place, and answers where they begin.
+/// Writes a time in seconds and the byte that ends it before that place, and answers where they
+/// begin.
 fn time_before(line: &mut [u8], end: usize, time: SimTime, mark: u8) -> usize
     requires { (22 ≤ end) × (end ≤ length line.old) }
     ensures within { result ≤ end }
@@ -94,7 +99,8 @@ fn time_before(line: &mut [u8], end: usize, time: SimTime, mark: u8) -> usize
     write_digits(ps / PS_PER_SECOND, line, at)
 }
 
-/// Writes the line of a value in the vector of that number at the end of the room for it, and answers where it begins.
+/// Writes the line of a value in the vector of that number at the end of the room for it, and
+/// answers where it begins.
 pub fn data_line_start(line: &mut [u8; MAX_LINE], number: u64, emission: &Emission) -> usize
     ensures within { result ≤ 96 }
     ensures written { drop result line.new ≡ data_line number emission.now }

@@ -71,7 +71,8 @@ pub fn put_vector_lines<O: Out>(out: &mut O, progress: Progress, vectors: &[Vect
     progress
 }
 
-/// Writes the line of a value in the vector of that number. It is put together in place, and given to the device at once.
+/// Writes the line of a value in the vector of that number. It is put together in place, and given
+/// to the device at once.
 fn put_data_line<O: Out>(
     out: &mut O,
     progress: Progress,
@@ -107,7 +108,8 @@ fn put_heard_line<O: Out>(
     }
 }
 
-/// Writes the lines of a value, one for each vector that hears it, which is looked for among all vectors.
+/// Writes the lines of a value, one for each vector that hears it, which is looked for among all
+/// vectors.
 fn put_heard_lines<O: Out>(
     out: &mut O,
     progress: Progress,
@@ -126,8 +128,8 @@ fn put_heard_lines<O: Out>(
     progress
 }
 
-/// Writes the lines of a value, one for each vector that hears it, where the vectors stand by rising id of the module: those
-/// of modules that aren't around the emitter are passed over.
+/// Writes the lines of a value, one for each vector that hears it, where the vectors stand by
+/// rising id of the module: those of modules that aren't around the emitter are passed over.
 fn put_lines_around<O: Out>(
     out: &mut O,
     progress: Progress,
@@ -175,8 +177,9 @@ fn put_value<O: Out>(
     }
 }
 
-/// Writes the lines of all values, in the order of their emission. Where the vectors stand by rising id of the module, which
-/// is tested once, the time is in proportion to the emissions and not to emissions times vectors.
+/// Writes the lines of all values, in the order of their emission. Where the vectors stand by
+/// rising id of the module, which is tested once, the time is in proportion to the emissions and
+/// not to emissions times vectors.
 pub fn put_data_lines<O: Out>(
     out: &mut O,
     progress: Progress,

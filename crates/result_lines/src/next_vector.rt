@@ -22,7 +22,8 @@ fn least_from(from: u32, id: u32, other: Option<u32>) -> Option<u32>
     }
 }
 
-/// The least id, from that number on, of the emitter and the modules around it; at most so many modules are looked at.
+/// The least id, from that number on, of the emitter and the modules around it; at most so many
+/// modules are looked at.
 fn next_around_up(depth: u32, records: &[Record], from: u32, emitter: u32) -> Option<u32>
     ensures { IsLeastFrom from (λ id. is_within_up depth records.now id emitter) result }
 {

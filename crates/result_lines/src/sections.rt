@@ -78,7 +78,8 @@ fn add_entries<'a>(
     Ok(())
 }
 
-/// For each section the entries that stand in it, in the order of the lines. One walk over the text finds them for all sections.
+/// For each section the entries that stand in it, in the order of the lines. One walk over the text
+/// finds them for all sections.
 pub(crate) fn section_entries<'a>(
     alloc: Global,
     lines: &'a [IniLine],

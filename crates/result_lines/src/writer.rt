@@ -7,8 +7,8 @@ ghost use Rattle.result_lines.specs.Taken.{Taken};
 use std::alloc::AllocError;
 use std::io;
 
-/// A write that failed. Its field is private, so that it is made from what refused the bytes alone: a file or a stream
-/// that failed, or the allocator.
+/// A write that failed. Its field is private, so that it is made from what refused the bytes alone:
+/// a file or a stream that failed, or the allocator.
 #[derive(Clone, Copy, PartialEq, Eq)]
 pub struct WriteFault {
     seal: (),
@@ -28,8 +28,8 @@ impl From<io::Error> for WriteFault {
 
 /// What takes bytes.
 pub trait Out {
-    /// What it has taken: its bytes, and how many of its writes failed, or took none of some bytes. The count starts over after
-    /// the greatest number of 64 bits, so that a device can keep it.
+    /// What it has taken: its bytes, and how many of its writes failed, or took none of some bytes.
+    /// The count starts over after the greatest number of 64 bits, so that a device can keep it.
     ghost taken: { Self → Taken };
 
     /// Takes some of the bytes, from the first on, and answers how many.

@@ -25,8 +25,8 @@ impl ModelMarker for Brand {
     ghost answers = { unanswered };
 }
 
-/// Who answers for a model what a run asks of it. Its type says which answers these are, so they are the same as long as a run has it, whatever
-/// it keeps of them from one question to the next.
+/// Who answers for a model what a run asks of it. Its type says which answers these are, so they
+/// are the same as long as a run has it, whatever it keeps of them from one question to the next.
 pub trait Answers {
     /// What it answers.
     ghost answers: { run.Answers };

@@ -11,7 +11,8 @@ abbrev pub AreAskedOnce : List Asked → Type 0
 AreAskedOnce [] = Unit {0}
 AreAskedOnce (a ∷ rest) = (is_asked a.question rest ≡ false) × AreAskedOnce rest
 
--- These are the questions about modules among those that were asked: one is among them exactly where it was asked, and it was asked once.
+-- These are the questions about modules among those that were asked: one is among them exactly
+-- where it was asked, and it was asked once.
 pub record AreKeysOf (asked : List Asked) (keys : List Question) : Type 0 where
   pub found : (q : Question) → is_of_modules q ≡ true → list_any (same_question q) keys ≡ is_asked q asked
   pub once : AreAskedOnce asked

@@ -9,8 +9,8 @@ use sim_values::NoMemory;
 use std::alloc::Global;
 use std::marker::Model;
 
-/// Questions in the order in which they were asked, each with its event. What an event asks of its time takes one entry, so there are
-/// fewer entries than questions. Contracts see the questions.
+/// Questions in the order in which they were asked, each with its event. What an event asks of its
+/// time takes one entry, so there are fewer entries than questions. Contracts see the questions.
 #[derive(Drop)]
 pub struct AskedList {
     entries: Vec<Entry>,

@@ -11,9 +11,10 @@ use sim_values::NoMemory;
 use sqlite_items::Boxed;
 use std::alloc::Global;
 
-/// What is noted of one question, or of two, with the number of the event in which they were asked. Each event asks two things of
-/// its time, one right after the other: they take three words together, and no memory beside them. The priority stands before the
-/// other fields, since there it lies in one word with the tag.
+/// What is noted of one question, or of two, with the number of the event in which they were asked.
+/// Each event asks two things of its time, one right after the other: they take three words
+/// together, and no memory beside them. The priority stands before the other fields, since there it
+/// lies in one word with the tag.
 #[derive(Drop)]
 pub enum Entry {
     /// Whether an event at that time, in picoseconds, is later than the time limit allows.
@@ -27,8 +28,8 @@ pub enum Entry {
         event: u64,
         time: SimTime,
     },
-    /// Both: first which injection goes before an event that is due then, where none was delivered yet; then whether that time is
-    /// later than the time limit allows.
+    /// Both: first which injection goes before an event that is due then, where none was delivered
+    /// yet; then whether that time is later than the time limit allows.
     Both {
         priority: i16,
         event: u64,
@@ -58,7 +59,8 @@ impl Entry {
     }
 }
 
-/// The question which injection goes before an event that is due then, where none was delivered yet.
+/// The question which injection goes before an event that is due then, where none was delivered
+/// yet.
 pub fn first_injection(time: SimTime, priority: i16) -> Question
     ensures { result ≡ InjectionBefore (Some (record { time = time; priority = priority })) None }
 {
@@ -101,7 +103,8 @@ pub fn noted(alloc: Global, event: u64, question: Question) -> Result<Entry, NoM
     }
 }
 
-/// What is noted of the questions of an entry and of this one after them, where one entry stands for them all.
+/// What is noted of the questions of an entry and of this one after them, where one entry stands
+/// for them all.
 pub fn joined(last: &Entry, event: u64, question: &Question) -> Option<Entry>
     ensures { IfSome result (λ entry. asked_in entry ≡ asked_in last.now ++ record { event = event; question = question.now } ∷ []) }
 {
@@ -155,7 +158,8 @@ pub fn parted(entry: Entry) -> (Option<Entry>, Asked)
     }
 }
 
-/// The question of that event whether that time, in picoseconds, is later than the time limit allows.
+/// The question of that event whether that time, in picoseconds, is later than the time limit
+/// allows.
 fn of_limit(event: u64, time: u64) -> Asked
     ensures { result ≡ record { event = event; question = Question.BeyondLimit time } }
 {

@@ -1,4 +1,5 @@
-//! Parameters that modules have read, whose questions were asked, so that these are not looked for again.
+//! Parameters that modules have read, whose questions were asked, so that these are not looked for
+//! again.
 
 ghost use Rattle.std.specs.Prelude.{◌≡◌, ℕ, [], List, true};
 ghost use Rattle.std.specs.List.{list_any};
@@ -19,8 +20,9 @@ use std::alloc::Global;
 /// Of how many parameters of a module it is known: what is gone through for a read stays short.
 const MOST_KNOWN: usize = 16;
 
-/// The names of some parameters whose questions were asked, by the ids of their modules. It forgets what there is no room for, and costs time alone then. It holds
-/// names that are texts of their own, and no read of a reply: those may refer to words of the program.
+/// The names of some parameters whose questions were asked, by the ids of their modules. It forgets
+/// what there is no room for, and costs time alone then. It holds names that are texts of their
+/// own, and no read of a reply: those may refer to words of the program.
 #[derive(Drop)]
 pub struct KnownReads {
     lists: Tree<Items<Text>>,
@@ -36,8 +38,9 @@ impl KnownReads {
         }
     }
 
-    /// Whether it is known that the module of that id has read this. Then its question was asked. It is looked for at that place of what is known first, as
-    /// the replies of a module mostly read the same in one order.
+    /// Whether it is known that the module of that id has read this. Then its question was asked.
+    /// It is looked for at that place of what is known first, as the replies of a module mostly
+    /// read the same in one order.
     pub fn has(&self, id: u32, place: usize, read: &Read) -> bool
         ensures { (asked : List Asked) → AreKnown asked (reads_in self.now) → result ≡ true
             → is_asked (question_of id read.now) asked ≡ true }
@@ -59,7 +62,8 @@ impl KnownReads {
         }
     }
 
-    /// From now on it is known that the module of that id has read this, where it is a parameter and there is room and memory for it.
+    /// From now on it is known that the module of that id has read this, where it is a parameter
+    /// and there is room and memory for it.
     pub fn add(&mut self, alloc: Global, id: u32, read: &Read)
         ensures { (asked : List Asked) → AreKnown asked (reads_in self.old)
             → is_asked (question_of id read.now) asked ≡ true → AreKnown asked (reads_in self.new) }
@@ -69,7 +73,8 @@ impl KnownReads {
         }
     }
 
-    /// From now on it is known that the parameter of that name was asked of the module of that id, where there is room and memory for it.
+    /// From now on it is known that the parameter of that name was asked of the module of that id,
+    /// where there is room and memory for it.
     fn add_named(&mut self, alloc: Global, id: u32, name: &[u8])
         ensures { (asked : List Asked) → AreKnown asked (reads_in self.old)
             → is_asked (Param id name.now) asked ≡ true → AreKnown asked (reads_in self.new) }

@@ -13,8 +13,9 @@ use std::alloc::Global;
 use std::collections::HashSet;
 use std::marker::Model;
 
-/// The questions that were asked, each with its event. A question about modules stands in it once, with the first event that
-/// asked it; it is looked for in time that doesn't grow with their number. Contracts see the list.
+/// The questions that were asked, each with its event. A question about modules stands in it once,
+/// with the first event that asked it; it is looked for in time that doesn't grow with their
+/// number. Contracts see the list.
 pub struct QuestionLog {
     asked: AskedList,
     /// The questions about modules among them.
@@ -68,7 +69,8 @@ impl QuestionLog {
         self.asked.entries()
     }
 
-    /// Notes that a question about modules is asked in that event. One that was asked before is not noted again.
+    /// Notes that a question about modules is asked in that event. One that was asked before is not
+    /// noted again.
     pub fn note(&mut self, alloc: Global, event: u64, question: Question) -> Result<(), NoMemory>
         requires { is_of_modules question ≡ true }
         ensures ok { OnOk result (self.new ≡ noted event question self.old) }
@@ -103,7 +105,8 @@ impl QuestionLog {
         Ok(())
     }
 
-    /// Forgets the last questions, so that as many are left, the first ones. A log that has no more stays as it is.
+    /// Forgets the last questions, so that as many are left, the first ones. A log that has no more
+    /// stays as it is.
     pub fn cut(&mut self, left: usize)
         ensures { self.new ≡ take left self.old }
     {

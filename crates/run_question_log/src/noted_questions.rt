@@ -16,8 +16,9 @@ use sim_values::NoMemory;
 use std::alloc::Global;
 use std::marker::Model;
 
-/// The questions that were asked, each with its event, which contracts see as their list. Of some reads it knows besides that their questions are
-/// among them: such a read is neither made a question nor hashed again.
+/// The questions that were asked, each with its event, which contracts see as their list. Of some
+/// reads it knows besides that their questions are among them: such a read is neither made a
+/// question nor hashed again.
 pub struct NotedQuestions {
     log: QuestionLog,
     known: KnownReads,
@@ -67,7 +68,8 @@ impl NotedQuestions {
         self.log.entries()
     }
 
-    /// Notes that a question about modules is asked in that event. One that was asked before is not noted again.
+    /// Notes that a question about modules is asked in that event. One that was asked before is not
+    /// noted again.
     pub fn note(&mut self, alloc: Global, event: u64, question: Question) -> Result<(), NoMemory>
         requires { is_of_modules question ≡ true }
         ensures ok { OnOk result (self.new ≡ noted event question self.old) }
@@ -76,7 +78,8 @@ impl NotedQuestions {
         self.log.note(alloc, event, question)
     }
 
-    /// Notes that in that event the module of that id reads this, at that place of what its reply reads. What was asked before is not noted again.
+    /// Notes that in that event the module of that id reads this, at that place of what its reply
+    /// reads. What was asked before is not noted again.
     pub fn note_read(
         &mut self,
         alloc: Global,
@@ -110,7 +113,8 @@ impl NotedQuestions {
         self.log.note_time(alloc, event, question)
     }
 
-    /// Forgets the last questions, so that as many are left, the first ones. Of those that has no more it forgets none.
+    /// Forgets the last questions, so that as many are left, the first ones. Of those that has no
+    /// more it forgets none.
     pub fn cut(&mut self, left: usize)
         ensures { self.new ≡ take left self.old }
     {

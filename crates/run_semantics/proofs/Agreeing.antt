@@ -1,4 +1,5 @@
--- Two models agree on the first events of a run by its own questions exactly where they do by those of a longer run.
+-- Two models agree on the first events of a run by its own questions exactly where they do by those
+-- of a longer run.
 use Rattle.std.proofs.Common.{◌≡◌, ⊎_elim, ℕ, zero, suc, ◌≤◌, ◌<◌, List, [], ◌∷◌, ◌++◌, sym, ap, ◌∙◌, arith, subst, append-nil, append_assoc, eq-or-lt_of_le}
 use Rattle.module_api.specs.Behaviour.{Behaviour}
 use Rattle.model_questions.specs.declared.answer.Asked.{Asked}

@@ -1,4 +1,5 @@
--- The order of injections: none that is not delivered is due before the clock, and none before what comes next.
+-- The order of injections: none that is not delivered is due before the clock, and none before what
+-- comes next.
 use Rattle.std.proofs.Common.{◌≡◌, ◌⊎◌, inl, inr, ℕ, zero, suc, ◌≤◌, ◌==◌, nat_lt, int_lt, Bool, true, false, true≢false, List, [], ◌∷◌, Option, Some, None, length, refl, sym, ◌∙◌, arith, subst, if◌then◌else◌, ltb-true, eqb-true}
 use Rattle.std.proofs.lemmas.Bool.Decides.{nat_tests}
 use Rattle.model_questions.specs.declared.answer.Answer.TheVariants as answer
@@ -59,7 +60,8 @@ stays_time a b h = stays_by (due_before a.due b.due) (due_before b.due a.due) a 
 
 -- ---- injections that are left
 
--- of these injections none that is not delivered is due before that time, where this one was delivered last
+-- of these injections none that is not delivered is due before that time, where this one was
+-- delivered last
 abbrev pub IsAhead : ℕ → Option Turn → List Injection → Type 0
 IsAhead time last is = Each (λ i. is_undelivered last i ≡ true → time ≤ i.due.time) is
 
@@ -118,8 +120,9 @@ ahead_at_zero last (i ∷ is) = ((λ x. omega arith), ahead_at_zero last is)
 
 -- ---- what comes next
 
--- An event may come next, where the clock is at that time and these events are to come: it is not late, and neither the events that
--- are left nor the injections are due before it; it is one of the events to come, or none of them.
+-- An event may come next, where the clock is at that time and these events are to come: it is not
+-- late, and neither the events that are left nor the injections are due before it; it is one of the
+-- events to come, or none of them.
 pub record MayCome (m : Answers) (time : ℕ) (ps : List Pending) (u : World) (p : Pending) (rest : List Pending) : Type 0 where
   pub due : time ≤ p.time
   pub later : Each (λ g. p.time ≤ g.time) rest

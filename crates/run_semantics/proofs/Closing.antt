@@ -1,4 +1,5 @@
--- The end of a run asks nothing, creates no module, and counts no event; and of what it leaves nothing is undone.
+-- The end of a run asks nothing, creates no module, and counts no event; and of what it leaves
+-- nothing is undone.
 use Rattle.std.proofs.Common.{◌≡◌, ℕ, Bool, true, false, List, [], ◌∷◌, Option, Some, None, refl, ◌∙◌, length, nat_lt, if◌then◌else◌}
 use Rattle.module_api.specs.declared.reply.Action.{Action}
 use Rattle.module_api.specs.declared.reply.Action.TheVariants.{Emit, RecordScalar, Send, SendDelayed, SendDirect, ScheduleAt, ScheduleAfter, Cancel, Fail}

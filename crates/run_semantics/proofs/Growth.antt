@@ -60,7 +60,8 @@ abbrev pub PartsWithin : ℕ → List Part → Type 0
 PartsWithin n [] = Unit {0}
 PartsWithin n (p ∷ ps) = (p.id ≤ n) × PartsWithin n ps
 
--- modules and questions are of ids that were given, and each module was created after the one around it
+-- modules and questions are of ids that were given, and each module was created after the one
+-- around it
 pub record Fits (w : World) : Type 0 where
   pub nested : AreNested 0 w.records
   pub modules : AllWithin (length w.records) w.modules
@@ -111,8 +112,8 @@ found_within n id (x ∷ xs) i f e = by (x.id == id) refl (found_within n id xs 
 
 -- ---- growth
 
--- from the first world to the second, questions of the present event were asked, modules were created, and no event was
--- executed
+-- from the first world to the second, questions of the present event were asked, modules were
+-- created, and no event was executed
 pub record IsGrown (old new : World) : Type 0 where
   pub rest : List Asked
   pub joined : old.questions ++ rest ≡ new.questions

@@ -1,4 +1,5 @@
--- In the world beside what comes next all that is new is what was asked to know it, and which injection was delivered last.
+-- In the world beside what comes next all that is new is what was asked to know it, and which
+-- injection was delivered last.
 use Rattle.std.proofs.Common.{◌≡◌, ℕ, zero, suc, ◌+◌, List, [], ◌∷◌, ◌++◌, Option, Some, None, length, refl, sym, ap, arith, subst, append_assoc, append-nil}
 use Rattle.model_questions.specs.declared.answer.Answer.{Answer}
 use Rattle.model_questions.specs.declared.answer.Answer.TheVariants as answer
@@ -21,7 +22,8 @@ use Rattle.run_semantics.proofs.Growth.{AllOfEvent, AllAbout, AllOfEvent-append,
 abbrev pub looking : World → Option Turn → List Asked → World
 looking w last rest = record w { delivered = last; questions = w.questions ++ rest }
 
--- from the first world to the second: questions of the event after the first were asked, about no module, and injections delivered
+-- from the first world to the second: questions of the event after the first were asked, about no
+-- module, and injections delivered
 pub record HasLooked (w u : World) : Type 0 where
   pub last : Option Turn
   pub rest : List Asked
@@ -114,7 +116,8 @@ trying_looks : (w : World) (up : Upcoming) → HasLooked w (beside up) → HasLo
 trying_looks w (Comes u p rest) h = looked_asked w u (BeyondLimit p.time) refl h
 trying_looks w (Nothing u) h = h
 
--- what was asked up to an event that did not begin is what is noted, and then questions of that event, about no module
+-- what was asked up to an event that did not begin is what is noted, and then questions of that
+-- event, about no module
 pub record HasTried (w : World) (qs : List Asked) : Type 0 where
   pub rest : List Asked
   pub joined : w.questions ++ rest ≡ qs

@@ -1,5 +1,5 @@
--- In every world of a run the events to come are in order, none is late, each has a number of its own, and each is for a
--- module that stands; and what was emitted stands in the order of events.
+-- In every world of a run the events to come are in order, none is late, each has a number of its
+-- own, and each is for a module that stands; and what was emitted stands in the order of events.
 use Rattle.std.proofs.Common.{◌≡◌, ◌≢◌, ◌⊎◌, inl, inr, ℕ, zero, suc, ◌+◌, ◌≤◌, ◌<◌, ◌==◌, cond, Bool, true, false, List, [], ◌∷◌, ◌++◌, Option, Some, None, refl, sym, ap, ◌∙◌, arith, subst, append_assoc, append-nil, length, if◌then◌else◌, nat_lt, eqb-true, ℤ, ltb-false}
 use Rattle.sim_time.specs.Time.{time_sum}
 use Rattle.module_api.specs.Behaviour.{Behaviour, Replied}
@@ -466,7 +466,8 @@ follows_same m w f t = record {
   in_time = t;
 }
 
--- An event is one of those to come, which is taken out, or is none of them; and of those that are left none is due before it.
+-- An event is one of those to come, which is taken out, or is none of them; and of those that are
+-- left none is due before it.
 orderly_begun : (p : Pending) (rest : List Pending) (w : World) → (rest ≡ w.pending) ⊎ (w.pending ≡ p ∷ rest) → Each (λ g. p.time ≤ g.time) rest → IsOrderly w → IsOrderly (begun p rest w)
 orderly_begun p rest w (inl e) later f = record {
   order = subst AreInOrder (sym e) f.order;

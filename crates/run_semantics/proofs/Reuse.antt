@@ -1,5 +1,5 @@
--- A run takes nothing from its model but answers to the questions that it notes: models that answer them alike have the
--- same run.
+-- A run takes nothing from its model but answers to the questions that it notes: models that answer
+-- them alike have the same run.
 use Rattle.std.proofs.Common.{◌≡◌, ℕ, zero, suc, ◌+◌, ◌≤◌, ◌<◌, Bool, true, false, List, [], ◌∷◌, ◌++◌, ◌||◌, Option, Some, None, Result, Ok, Err, refl, sym, ap, ◌∙◌, arith, subst, append_assoc, append-nil, length, slice_get, if◌then◌else◌, nat_lt, ⊎_elim}
 use Rattle.std.proofs.Math.Nat.{eq-or-lt_of_le}
 use Rattle.module_api.specs.Behaviour.{Behaviour, Replied}
@@ -113,8 +113,8 @@ Agrees-before m n u w f g h = Agrees-grown m n u g.rest g.more w.records w.quest
 
 -- ---- parts of an event in two models
 
--- a part of an event, from that world on, in the first model and in the second: it only asks, and where the models agree
--- on all that was asked it is the same
+-- a part of an event, from that world on, in the first model and in the second: it only asks, and
+-- where the models agree on all that was asked it is the same
 pub record DoesSame (m n : Answers) (w : World) (f g : Flow) : Type 0 where
   pub grows : IsGrown w (in_flow f)
   pub same : AgreesIn m n (in_flow f) → f ≡ g
@@ -165,7 +165,8 @@ either_does : (m n : Answers) (w : World) (c : Bool) (f g h k : Flow) → DoesSa
 either_does m n w true f g h k d e = d
 either_does m n w false f g h k d e = e
 
--- A QUESTION, and what follows it: where that is the same for every answer, it is the same in models that answer alike
+-- A QUESTION, and what follows it: where that is the same for every answer, it is the same in
+-- models that answer alike
 asking_same : (m n : Answers) (q : Question) (next other : Answer → World → Flow) (w : World) → Fits w → about q ≤ length w.records → ((a : Answer) → Fits (asked q w) → DoesSame m n (asked q w) (next a (asked q w)) (other a (asked q w))) → DoesSame m n w (asking m q next w) (asking n q other w)
 asking_same m n q next other w f l h =
     let v : World = asked q w in
@@ -517,7 +518,8 @@ start_same b law m n h = ap settled ((begins_same b law m n).same (subst (Agrees
 
 -- ---- events
 
--- from the first world to the second one event was executed at most, the one of that number: its questions were asked
+-- from the first world to the second one event was executed at most, the one of that number: its
+-- questions were asked
 pub record IsLater (event : ℕ) (old new : World) : Type 0 where
   pub rest : List Asked
   pub joined : old.questions ++ rest ≡ new.questions
@@ -695,7 +697,8 @@ fits_after b m (suc n) = (next_later b m n (after b m n) (runs_on b m n) (fits_a
 pub after_later : (b : Behaviour) (m : Answers) (n : ℕ) → IsLater (suc n) (world_at (after b m n)) (world_at (after b m (suc n)))
 after_later b m n = next_later b m n (after b m n) (runs_on b m n) (fits_after b m n)
 
--- models that agree on all that was asked in the run of the first up to an event have the same run up to there
+-- models that agree on all that was asked in the run of the first up to an event have the same run
+-- up to there
 pub after_same : (b : Behaviour) → IsLawful b → (m n : Answers) (v : ℕ) → AgreesAt m n (after b m v) → after b m v ≡ after b n v
 after_same b law m n zero h = start_same b law m n h
 after_same b law m n (suc v) h =

@@ -34,8 +34,9 @@ stays_then P (On w) k h f = f w h
 stays_then P (Stopped w) k h f = h
 stays_then P (Broken w path e) k h f = h
 
--- A PROPERTY LASTS through a setup where it holds after each of its two steps too: a module that is there is asked about, and submodules of one that
--- is there are created, where they are not too many.
+-- A PROPERTY LASTS through a setup where it holds after each of its two steps too: a module that is
+-- there is asked about, and submodules of one that is there are created, where they are not too
+-- many.
 pub record IsLasting (P : World → Type 0) : Type 0 where
   pub asked : (id : ℕ) (w : World) → P w → id ≤ length w.records → P (asked (Build id) w)
   pub created : (parent : ℕ) (bs : List Built) (w : World) → P w → parent ≤ length w.records → slice_get bs (room_in w) ≡ None → P (with_submodules parent bs w)

@@ -23,8 +23,8 @@ questions_over m w Ended = w.questions
 questions_over m w EventLimit = w.questions
 questions_over m w (Fault event path f) = w.questions
 
--- ALL THAT A RUN HAS ASKED: what is noted; and where no event was left or the time limit ended it, what was asked for the event that did not
--- begin
+-- ALL THAT A RUN HAS ASKED: what is noted; and where no event was left or the time limit ended it,
+-- what was asked for the event that did not begin
 abbrev pub questions_of : Answers → Stage → List Asked
 questions_of m (Running w) = w.questions
 questions_of m (Over w outcome) = questions_over m w outcome
@@ -40,8 +40,8 @@ AgreesUpTo v m n records [] = Unit {0}
 AgreesUpTo v m n records (a ∷ rest) =
     (a.event ≤ v → answer_of m records a.question ≡ answer_of n records a.question) × AgreesUpTo v m n records rest
 
--- THE AGREEMENT of two models on a run of k events: the greatest event up to k such that all questions up to it have equal answers; none where
--- a question of event zero has not
+-- THE AGREEMENT of two models on a run of k events: the greatest event up to k such that all
+-- questions up to it have equal answers; none where a question of event zero has not
 abbrev pub IsAgreement : Answers → Answers → List Record → ℕ → List Asked → Option ℕ → Type 0
 IsAgreement m n records k asked None = AgreesUpTo 0 m n records asked → ⊥
 IsAgreement m n records k asked (Some v) =

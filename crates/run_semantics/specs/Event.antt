@@ -55,7 +55,8 @@ abbrev pub called : Behaviour → Answers → (Reply → World → Flow) → ℕ
 called b m follow id prompt w None = On w
 called b m follow id prompt w (Some i) = replied follow id ((b.naming i.kind).reply i.state (call_of m id prompt w)) w
 
--- a call of the module of that id, and what follows its reply; a call of what isn't there is passed over
+-- a call of the module of that id, and what follows its reply; a call of what isn't there is passed
+-- over
 abbrev pub calling : Behaviour → Answers → (Reply → World → Flow) → ℕ → Prompt → World → Flow
 calling b m follow id prompt w = called b m follow id prompt w (instance_in id w.modules)
 

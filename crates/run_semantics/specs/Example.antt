@@ -55,7 +55,8 @@ at_setup w = record w {
   questions = record { event = 0; question = Root } ∷ record { event = 0; question = Build 1 } ∷ record { event = 0; question = Build 2 } ∷ record { event = 0; question = Build 3 } ∷ [];
 }
 
--- Its setup; the order of its calls: N, a, x, y, b, z; and that of its end, where all were started: x, y, a, z, b, N.
+-- Its setup; the order of its calls: N, a, x, y, b, z; and that of its end, where all were started:
+-- x, y, a, z, b, N.
 pub record ExampleNests : Type 0 where
   pub setup : prepared nested ≡ On (at_setup empty)
   pub calls : outer_first nested_records (1 ∷ 2 ∷ 3 ∷ 4 ∷ 5 ∷ 6 ∷ []) 1 ≡ 1 ∷ 2 ∷ 4 ∷ 5 ∷ 3 ∷ 6 ∷ []

@@ -42,8 +42,9 @@ parts_standing w = filter (λ p. among p.id w.started && among p.id (live_of w))
 abbrev pub GoesOn : {X : Type 0} → List X → List X → Type 0
 GoesOn {X} xs ys = (more : List X) × (xs ++ more ≡ ys)
 
--- Nothing that happened is undone: from the first world to the second the clock, the count of events and the next
--- insertion number do not fall, and of records, the dead, emissions, scalars and questions all stay as they are, in their places.
+-- Nothing that happened is undone: from the first world to the second the clock, the count of
+-- events and the next insertion number do not fall, and of records, the dead, emissions, scalars
+-- and questions all stay as they are, in their places.
 pub record HasGrown (old new : World) : Type 0 where
   pub clock : old.clock ≤ new.clock
   pub count : old.count ≤ new.count

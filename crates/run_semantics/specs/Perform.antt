@@ -45,7 +45,8 @@ use Rattle.run_semantics.specs.declared.routes.PlacedGate.{PlacedGate}
 use Rattle.run_semantics.specs.Routes.{arriving, busy_of, channels_of, hop_by, is_connected, is_in_gate, is_out_gate, is_simple, module_at, transmission_gate, transmitting}
 use Rattle.run_semantics.specs.World.{World, asked}
 
--- where an event stands: it goes on; the rest of it is discarded; or a fault, told with a path, has ended the run
+-- where an event stands: it goes on; the rest of it is discarded; or a fault, told with a path, has
+-- ended the run
 pub data Flow : Type 0 where
   On : (world : World) → Flow
   Stopped : (world : World) → Flow
@@ -96,7 +97,8 @@ model_fault model_fault_kind.TooDeep = fault.TooDeep
 
 -- ---- deeds: actions that ask nothing and call no module
 
--- a timer of a module, with the priority and the kind of its message, at a time that is not before now
+-- a timer of a module, with the priority and the kind of its message, at a time that is not before
+-- now
 abbrev pub scheduled_at : ℕ → ℕ → ℤ → ℤ → World → ℕ → Flow
 scheduled_at id timer priority kind w time =
     if has_timer id timer w.pending then broken id fault.AlreadyScheduled w
@@ -163,8 +165,9 @@ after_hop id further reached g passed None w = broken id fault.NotConnected w
 after_hop id further reached g passed (Some h) w =
     if is_simple w.records h.to.id then reached (with_hop passed g h) h.to w else further h.to (with_hop passed g h) w
 
--- THE CHAIN OF HOPS from a gate to a simple module, of at most so many hops more, and what is done where it is reached. Where no hop more is allowed it is asked for one
--- still: so it is known whether there are too many, or none.
+-- THE CHAIN OF HOPS from a gate to a simple module, of at most so many hops more, and what is done
+-- where it is reached. Where no hop more is allowed it is asked for one still: so it is known
+-- whether there are too many, or none.
 abbrev pub chain : Answers → ℕ → (List PassedHop → PlacedGate → World → Flow) → ℕ → PlacedGate → List PassedHop → World → Flow
 chain m id reached zero g passed w = next_hop m g (past_last id) w
 chain m id reached (suc left) g passed w = next_hop m g (after_hop id (chain m id reached left) reached g passed) w
@@ -173,7 +176,8 @@ chain m id reached (suc left) g passed w = next_hop m g (after_hop id (chain m i
 unfoldable pub most_hops : ℕ
 most_hops = 1000
 
--- what becomes of a message on its way: the transmission, where there was one, is now the last one of its gate, and the arrival is one of the events to come
+-- what becomes of a message on its way: the transmission, where there was one, is now the last one
+-- of its gate, and the arrival is one of the events to come
 abbrev pub completed : Outgoing → Option PlacedGate → PlacedGate → World → Travel → World
 completed message from end w (Lost until) = transmitting from until w
 completed message from end w (Arrival time until) = arriving end message time (transmitting from until w)
@@ -194,7 +198,8 @@ abbrev pub sent_through : Answers → ℕ → PlacedGate → Outgoing → Option
 sent_through m id g message departure a w =
     if is_out_gate a g.index then chain m id (sent_over id message departure) most_hops g [] w else broken id fault.NoGate w
 
--- A MESSAGE IS SENT through a gate of the module's own (OMNeT++ Simulation Manual, "Sending Messages")
+-- A MESSAGE IS SENT through a gate of the module's own (OMNeT++ Simulation Manual, "Sending
+-- Messages")
 abbrev pub sent : Answers → ℕ → OwnGate → Outgoing → Option ℕ → World → Flow
 sent m id gate message departure w =
     asking m (GateSize id gate.name) (sent_through m id (record { id = id; name = gate.name; index = gate.index }) message departure) w
@@ -224,7 +229,8 @@ sent_to m id place message flight w None = broken id fault.NoModule w
 sent_to m id place message flight w (Some target) =
     asking m (GateSize target place.name) (sent_into m id (record { id = target; name = place.name; index = place.index }) message flight) w
 
--- A MESSAGE IS SENT DIRECTLY to a gate of a module (OMNeT++ Simulation Manual, "Direct Message Sending")
+-- A MESSAGE IS SENT DIRECTLY to a gate of a module (OMNeT++ Simulation Manual, "Direct Message
+-- Sending")
 abbrev pub sent_direct : Answers → ℕ → GatePlace → Outgoing → Flight → World → Flow
 sent_direct m id place message flight w = sent_to m id place message flight w (module_at place.path w)
 
@@ -308,7 +314,8 @@ abbrev pub is_allowed : Occasion → Action → Bool
 is_allowed occasion.Event action = true
 is_allowed occasion.End action = is_last_action action
 
--- an action of a reply, where it may have that. A payload that is too large is told before any other fault.
+-- an action of a reply, where it may have that. A payload that is too large is told before any
+-- other fault.
 abbrev pub act : Behaviour → Answers → Occasion → ℕ → Action → World → Flow
 act b m o id action w =
     if has_large_payload action then broken id fault.PayloadTooLarge w
@@ -336,8 +343,8 @@ abbrev pub unless_fault : ℕ → Option Fault → (World → Flow) → World �
 unless_fault id (Some f) go w = broken id f w
 unless_fault id None go w = go w
 
--- WHAT FOLLOWS A REPLY: all its reads are asked, then the first that has no value is the fault, then its actions are
--- performed in order
+-- WHAT FOLLOWS A REPLY: all its reads are asked, then the first that has no value is the fault,
+-- then its actions are performed in order
 abbrev pub answered : Behaviour → Answers → Occasion → ℕ → Reply → World → Flow
 answered b m o id reply w =
     unless_fault id (read_fault m w.records id reply.reads) (acted b m o id reply.actions) (ask_noted o id reply.reads w)

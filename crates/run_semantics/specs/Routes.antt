@@ -29,7 +29,8 @@ is_output Input = false
 is_output Output = true
 is_output Inout = false
 
--- whether the answer is of a gate, or a half of one, through which messages go out, and which has that index
+-- whether the answer is of a gate, or a half of one, through which messages go out, and which has
+-- that index
 abbrev pub is_out_gate : Answer → ℕ → Bool
 is_out_gate (answer.Gate g) index = is_output g.direction && nat_lt index g.size
 is_out_gate (answer.Root name) index = false
@@ -163,7 +164,8 @@ transmitting None end w = w
 abbrev pub delivery_at : PlacedGate → Outgoing → Happening
 delivery_at g message = Delivery (record { kind = message.kind; bits = message.bits; payload = message.payload; gate = g.name; index = g.index })
 
--- the event that a message becomes as it arrives at a gate at that time, with the message's own priority
+-- the event that a message becomes as it arrives at a gate at that time, with the message's own
+-- priority
 abbrev pub arriving_at : PlacedGate → Outgoing → ℕ → ℕ → Pending
 arriving_at g message time number = record { time = time; priority = message.priority; number = number; id = g.id; what = delivery_at g message }
 

@@ -90,16 +90,19 @@ abbrev pub compounds_from : ℕ → List Built → List ℕ
 compounds_from id [] = []
 compounds_from id (b ∷ bs) = if_compound id b.class (compounds_from (suc id) bs)
 
--- what is inside of a module: its submodules are created, and then each compound one of them is set up, in this order
+-- what is inside of a module: its submodules are created, and then each compound one of them is set
+-- up, in this order
 abbrev pub built : (ℕ → World → Flow) → ℕ → Answer → World → Flow
 built inner parent found w = created parent found w >>= for_each inner (compounds_from (suc (length w.records)) (inside_of found))
 
--- THE SETUP of a compound module, with so many levels from its own on: it is asked what is inside of it
+-- THE SETUP of a compound module, with so many levels from its own on: it is asked what is inside
+-- of it
 abbrev pub set_up : ℕ → Answers → ℕ → World → Flow
 set_up zero m id w = On w
 set_up (suc depth) m id w = asking m (Build id) (built (set_up depth m) id) w
 
--- modules are nested at most 32 deep: a model answers a fault in the place of what is inside of those below
+-- modules are nested at most 32 deep: a model answers a fault in the place of what is inside of
+-- those below
 unfoldable pub most_nested : ℕ
 most_nested = 32
 
@@ -129,7 +132,8 @@ parts_from id (r ∷ rs) = with_class id r.class (parts_from (suc id) rs)
 abbrev pub parts_of : World → List Part
 parts_of w = parts_from 1 w.records
 
--- THE MODULES THAT NEED A BOX for the start that comes next, by rising id: the simple modules that live and were not started
+-- THE MODULES THAT NEED A BOX for the start that comes next, by rising id: the simple modules that
+-- live and were not started
 abbrev pub needs : World → List Part
 needs w = filter (λ (p : Part). not (among p.id w.started) && among p.id (live_of w)) (parts_of w)
 
@@ -168,7 +172,8 @@ abbrev pub most_stages : Behaviour → List Instance → List ℕ → ℕ
 most_stages b is [] = 0
 most_stages b is (id ∷ ids) = max (stages_in b (instance_in id is)) (most_stages b is ids)
 
--- a module is called for the stages below its own number; one that has no box, as a compound module, or is dead has none
+-- a module is called for the stages below its own number; one that has no box, as a compound
+-- module, or is dead has none
 abbrev pub initialize : Behaviour → Answers → ℕ → ℕ → World → Flow
 initialize b m stage id w = if nat_lt stage (stages_in b (instance_in id w.modules)) then call_module b m id (prompt.Initialize stage) w else On w
 
@@ -185,8 +190,8 @@ stages_from b m ids stage (suc left) w = one_stage b m stage ids w >>= stages_fr
 abbrev pub with_started : List ℕ → World → World
 with_started ids w = record w { started = w.started ++ ids }
 
--- A START of some modules: they count as started, and are called in that order, stage 0 of all, stage 1, and so on (OMNeT++ Simulation Manual,
--- "Multi-Stage Initialization")
+-- A START of some modules: they count as started, and are called in that order, stage 0 of all,
+-- stage 1, and so on (OMNeT++ Simulation Manual, "Multi-Stage Initialization")
 abbrev pub started : Behaviour → Answers → List ℕ → List ℕ → World → Flow
 started b m ids calls w = stages_from b m calls 0 (most_stages b w.modules calls) (with_started ids w)
 
@@ -194,7 +199,8 @@ started b m ids calls w = stages_from b m calls 0 (most_stages b w.modules calls
 abbrev pub initialize_all : Behaviour → Answers → World → Flow
 initialize_all b m w = started b m (live_of w) (outer_first w.records (live_of w) 1) w
 
--- the modules that need boxes have them, each in its state at first: before its start no module has a state
+-- the modules that need boxes have them, each in its state at first: before its start no module has
+-- a state
 abbrev pub place_parts : Behaviour → World → Flow
 place_parts b w = unless_unknown b (needs w) w (first_unknown b (needs w))
 
@@ -245,7 +251,8 @@ says_beyond answer.Absent = false
 abbrev pub is_after_limit : Answers → List Record → Pending → Bool
 is_after_limit m records p = says_beyond (answer_of m records (BeyondLimit p.time))
 
--- THE NEXT EVENT; where there is none, or it is too late, nothing is noted, and no injection counts as delivered
+-- THE NEXT EVENT; where there is none, or it is too late, nothing is noted, and no injection counts
+-- as delivered
 abbrev pub went : Behaviour → Answers → World → Upcoming → Stage
 went b m w (Nothing asked) = Over w NoMoreEvents
 went b m w (Comes asked p rest) = if is_after_limit m asked.records p then Over w TimeLimit else settled (event b m p rest asked)

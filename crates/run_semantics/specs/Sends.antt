@@ -53,7 +53,8 @@ abbrev pub back_at : Bool → Answer
 back_at true = answer.Next (Some (record { neighbour = Beside (codes "s") None; gate = codes "out"; index = 0; channel = ideal }))
 back_at false = answer.Next None
 
--- what such a model answers: the channel after s.out, if it is connected, and whether something is connected to other gates
+-- what such a model answers: the channel after s.out, if it is connected, and whether something is
+-- connected to other gates
 abbrev pub linked : Option Channel → Bool → Answers
 linked channel taken = record {
   root = answer.Root (codes "N");

@@ -41,13 +41,15 @@ abbrev pub outer_first_to : ℕ → (ℕ → List ℕ) → ℕ → List ℕ
 outer_first_to zero below id = []
 outer_first_to (suc depth) below id = id ∷ each_of (outer_first_to depth below) (below id)
 
--- the subtrees of the submodules of a module, one after another, and then it; so many levels at most
+-- the subtrees of the submodules of a module, one after another, and then it; so many levels at
+-- most
 abbrev pub inner_first_to : ℕ → (ℕ → List ℕ) → ℕ → List ℕ
 inner_first_to zero below id = []
 inner_first_to (suc depth) below id = each_of (inner_first_to depth below) (below id) ++ id ∷ []
 
--- THE ORDER OF CALLS: a module and those of the others that are below it, each before its submodules, siblings in their order, the whole subtree of
--- one before the next. There are at most 33 levels: the 32 that are set up, and what is inside of the last.
+-- THE ORDER OF CALLS: a module and those of the others that are below it, each before its
+-- submodules, siblings in their order, the whole subtree of one before the next. There are at most
+-- 33 levels: the 32 that are set up, and what is inside of the last.
 unfoldable pub outer_first : List Record → List ℕ → ℕ → List ℕ
 outer_first records ids id = outer_first_to 33 (submodules records ids) id
 

@@ -33,14 +33,15 @@ id_at records path (i ∷ is) = if bytes_eq (path_of records i.id) path then Som
 abbrev pub target_of : List ℕ → World → Option ℕ
 target_of path w = id_at w.records path w.modules
 
--- the event that it becomes, of the module of that id; it is never among those to come, and its insertion number says nothing
+-- the event that it becomes, of the module of that id; it is never among those to come, and its
+-- insertion number says nothing
 abbrev pub arrival : Injection → ℕ → Pending
 arrival i id = record { time = i.due.time; priority = i.due.priority; number = 0; id = id; what = Arrival i.kind i.bits i.payload }
 
 -- ---- what comes next
 
--- An event comes, and the rest of those to come stays; or nothing comes. In the world beside it is noted what was asked, and which injections
--- were delivered.
+-- An event comes, and the rest of those to come stays; or nothing comes. In the world beside it is
+-- noted what was asked, and which injections were delivered.
 pub data Upcoming : Type 0 where
   Comes : (world : World) (event : Pending) (rest : List Pending) → Upcoming
   Nothing : (world : World) → Upcoming
@@ -50,7 +51,8 @@ abbrev pub first_of : World → List Pending → Upcoming
 first_of w [] = Nothing w
 first_of w (p ∷ rest) = Comes w p rest
 
--- An injection goes first. Where no simple module stands at its path it is discarded, and does no more than count as delivered.
+-- An injection goes first. Where no simple module stands at its path it is discarded, and does no
+-- more than count as delivered.
 abbrev pub aimed : (World → Upcoming) → World → List Pending → Injection → Option ℕ → Upcoming
 aimed go_on w ps i (Some id) = Comes w (arrival i id) ps
 aimed go_on w ps i None = go_on w
@@ -67,12 +69,14 @@ chosen go_on w ps (answer.Fault path f) = first_of w ps
 chosen go_on w ps (answer.Beyond beyond) = first_of w ps
 chosen go_on w ps answer.Absent = first_of w ps
 
--- what comes next, where at most so many looks are taken at injections: each look but the last delivers one
+-- what comes next, where at most so many looks are taken at injections: each look but the last
+-- delivers one
 abbrev pub upcoming_in : ℕ → Answers → List Pending → World → Upcoming
 upcoming_in zero m ps w = Nothing w
 upcoming_in (suc left) m ps w =
     chosen (upcoming_in left m ps) (asked_next (InjectionBefore (first_due ps) w.delivered) w) ps (answer_of m w.records (InjectionBefore (first_due ps) w.delivered))
 
--- WHAT COMES NEXT, where at most all injections of the model are discarded before it: as many looks as it has injections, and one
+-- WHAT COMES NEXT, where at most all injections of the model are discarded before it: as many looks
+-- as it has injections, and one
 unfoldable pub upcoming : Answers → World → Upcoming
 upcoming m w = upcoming_in (suc (length m.injections)) m w.pending w

@@ -13,11 +13,13 @@ use Rattle.run_semantics.specs.declared.traces.Instance.{Instance}
 use Rattle.run_semantics.specs.declared.traces.Scalar.{Scalar}
 use Rattle.run_semantics.specs.Subtree.{ids_from, without}
 
--- A world: the clock; how many events were executed; the records of the modules that were created, and the ids of those
--- that are dead, in the order in which they died; the simple modules with their states, by rising id; the ids of the modules that were started, and of those
--- that were finished; the events to come, in order, and the number of the next one that is inserted; whether the end was
--- asked for; which injection was delivered last, and with it all that go before it; the last transmission that began at each gate; what was emitted;
--- the scalars that modules recorded; what was asked of the model, each question with the first event that asked it.
+-- A world: the clock; how many events were executed; the records of the modules that were created,
+-- and the ids of those that are dead, in the order in which they died; the simple modules with
+-- their states, by rising id; the ids of the modules that were started, and of those that were
+-- finished; the events to come, in order, and the number of the next one that is inserted; whether
+-- the end was asked for; which injection was delivered last, and with it all that go before it; the
+-- last transmission that began at each gate; what was emitted; the scalars that modules recorded;
+-- what was asked of the model, each question with the first event that asked it.
 pub record World : Type 0 where
   pub clock : ℕ
   pub count : ℕ
@@ -67,7 +69,8 @@ live_count w = length w.records - length w.dead
 abbrev pub is_asked : Question → List Asked → Bool
 is_asked q qs = list_any (λ (a : Asked). same_question q a.question) qs
 
--- with a question of that event: one that was asked before is not noted again, as nothing new rests on it
+-- with a question of that event: one that was asked before is not noted again, as nothing new rests
+-- on it
 abbrev pub noted : ℕ → Question → List Asked → List Asked
 noted event q qs = if is_asked q qs then qs else qs ++ record { event = event; question = q } ∷ []
 
@@ -83,7 +86,7 @@ timed q w = record w { questions = w.questions ++ record { event = w.count; ques
 abbrev pub asked_next : Question → World → World
 asked_next q w = record w { questions = w.questions ++ record { event = w.count + 1; question = q } ∷ [] }
 
--- insertion numbers are far from running out: an event inserts fewer than 2^40 events, as it calls at most 2^16 modules for at most 2^8 stages each, and a reply has at most
--- 1,000 actions
+-- insertion numbers are far from running out: an event inserts fewer than 2^40 events, as it calls
+-- at most 2^16 modules for at most 2^8 stages each, and a reply has at most 1,000 actions
 abbrev pub HasRoom : World → Type 0
 HasRoom w = w.next ≤ 2 ^ 82 + 2 ^ 40 * w.count

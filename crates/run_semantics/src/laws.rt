@@ -28,9 +28,9 @@ pub fn over_is_over()
         → Over w outcome ≡ after b m k → run_to b m limit ≡ record { world = w; outcome = outcome } }
 {}
 
-/// Two models that answer alike all that the run of the first one asked up to an event have the same
-/// run up to there: the same world, its questions included, and the same outcome where it is over.
-/// Where the run got as far as that event, all that it asked is noted in its world.
+/// Two models that answer alike all that the run of the first one asked up to an event have the
+/// same run up to there: the same world, its questions included, and the same outcome where it is
+/// over. Where the run got as far as that event, all that it asked is noted in its world.
 pub fn equal_answers_equal_runs()
     ensures all { (b : Behaviour) → IsLawful b → (m n : Answers) (v : ℕ)
         → Agrees m n (world_at (after b m v)).records (questions_of m (after b m v))
@@ -41,8 +41,8 @@ pub fn equal_answers_equal_runs()
 {}
 
 /// Of a run of k events, the questions of the first v events alone decide the run up to there: two
-/// models that answer those alike have it in common. Where the run got as far as event v, those that
-/// are noted are enough.
+/// models that answer those alike have it in common. Where the run got as far as event v, those
+/// that are noted are enough.
 pub fn equal_runs_up_to_an_event()
     ensures all { (b : Behaviour) → IsLawful b → (m n : Answers) (v k : ℕ) → v ≤ k
         → AgreesUpTo v m n (world_at (after b m k)).records (questions_of m (after b m k))
@@ -60,13 +60,14 @@ pub fn answers_stay()
         ≡ answer_of other (world_at (after b m n)).records a.question) (questions_of m (after b m n)) }
 {}
 
-/// What is to come rests on where the run stands alone: n + k events are k more from the stage after n.
+/// What is to come rests on where the run stands alone: n + k events are k more from the stage
+/// after n.
 pub fn runs_go_on()
     ensures { (b : Behaviour) (m : Answers) (n k : ℕ) → after b m (n + k) ≡ gone_on b m k (after b m n) }
 {}
 
-/// So a world that is kept after event v serves each model that answers alike what was asked up to v:
-/// the run of that model is the one that goes on from there.
+/// So a world that is kept after event v serves each model that answers alike what was asked up to
+/// v: the run of that model is the one that goes on from there.
 pub fn kept_worlds_serve()
     ensures all { (b : Behaviour) → IsLawful b → (m n : Answers) (v k : ℕ) → v ≤ k
         → AgreesUpTo v m n (world_at (after b m k)).records (questions_of m (after b m k))
@@ -76,8 +77,8 @@ pub fn kept_worlds_serve()
         → (more : ℕ) → after b n (v + more) ≡ gone_on b n more (after b m v) }
 {}
 
-/// To a limit of one event more, a run that goes on has its next event besides, and one that is over
-/// is the same.
+/// To a limit of one event more, a run that goes on has its next event besides, and one that is
+/// over is the same.
 pub fn one_event_more()
     ensures running { (b : Behaviour) (m : Answers) (n : ℕ) (w : World) → after b m n ≡ Running w
         → run_to b m (suc n) ≡ stopped (next_stage b m (Running w)) }
@@ -86,13 +87,15 @@ pub fn one_event_more()
 {}
 
 /// Nothing that happened is undone: with more events the clock, the count of events and the next
-/// insertion number do not fall, and records, the dead, emissions, scalars and questions stay, each in its place. So a module that is gone stays gone.
+/// insertion number do not fall, and records, the dead, emissions, scalars and questions stay, each
+/// in its place. So a module that is gone stays gone.
 pub fn runs_grow()
     ensures { (b : Behaviour) (m : Answers) (n k : ℕ) → n ≤ k
         → HasGrown (world_at (after b m n)) (world_at (after b m k)) }
 {}
 
-/// From event zero until the end the same modules live and count as started, and none is finished; and nobody is dead, as no action deletes a module.
+/// From event zero until the end the same modules live and count as started, and none is finished;
+/// and nobody is dead, as no action deletes a module.
 pub fn modules_stay_until_the_end()
     ensures live { (b : Behaviour) (m : Answers) (n k : ℕ) → n ≤ k
         → live_of (world_at (after b m k)) ≡ live_of (world_at (after b m n)) }
@@ -126,8 +129,8 @@ pub fn no_event_is_late()
         → Each (λ e. (world_at (after b m n)).clock ≤ e.time) (world_at (after b m n)).pending }
 {}
 
-/// What was emitted stands in the order of events: along it neither event numbers nor times fall, and
-/// none is above the count or the clock.
+/// What was emitted stands in the order of events: along it neither event numbers nor times fall,
+/// and none is above the count or the clock.
 pub fn emissions_are_in_turn()
     ensures turn { (b : Behaviour) (m : Answers) (n : ℕ) → AreInTurn (world_at (after b m n)).emissions }
     ensures past { (b : Behaviour) (m : Answers) (n : ℕ)
@@ -135,8 +138,8 @@ pub fn emissions_are_in_turn()
         (world_at (after b m n)).emissions }
 {}
 
-/// Each event to come is for a module that its call finds; and in a run that goes on that module was
-/// started and lives. So no event is passed over, and none calls a module before it is started.
+/// Each event to come is for a module that its call finds; and in a run that goes on that module
+/// was started and lives. So no event is passed over, and none calls a module before it is started.
 pub fn events_are_for_started_modules()
     ensures found { (b : Behaviour) (m : Answers) (n : ℕ)
         → Each (λ e. IsSome (instance_in e.id (world_at (after b m n)).modules)) (world_at (after b m n)).pending }
@@ -144,7 +147,8 @@ pub fn events_are_for_started_modules()
         → Each (λ e. CanBeCalled w e.id) w.pending }
 {}
 
-/// In a run that goes on exactly the simple modules stand that were started and live, by rising id, each of its kind; and these are all that were created.
+/// In a run that goes on exactly the simple modules stand that were started and live, by rising id,
+/// each of its kind; and these are all that were created.
 pub fn created_modules_stand()
     ensures started { (b : Behaviour) (m : Answers) (n : ℕ) (w : World) → after b m n ≡ Running w
         → standing w.modules ≡ parts_standing w }
@@ -157,15 +161,16 @@ pub fn states_are_of_their_kinds()
     ensures { (b : Behaviour) → IsLawful b → (m : Answers) (n : ℕ) → AreStates b (world_at (after b m n)).modules }
 {}
 
-/// On which of its first events two models agree is the same by what a run asked up to there and by what a longer one asked.
+/// On which of its first events two models agree is the same by what a run asked up to there and by
+/// what a longer one asked.
 pub fn longer_runs_agree_alike()
     ensures { (b : Behaviour) (m p q : Answers) (u v k : ℕ) → u ≤ v → v ≤ k
         → AgreesUpTo u p q (world_at (after b m k)).records (world_at (after b m k)).questions
         ↔ AgreesUpTo u p q (world_at (after b m v)).records (world_at (after b m v)).questions }
 {}
 
-/// A run stands where it stood after the last event that it executed, whatever its limit was; and one that got as far as an event got as far as
-/// each one before.
+/// A run stands where it stood after the last event that it executed, whatever its limit was; and
+/// one that got as far as an event got as far as each one before.
 pub fn runs_stand_at_their_last_event()
     ensures stands { (b : Behaviour) (m : Answers) (n : ℕ) → world_at (after b m (world_at (after b m n)).count) ≡ world_at (after b m n) }
     ensures reached { (b : Behaviour) (m : Answers) (v k : ℕ) → v ≤ k → IsReached (after b m k) k → IsReached (after b m v) v }
@@ -178,8 +183,8 @@ pub fn the_end_asks_nothing()
     ensures count { (b : Behaviour) (m : Answers) (ran : Ran) → (ending b m ran).world.count ≡ ran.world.count }
 {}
 
-/// The end of a run undoes nothing: the same modules live and count as started, and what is finished, emitted and recorded is added after what
-/// was there.
+/// The end of a run undoes nothing: the same modules live and count as started, and what is
+/// finished, emitted and recorded is added after what was there.
 pub fn the_end_only_adds()
     ensures live { (b : Behaviour) (m : Answers) (ran : Ran) → live_of (ending b m ran).world ≡ live_of ran.world }
     ensures started { (b : Behaviour) (m : Answers) (ran : Ran) → (ending b m ran).world.started ≡ ran.world.started }
@@ -193,27 +198,28 @@ pub fn modules_are_bounded()
     ensures { (b : Behaviour) (m : Answers) (n : ℕ) → IsBounded (world_at (after b m n)) }
 {}
 
-/// Nothing comes next only where no event is left and each injection of the model is delivered: one at whose path no module stands is discarded, and the
-/// next one is looked at.
+/// Nothing comes next only where no event is left and each injection of the model is delivered: one
+/// at whose path no module stands is discarded, and the next one is looked at.
 pub fn nothing_comes_where_nothing_is_left()
     ensures { (m : Answers) (w end : World) → upcoming m w ≡ Nothing end → HasEnded m w.pending end }
 {}
 
-/// To note a question once is enough: two models agree on what is noted, up to each event, just where they agree on the plain list of all that was
-/// asked, event by event.
+/// To note a question once is enough: two models agree on what is noted, up to each event, just
+/// where they agree on the plain list of all that was asked, event by event.
 #[tactic(auto, using(crate::proofs::Once::once_agrees))]
 pub fn noting_once_is_enough()
     ensures { (m n : Answers) (records : List Record) (v : ℕ) (plain : List Asked) → AreFrom 0 plain
         → AgreesUpTo v m n records (noted_all plain []) ↔ AgreesUpTo v m n records plain }
 {}
 
-/// A network with compound modules, worked by hand: its setup, and the orders of its calls and of its end.
+/// A network with compound modules, worked by hand: its setup, and the orders of its calls and of
+/// its end.
 pub fn nested_example()
     ensures { ExampleNests }
 {}
 
-/// Messages that are sent in a network of two modules, one of them inside of a compound module, worked by hand: over channels, at a busy one, to
-/// nobody, and directly.
+/// Messages that are sent in a network of two modules, one of them inside of a compound module,
+/// worked by hand: over channels, at a busy one, to nobody, and directly.
 pub fn sending_example()
     ensures { (b : Behaviour) → ExampleSends b }
 {}

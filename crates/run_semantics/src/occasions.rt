@@ -5,12 +5,14 @@ ghost use Rattle.run_semantics.specs.Perform.{is_allowed, is_last_action, is_not
 
 use module_api::reply::Action;
 
-/// What a module is called for: it decides which actions its reply may have, and whether what it read is noted.
+/// What a module is called for: it decides which actions its reply may have, and whether what it
+/// read is noted.
 #[derive(Clone, Copy, PartialEq, Eq)]
 pub enum Occasion {
     /// An event: all actions are allowed, and what a reply read is noted.
     Event,
-    /// The end of the run, which belongs to no event: nothing is noted, and only what neither makes events nor changes modules is allowed.
+    /// The end of the run, which belongs to no event: nothing is noted, and only what neither makes
+    /// events nor changes modules is allowed.
     End,
 }
 

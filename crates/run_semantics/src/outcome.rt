@@ -20,14 +20,17 @@ pub enum Fault {
     Unassigned,
     /// A value rests on itself.
     Circle,
-    /// A number of an expression is outside -2^63 to 2^63 - 1, or an amount to shift by is outside 0 to 63.
+    /// A number of an expression is outside -2^63 to 2^63 - 1, or an amount to shift by is outside
+    /// 0 to 63.
     Overflow,
-    /// A quotient in an expression is no whole number, something is divided by zero, or an exponent is below zero.
+    /// A quotient in an expression is no whole number, something is divided by zero, or an exponent
+    /// is below zero.
     Inexact,
-    /// A value is of another kind than its declaration, or one in its expression than its operator wants, or the size of a vector
-    /// of submodules is negative.
+    /// A value is of another kind than its declaration, or one in its expression than its operator
+    /// wants, or the size of a vector of submodules is negative.
     Mismatch,
-    /// A gate's index is out of range, no gate is free, or the size of a gate vector is outside 0 to 65,536.
+    /// A gate's index is out of range, no gate is free, or the size of a gate vector is outside 0
+    /// to 65,536.
     GateSize,
     /// A gate is used by two connections, or a message is sent directly to one that is connected.
     AlreadyConnected,
@@ -35,7 +38,8 @@ pub enum Fault {
     Unconnected,
     /// The loops of a compound module make more than 1,000,000 turns.
     TooManyTurns,
-    /// More than 65,536 modules would live, or a vector of submodules would have more elements than that.
+    /// More than 65,536 modules would live, or a vector of submodules would have more elements than
+    /// that.
     TooManyModules,
     /// Modules are nested too deep.
     TooDeep,
@@ -43,9 +47,10 @@ pub enum Fault {
     UnknownClass,
     /// A reply read a parameter that the module doesn't have.
     NoParameter,
-    /// A reply read a gate that the module doesn't have, or sends a message through one that isn't there or has another direction; or a
-    /// connection names a submodule or a gate that isn't there, or a gate of another direction, or one by an index that is no vector, or
-    /// a vector without one.
+    /// A reply read a gate that the module doesn't have, or sends a message through one that isn't
+    /// there or has another direction; or a connection names a submodule or a gate that isn't
+    /// there, or a gate of another direction, or one by an index that is no vector, or a vector
+    /// without one.
     NoGate,
     /// A reply has more than 1,000 actions.
     TooManyActions,

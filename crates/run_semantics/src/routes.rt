@@ -93,7 +93,8 @@ fn is_output(direction: Direction) -> bool
     }
 }
 
-/// Whether the answer is of a gate, or a half of one, through which messages go out, and which has that index.
+/// Whether the answer is of a gate, or a half of one, through which messages go out, and which has
+/// that index.
 pub fn is_out_gate(answer: &Answer, index: u32) -> bool
     ensures { result ≡ is_out_gate answer.now index }
 {
@@ -113,7 +114,8 @@ fn is_input(direction: Direction) -> bool
     }
 }
 
-/// Whether the answer is of a gate, or a half of one, through which messages come in, and which has that index.
+/// Whether the answer is of a gate, or a half of one, through which messages come in, and which has
+/// that index.
 pub fn is_in_gate(answer: &Answer, index: u32) -> bool
     ensures { result ≡ is_in_gate answer.now index }
 {

@@ -14,7 +14,8 @@ use std::rc::Rc;
 /// How many names are kept to be shared.
 const MAX_NAMES: usize = 64;
 
-/// The name of a signal. All that share it have its bytes in one place, which counts them. Contracts see the list of its bytes.
+/// The name of a signal. All that share it have its bytes in one place, which counts them.
+/// Contracts see the list of its bytes.
 #[derive(Drop)]
 pub struct SignalName {
     text: Rc<Text>,
@@ -55,8 +56,9 @@ impl SignalName {
     }
 }
 
-/// The names that were made last, so that emissions of one signal share its name. After so many names all are forgotten: what
-/// is looked through for an emission stays short, and a name that is in use comes again.
+/// The names that were made last, so that emissions of one signal share its name. After so many
+/// names all are forgotten: what is looked through for an emission stays short, and a name that is
+/// in use comes again.
 #[derive(Drop)]
 pub struct SignalNames {
     names: Items<SignalName>,

@@ -1,4 +1,5 @@
-//! The texts of a session as edits made them, why an edit is refused, in words, and the program's own commands.
+//! The texts of a session as edits made them, why an edit is refused, in words, and the program's
+//! own commands.
 //!
 //! Everything here follows what the session answers. It decides nothing.
 #![tactic(auto)]

@@ -130,7 +130,8 @@ fn configs(alloc: Global, texts: &SessionTexts) -> Result<Listing, NoMemory> {
     listed(told)
 }
 
-/// What a command of the program's own lists: the commands, where it is neither of the ini text nor of its sections.
+/// What a command of the program's own lists: the commands, where it is neither of the ini text nor
+/// of its sections.
 pub fn listing_of(alloc: Global, texts: &SessionTexts, own: &Own) -> Result<Listing, NoMemory> {
     match own {
         Own::Configs => configs(alloc, texts),

@@ -17,8 +17,9 @@ use sim_values::NoMemory;
 use sim_values::text::Text;
 use std::alloc::{AllocError, Global};
 
-/// What is noted of a session: what was asked last, the file that was read for it, and the texts as edits made them. It answers nothing that the
-/// session answers, and what it says makes diagnostics.
+/// What is noted of a session: what was asked last, the file that was read for it, and the texts as
+/// edits made them. It answers nothing that the session answers, and what it says makes
+/// diagnostics.
 #[derive(Drop)]
 pub struct Notes {
     /// The line that was asked last. None where it was too long to be kept.
@@ -41,7 +42,8 @@ pub struct Notes {
     looked_at: Vec<Text>,
 }
 
-/// Of how many paths of messages it is said that nobody stands there, between two changes of the texts.
+/// Of how many paths of messages it is said that nobody stands there, between two changes of the
+/// texts.
 const MOST_PATHS: usize = 1000;
 
 /// Whether a command changes or looks at texts.
@@ -81,7 +83,8 @@ impl Notes {
         }
     }
 
-    /// Whether what is asked next is typed: the program itself asks for the first run, and to write its files.
+    /// Whether what is asked next is typed: the program itself asks for the first run, and to write
+    /// its files.
     pub fn is_typed(&self) -> bool {
         self.count >= 2
     }
@@ -109,7 +112,8 @@ impl Notes {
         }
     }
 
-    /// The file that is named next is to be what it was before the last edit, where that replaced one.
+    /// The file that is named next is to be what it was before the last edit, where that replaced
+    /// one.
     fn give_undone(&mut self, alloc: Global) {
         let copy = match &self.undo {
             Undo::File(_, text) => text.copy(alloc),
@@ -129,7 +133,8 @@ impl Notes {
         }
     }
 
-    /// What the file is to be that the line names which was asked last, where that takes an edit back.
+    /// What the file is to be that the line names which was asked last, where that takes an edit
+    /// back.
     pub fn take_given(&mut self) -> Option<Text> {
         self.given.take()
     }
@@ -172,7 +177,8 @@ impl Notes {
         }
     }
 
-    /// Follows the edit of messages that was asked last, which is made. A message that it put in has that number.
+    /// Follows the edit of messages that was asked last, which is made. A message that it put in
+    /// has that number.
     fn follow_message(
         &mut self,
         alloc: Global,
@@ -219,7 +225,8 @@ impl Notes {
         Ok(())
     }
 
-    /// Follows the edit that was asked last, which is made. A message that it put in has that number.
+    /// Follows the edit that was asked last, which is made. A message that it put in has that
+    /// number.
     fn follow(
         &mut self,
         alloc: Global,
@@ -276,7 +283,8 @@ impl Notes {
         }
     }
 
-    /// Whether a path of a message is looked at no more: it was since the texts changed, or so many others were.
+    /// Whether a path of a message is looked at no more: it was since the texts changed, or so many
+    /// others were.
     fn is_looked_at(&self, path: &Text) -> bool {
         for it in self.looked_at.as_slice() {
             if it.is(path.as_bytes()) {
@@ -286,7 +294,8 @@ impl Notes {
         self.looked_at.len() >= MOST_PATHS
     }
 
-    /// That the message which was put in is discarded, where it is. It is said once for each path, until the texts change.
+    /// That the message which was put in is discarded, where it is. It is said once for each path,
+    /// until the texts change.
     fn why_discarded(&mut self, alloc: Global, sources: &Sources<'_>) -> Result<String, NoMemory> {
         let Command::Edit(Edit::Inject(path, _, _, _, _)) = self.command(alloc)? else {
             return Ok(String::new(alloc));
@@ -305,7 +314,8 @@ impl Notes {
         Ok(line)
     }
 
-    /// The program's own command that was asked last, where it is one and the session told that it knows no such command.
+    /// The program's own command that was asked last, where it is one and the session told that it
+    /// knows no such command.
     pub fn own(&self, alloc: Global, told: Option<&Told>) -> Result<Option<Own>, NoMemory> {
         if !is_no_command(told) {
             return Ok(None);
@@ -357,8 +367,9 @@ impl Notes {
         }
     }
 
-    /// What is said after an answer that says this, or that memory ran out where it says nothing, and what to change: a diagnostic. Empty where
-    /// there is no more to say. `sources` are the files as they were read, and `classes` those that the program has modules of.
+    /// What is said after an answer that says this, or that memory ran out where it says nothing,
+    /// and what to change: a diagnostic. Empty where there is no more to say. `sources` are the
+    /// files as they were read, and `classes` those that the program has modules of.
     pub fn hears(
         &mut self,
         alloc: Global,

@@ -207,7 +207,8 @@ fn why_no_ned(
     told.said()
 }
 
-/// Why a command of that line is refused that is no edit, and what would be right: a diagnostic. Empty where there is no more to say.
+/// Why a command of that line is refused that is no edit, and what would be right: a diagnostic.
+/// Empty where there is no more to say.
 pub fn why_refused_command(
     alloc: Global,
     command: &Command,
@@ -229,8 +230,8 @@ pub fn why_refused_command(
     told.said()
 }
 
-/// Why a command is refused that is an edit of these texts, and what would be right: a diagnostic. Empty where there is no more
-/// to say. `read` is what was read of the file that it names.
+/// Why a command is refused that is an edit of these texts, and what would be right: a diagnostic.
+/// Empty where there is no more to say. `read` is what was read of the file that it names.
 pub fn why_refused_edit(
     alloc: Global,
     texts: &SessionTexts,

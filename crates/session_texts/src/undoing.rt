@@ -80,7 +80,8 @@ pub fn undo_of(alloc: Global, before: &SessionTexts, edit: &Edit) -> Result<Undo
     }
 }
 
-/// What takes back that the NED file of this number was replaced, of which these are the texts before that.
+/// What takes back that the NED file of this number was replaced, of which these are the texts
+/// before that.
 pub fn undo_of_ned(alloc: Global, before: &SessionTexts, number: usize) -> Result<Undo, NoMemory> {
     let (Some(path), Some(text)) = (before.ned_path(number), before.ned_text(number)) else {
         return Ok(Undo::Not("it is not known what was there before"));

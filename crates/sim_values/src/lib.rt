@@ -1,4 +1,5 @@
-//! The small values that every layer shares: texts, values of parameters, units of time, and lack of memory.
+//! The small values that every layer shares: texts, values of parameters, units of time, and lack
+//! of memory.
 #![tactic(auto)]
 
 pub mod text;
@@ -10,8 +11,8 @@ ghost use Rattle.std.specs.Prelude.{◌≡◌};
 use std::alloc::{AllocError, AllocFailed};
 use thiserror::Error;
 
-/// A growth was refused: memory ran out. Its field is private, so that outside this crate it is made from an error of
-/// the allocator alone: who answers it has met one.
+/// A growth was refused: memory ran out. Its field is private, so that outside this crate it is
+/// made from an error of the allocator alone: who answers it has met one.
 #[derive(Clone, Copy, Debug, PartialEq, Eq, Error)]
 #[error("out of memory")]
 pub struct NoMemory {

@@ -114,7 +114,8 @@ impl Text {
     }
 }
 
-/// Whether these bytes spell the word: by a call of this a long list of words is proved faster than by `==`.
+/// Whether these bytes spell the word: by a call of this a long list of words is proved faster than
+/// by `==`.
 pub fn spells(bytes: &[u8], word: &[u8]) -> bool
     ensures { result ≡ bytes_eq bytes.now word.now }
 {

@@ -5,8 +5,8 @@ ghost use Rattle.sim_values.specs.Units as units;
 
 use crate::text::spells;
 
-/// How many picoseconds the unit of time of this name is: `d`, `h`, `min`, `s`, `ms`, `us`, `ns` or `ps`, and no other
-/// (OMNeT++ Simulation Manual, "Measurement Units").
+/// How many picoseconds the unit of time of this name is: `d`, `h`, `min`, `s`, `ms`, `us`, `ns` or
+/// `ps`, and no other (OMNeT++ Simulation Manual, "Measurement Units").
 #[tactic(auto, unfolding(crate::specs::Units::time_unit))]
 pub fn time_unit(word: &[u8]) -> Option<u64>
     ensures value { result ≡ units.time_unit word.now }

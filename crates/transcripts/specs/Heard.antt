@@ -3,8 +3,8 @@ use Rattle.std.specs.Prelude.{◌≡◌, ◌⊎◌, ℕ, List, Option, Some, Non
 use mathlib.Core.Logic.{inl, inr}
 use Rattle.std.specs.Coded.{Coded, code_by, coded⊎, coded×, coded_list, coded_option, coded_ℕ}
 
--- what is heard: an answer; both files of a run, by the name of the configuration that was run; what the file of a path holds, which
--- a command names, and is read for it; or that memory ran out
+-- what is heard: an answer; both files of a run, by the name of the configuration that was run;
+-- what the file of a path holds, which a command names, and is read for it; or that memory ran out
 pub data Heard : Type 0 where
   Answer : (text : List ℕ) → Heard
   Files : (config scalars vectors : List ℕ) → Heard

@@ -17,8 +17,9 @@ use sim_values::text::Text;
 use sqlite_items::Items;
 use std::alloc::Global;
 
-/// A Clerk records a scalar as it begins, emits the greatest value twice and sets a timer; it records a second scalar for a
-/// message, and a third at the end. A Scribe records a name that is none.
+/// A Clerk records a scalar as it begins, emits the greatest value twice and sets a timer; it
+/// records a second scalar for a message, and a third at the end. A Scribe records a name that is
+/// none.
 #[derive(Drop)]
 pub struct Clerk {
     is_clerk: bool,

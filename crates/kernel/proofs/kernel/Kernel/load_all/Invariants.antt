@@ -3,7 +3,8 @@ use Rattle.kernel.specs.Kernels.{world_in, KeepsBoxes}
 use Rattle.kernel_boxes.specs.Saved.{with_states}
 use Rattle.kernel.proofs.kernel.Kernel.load_all.Given as goal
 
--- the boxes are of the same modules, and what is left to load is what was, but for those that took their states
+-- the boxes are of the same modules, and what is left to load is what was, but for those that took
+-- their states
 abbrev pub invariant-loop-instance : goal.invariant-loop-instance
 invariant-loop-instance g l = record {
   core : l.self.core ≡ l.fn.self.core;
