@@ -3,8 +3,8 @@ use Rattle.std.specs.Prelude.{ℕ, ◌+◌, ◌^◌, ◌≡◌, true, nat_eq, na
 use Rattle.std.proofs.Common.{eqb-true}
 use Rattle.param_following.specs.Asking.{Asking, Done, Ask}
 use Rattle.param_engine.specs.Turns.{came_to}
-use Rattle.param_engine.specs.declared.turn.Turn.{Turn}
-use Rattle.param_engine.specs.declared.turn.Turn.TheVariants as turn
+use Rattle.param_engine.specs.declared.turn.EngineStep.{EngineStep}
+use Rattle.param_engine.specs.declared.turn.EngineStep.TheVariants as turn
 use Rattle.check_rows.specs.declared.numbers.Evaluation.{Evaluation}
 use Rattle.check_rows.specs.declared.numbers.Evaluation.TheVariants as evaluation
 use Rattle.check_rows.specs.declared.numbers.Fault.{Fault}
@@ -16,11 +16,11 @@ abbrev pub Numbered : Type 0
 Numbered = Asking ℕ ℕ Fault ℕ
 
 -- the sum of two numbers below 2^64, if it is one too
-abbrev pub sum : ℕ → ℕ → Turn ℕ ℕ Fault
+abbrev pub sum : ℕ → ℕ → EngineStep ℕ ℕ Fault
 sum x y = if nat_lt (x + y) (2 ^ 64) then turn.Done (x + y) else turn.Fault fault.Overflow
 
 -- where no more is asked, the turn says it all
-abbrev pub over : Turn ℕ ℕ Fault → Numbered
+abbrev pub over : EngineStep ℕ ℕ Fault → Numbered
 over end = came_to (λ v. Done (Ok v)) end
 
 abbrev pub asked_by : Option Rule → Numbered

@@ -2,7 +2,7 @@
 use Rattle.std.specs.Prelude.{Option, Some, None}
 use Rattle.std.specs.Map.{lookup}
 use Rattle.ini_trees.specs.declared.entry.EntryValue.{EntryValue}
-use Rattle.param_values.specs.Settings.{Given, Fixed, Default, Declared, Setting}
+use Rattle.param_values.specs.Settings.{Given, Fixed, Default, Declared, ParameterRules}
 use Rattle.param_values.specs.Values.{same_key}
 use Rattle.check_rows.specs.declared.scene.Row.{Row}
 use Rattle.check_rows.specs.declared.scene.Rows.{Rows}
@@ -22,7 +22,7 @@ abbrev pub entry_in : Option Row → Option EntryValue
 entry_in None = None
 entry_in (Some r) = r.entry
 
-abbrev pub setting_of : Rows → Setting
+abbrev pub setting_of : Rows → ParameterRules
 setting_of t = record {
   declared = λ k. declared_in (lookup (same_key k) t.rows.entries);
   entry = λ k. entry_in (lookup (same_key k) t.rows.entries);

@@ -7,7 +7,7 @@ use crate::tree_rows::tell_tree;
 use crate::words::{tell_names, written};
 use ini_pattern::Pattern;
 use ini_trees::entry::{EntryMeaning, EntryValue};
-use ini_trees::lines::{Entry, IniLine, LineMeaning};
+use ini_trees::lines::{IniEntry, IniLine, LineMeaning};
 use ned_trees::expressions::Expression;
 use sim_values::text::Text;
 use std::alloc::Global;
@@ -66,7 +66,7 @@ fn tell_said(told: &mut Telling, meaning: &EntryMeaning) {
 }
 
 /// Tells the key and the value of an entry, and what it says.
-fn tell_entry(told: &mut Telling, entry: &Entry) {
+fn tell_entry(told: &mut Telling, entry: &IniEntry) {
     told.text(written(&entry.key));
     told.text(" = ");
     told.text(written(&entry.value));

@@ -5,7 +5,7 @@ ghost use Rattle.check_rows.specs.declared.numbers.Fault.TheVariants as fault;
 ghost use Rattle.check_rows.specs.Numbers.{sum, asked_of, goes_on, weight, same_is};
 
 use param_engine::asker::Asker;
-use param_engine::turn::Turn;
+use param_engine::turn::EngineStep;
 use sim_values::NoMemory;
 use std::alloc::Global;
 
@@ -52,12 +52,12 @@ pub enum Evaluation<'m> {
 }
 
 /// The sum of two numbers.
-fn sum(left: u64, right: u64) -> Turn<usize, u64, Fault>
+fn sum(left: u64, right: u64) -> EngineStep<usize, u64, Fault>
     ensures { result ≡ sum left right }
 {
     match left.checked_add(right) {
-        Some(number) => Turn::Done(number),
-        None => Turn::Fault(Fault::Overflow),
+        Some(number) => EngineStep::Done(number),
+        None => EngineStep::Fault(Fault::Overflow),
     }
 }
 
@@ -86,13 +86,13 @@ impl<'m> Asker for Numbers<'m> {
         &self,
         _alloc: Global,
         key: &usize,
-    ) -> Result<(Evaluation<'m>, Turn<usize, u64, Fault>), NoMemory> {
+    ) -> Result<(Evaluation<'m>, EngineStep<usize, u64, Fault>), NoMemory> {
         Ok(match self.rules.get(*key) {
-            None => (Evaluation::Over, Turn::Fault(Fault::Missing)),
-            Some(Rule::Number(number)) => (Evaluation::Over, Turn::Done(*number)),
-            Some(Rule::Next(before)) => (Evaluation::Next, Turn::Ask(*before)),
-            Some(Rule::Sum(first, second)) => (Evaluation::First(second), Turn::Ask(*first)),
-            Some(Rule::Broken) => (Evaluation::Over, Turn::Fault(Fault::Broken)),
+            None => (Evaluation::Over, EngineStep::Fault(Fault::Missing)),
+            Some(Rule::Number(number)) => (Evaluation::Over, EngineStep::Done(*number)),
+            Some(Rule::Next(before)) => (Evaluation::Next, EngineStep::Ask(*before)),
+            Some(Rule::Sum(first, second)) => (Evaluation::First(second), EngineStep::Ask(*first)),
+            Some(Rule::Broken) => (Evaluation::Over, EngineStep::Fault(Fault::Broken)),
         })
     }
 
@@ -101,7 +101,7 @@ impl<'m> Asker for Numbers<'m> {
         _alloc: Global,
         evaluation: &mut Evaluation<'m>,
         value: &u64,
-    ) -> Result<Turn<usize, u64, Fault>, NoMemory> {
+    ) -> Result<EngineStep<usize, u64, Fault>, NoMemory> {
         match *evaluation {
             Evaluation::Next => {
                 *evaluation = Evaluation::Over;
@@ -109,13 +109,13 @@ impl<'m> Asker for Numbers<'m> {
             }
             Evaluation::First(second) => {
                 *evaluation = Evaluation::Second(*value);
-                Ok(Turn::Ask(*second))
+                Ok(EngineStep::Ask(*second))
             }
             Evaluation::Second(first) => {
                 *evaluation = Evaluation::Over;
                 Ok(sum(first, *value))
             }
-            Evaluation::Over => Ok(Turn::Done(*value)),
+            Evaluation::Over => Ok(EngineStep::Done(*value)),
         }
     }
 

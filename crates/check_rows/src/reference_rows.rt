@@ -9,7 +9,7 @@ use crate::scene::Rows;
 use crate::scene_rows::{Line, WHOLE, add, tell_lone, tell_value};
 use ned_leaves::error::NedError;
 use param_engine::table::Table;
-use param_eval::fault::Fault;
+use param_eval::fault::ValueFault;
 use param_values::key::Key;
 use param_values::values::{empty_table, parameter_value};
 use sim_values::NoMemory;
@@ -60,7 +60,7 @@ fn add_chain(
 fn tell_found(
     told: &mut String,
     table: &Table<Key, Value>,
-    found: Result<usize, Fault>,
+    found: Result<usize, ValueFault>,
 ) -> Result<(), AllocError> {
     match found {
         Ok(place) => match table.value(place) {

@@ -9,7 +9,7 @@ use ini_trees::entry::EntryValue;
 use ned_trees::expressions::Expression;
 use param_values::key::Key;
 use param_values::kind::Kind;
-use param_values::scene::{Given, Parameter, Scene, Section, Written};
+use param_values::scene::{DeclaredParameter, Given, ParameterSource, Section, Written};
 use sim_values::NoMemory;
 use std::alloc::Global;
 
@@ -55,12 +55,12 @@ fn told(said: &Said) -> Option<Given<'_>>
     }
 }
 
-impl Scene for Rows {
+impl ParameterSource for Rows {
     ghost setting = { setting_of };
 
-    fn parameter(&self, key: &Key) -> Option<Parameter<'_>> {
+    fn parameter(&self, key: &Key) -> Option<DeclaredParameter<'_>> {
         let row = self.rows.get(key)?;
-        Some(Parameter {
+        Some(DeclaredParameter {
             kind: row.kind,
             parent: row.parent,
             given: told(&row.said),

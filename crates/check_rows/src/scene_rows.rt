@@ -6,7 +6,7 @@ use crate::scene::{Row, Rows, Said, both};
 use ini_trees::entry::EntryValue;
 use ned_expressions::parse::parse_expression;
 use ned_leaves::error::NedError;
-use param_eval::fault::Fault;
+use param_eval::fault::ValueFault;
 use param_values::key::Key;
 use param_values::kind::Kind;
 use param_values::scene::Section;

@@ -9,7 +9,7 @@ use crate::tree_rows::tell_literal;
 use ned_expressions::parse::parse_expression;
 use ned_trees::expressions::{Expression, Scope};
 use param_eval::evaluation::evaluate;
-use param_eval::fault::Fault;
+use param_eval::fault::ValueFault;
 use param_eval::names::{Name, Names};
 use sim_values::NoMemory;
 use sim_values::text::Text;
@@ -20,7 +20,7 @@ use std::alloc::Global;
 struct Example;
 
 /// A parameter of a bare name.
-fn own(name: &[u8]) -> Result<Value, Fault>
+fn own(name: &[u8]) -> Result<Value, ValueFault>
     ensures { result ≡ example.own name.now }
 {
     if name == b"count".as_slice() {
@@ -32,9 +32,9 @@ fn own(name: &[u8]) -> Result<Value, Fault>
     } else if name == b"least".as_slice() {
         Ok(Value::Whole(i64::MIN))
     } else if name == b"round".as_slice() {
-        Err(Fault::Circle)
+        Err(ValueFault::Circle)
     } else {
-        Err(Fault::Unassigned)
+        Err(ValueFault::Unassigned)
     }
 }
 
@@ -50,7 +50,11 @@ fn joined(alloc: Global, first: &[u8], second: &[u8]) -> Result<Text, NoMemory>
 impl Names for Example {
     ghost meaning = { λ _ r. example.meaning r };
 
-    fn value_of(&self, alloc: Global, name: Name<'_>) -> Result<Result<Value, Fault>, NoMemory> {
+    fn value_of(
+        &self,
+        alloc: Global,
+        name: Name<'_>,
+    ) -> Result<Result<Value, ValueFault>, NoMemory> {
         Ok(match name {
             Name::Own(x) => own(x.as_bytes()),
             Name::Scoped(Scope::This, x) => Ok(Value::Text(joined(alloc, b"this", x.as_bytes())?)),
@@ -63,7 +67,7 @@ impl Names for Example {
             Name::Element(_, index, _) => Ok(Value::Whole(index)),
             Name::Index => Ok(Value::Whole(5)),
             Name::ParentIndex => Ok(Value::Whole(7)),
-            Name::Sizeof(_) => Err(Fault::Unassigned),
+            Name::Sizeof(_) => Err(ValueFault::Unassigned),
             Name::Exists(sub) => Ok(Value::Truth(sub.is(b"sub"))),
             Name::ExistsAt(_, index) => Ok(Value::Truth(index < 3)),
         })

@@ -4,8 +4,8 @@
 -- records has a blank in it, which is none of a scalar.
 use Rattle.std.specs.Prelude.{ℕ, ℤ, pos, neg_ℤ, Bool, true, false, ◌||◌, List, [], ◌∷◌, IsTrue, codes, refl, if◌then◌else◌}
 use Rattle.std.specs.Str.{bytes_eq}
-use Rattle.module_api.specs.declared.call.Prompt.{Prompt}
-use Rattle.module_api.specs.declared.call.Prompt.TheVariants as prompt
+use Rattle.module_api.specs.declared.call.CallReason.{CallReason}
+use Rattle.module_api.specs.declared.call.CallReason.TheVariants as prompt
 use Rattle.module_api.specs.declared.reply.Action.{Action}
 use Rattle.module_api.specs.declared.reply.Action.TheVariants.{Emit, RecordScalar}
 use Rattle.module_api.specs.Behaviour.{Naming, Behaviour}
@@ -13,14 +13,14 @@ use Rattle.module_api.specs.Laws.{law_of_reads, KeepsStates, IsLawful}
 use Rattle.module_api.specs.Meaning.{Module}
 use Rattle.module_parts.specs.Replies.{timer_set}
 
-abbrev pub clerk_actions : Prompt → List Action
+abbrev pub clerk_actions : CallReason → List Action
 clerk_actions (prompt.Initialize stage) =
     RecordScalar (codes "opened") (neg_ℤ (pos 3)) ∷ Emit (codes "noted") (pos 9223372036854775807) ∷ Emit (codes "noted") (pos 9223372036854775807)
     ∷ timer_set 0 (pos 0) ∷ []
 clerk_actions (prompt.Message message) = RecordScalar (codes "heard") (pos 1) ∷ []
 clerk_actions prompt.Finish = RecordScalar (codes "x") (pos 7) ∷ []
 
-abbrev pub scribe_actions : Prompt → List Action
+abbrev pub scribe_actions : CallReason → List Action
 scribe_actions (prompt.Initialize stage) = RecordScalar (codes "a b") (pos 1) ∷ []
 scribe_actions (prompt.Message message) = []
 scribe_actions prompt.Finish = []
@@ -31,7 +31,7 @@ only true name value = RecordScalar name value ∷ []
 only false name value = []
 
 -- one stage, no state, and these actions for what it is called for
-abbrev pub acting : (Prompt → List Action) → Naming
+abbrev pub acting : (CallReason → List Action) → Naming
 acting actions = record {
   stages = 1;
   is_state = λ state. bytes_eq state [];
@@ -43,7 +43,7 @@ abbrev pub kind_of : Bool → List ℕ
 kind_of true = codes "Clerk"
 kind_of false = codes "Scribe"
 
-abbrev pub actions_of : Bool → Prompt → List Action
+abbrev pub actions_of : Bool → CallReason → List Action
 actions_of true = clerk_actions
 actions_of false = scribe_actions
 

@@ -1,7 +1,7 @@
 //! Result files: their header, and devices that fail.
 
 use ini_trees::entry::EntryMeaning;
-use ini_trees::lines::{Entry, IniLine, LineMeaning};
+use ini_trees::lines::{IniEntry, IniLine, LineMeaning};
 use recorders::scalar_line::ScalarLine;
 use recorders::vector_line::VectorLine;
 use result_files::files::{ResultFiles, write_scalars, write_vectors};
@@ -44,7 +44,7 @@ fn option_line(alloc: Global, key: &str, value: &str) -> Result<IniLine, AllocEr
     let key = Text::from_str(alloc, key)?;
     let value = Text::from_str(alloc, value)?;
     let meaning = EntryMeaning::Network(Text::empty(alloc));
-    let meaning = LineMeaning::Entry(Entry {
+    let meaning = LineMeaning::Entry(IniEntry {
         key,
         value,
         meaning,

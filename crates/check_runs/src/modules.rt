@@ -8,7 +8,7 @@ ghost use Rattle.module_parts.specs.Numbers.{read_number, state_of};
 
 mod rows;
 
-use module_api::call::Prompt;
+use module_api::call::CallReason;
 use module_api::catalogue::Catalogue;
 use module_api::message::Origin;
 use module_api::reply::Reply;
@@ -65,13 +65,13 @@ fn reply_to(
     alloc: Global,
     held: &mut Box<dyn SimpleModule>,
     rows: &[Row],
-    prompt: Prompt,
+    prompt: CallReason,
 ) -> Result<Reply, NoMemory> {
     let call = call_of(alloc, rows, prompt)?;
     match call.prompt {
-        Prompt::Initialize(_) => held.initialize(alloc, &call),
-        Prompt::Message(_) => held.handle_message(alloc, &call),
-        Prompt::Finish => held.finish(alloc, &call),
+        CallReason::Initialize(_) => held.initialize(alloc, &call),
+        CallReason::Message(_) => held.handle_message(alloc, &call),
+        CallReason::Finish => held.finish(alloc, &call),
     }
 }
 
@@ -80,7 +80,7 @@ fn told(
     alloc: Global,
     held: &mut Box<dyn SimpleModule>,
     rows: &[Row],
-    prompt: Prompt,
+    prompt: CallReason,
 ) -> Result<String, NoMemory> {
     let reply = reply_to(alloc, held, rows, prompt)?;
     Ok(text_of(alloc, &reply)?)
@@ -88,9 +88,9 @@ fn told(
 
 /// What calls a box at a place in a list of calls: the first one initializes it, the others are
 /// timers.
-fn prompt_at(alloc: Global, at: usize) -> Prompt {
+fn prompt_at(alloc: Global, at: usize) -> CallReason {
     if at == 0 {
-        Prompt::Initialize(0)
+        CallReason::Initialize(0)
     } else {
         message_from(alloc, Origin::Timer(0))
     }
@@ -157,7 +157,7 @@ fn tick_counts(rt: HostRuntime) -> Result<(), Fail> {
     let mut held = boxed_tick(alloc)?;
     let rows = COUNTING.as_slice();
     replies(&rt, alloc, &mut held, rows, COUNTED.as_slice())?;
-    let last = told(alloc, &mut held, rows, Prompt::Finish)?;
+    let last = told(alloc, &mut held, rows, CallReason::Finish)?;
     assert_eq!(rt; last.as_str(), ":");
     Ok(())
 }

@@ -9,16 +9,16 @@ ghost use Rattle.transcripts.specs.Heard as heards;
 use crate::scenario::{Scenario, file_in};
 use checkpoint_runs::observer::Unobserved;
 use desk_answers::answers::refusal_text;
-use desk_client::clients::{Client, Gone, Page, Pages, Stop};
-use desk_client::told::Told;
+use desk_client::clients::{Client, Gone, Page, Pages, ServeEnd};
+use desk_client::told::AnswerContent;
 use desk_server::serving::serve;
-use input_texts::noted::Noted;
+use input_texts::noted::GhostBytes;
 use model_reading::begin::BeginFault;
 use result_lines::buffer::Buffer;
 use sim_values::NoMemory;
 use sim_values::text::Text;
 use std::alloc::Global;
-use transcripts::asked::Asked;
+use transcripts::asked::AskedLine;
 use transcripts::transcript::Transcript;
 
 /// Writes a line, and its end.
@@ -49,8 +49,8 @@ fn file_asked(line: &[u8]) -> Option<Page> {
 }
 
 /// Whether an answer tells that files are written.
-fn is_written(told: &Told) -> bool {
-    matches!(told, Told::Written)
+fn is_written(told: &AnswerContent) -> bool {
+    matches!(told, AnswerContent::Written)
 }
 
 /// Asks the lines of a scenario, and writes down what comes of each.
@@ -100,7 +100,7 @@ impl<'a> Player<'a> {
     }
 
     /// Asks that line.
-    fn ask(&mut self, line: &[u8]) -> Result<Option<Asked>, Gone>
+    fn ask(&mut self, line: &[u8]) -> Result<Option<AskedLine>, Gone>
         ensures asked { IfOk result (λ next. IfSome next (λ a. self.new.transcript.asked ≡ self.old.transcript.asked ++ a ∷ [])) }
         ensures some { IfOk result (λ next. IsSome next) }
         ensures none { OnErr result (self.new.transcript.asked ≡ self.old.transcript.asked) }
@@ -111,7 +111,7 @@ impl<'a> Player<'a> {
         match Text::from_bytes(self.alloc, line) {
             Ok(text) => {
                 self.transcript.asks_line(text.as_bytes());
-                Ok(Some(Asked::Line(text)))
+                Ok(Some(AskedLine::Line(text)))
             }
             Err(error) => Err(self.gone(error.into())),
         }
@@ -165,7 +165,7 @@ impl Client<Buffer> for Player<'_> {
 
     ghost stops = { λ player why. at_stop (player.lines.now ≡ []) (IsSome player.error) (λ page written. player.lost ≡ Some (page, written)) why };
 
-    fn next(&mut self) -> Result<Option<Asked>, Gone> {
+    fn next(&mut self) -> Result<Option<AskedLine>, Gone> {
         match self.lines {
             [] => Ok(None),
             [line, rest @ ..] => {
@@ -180,7 +180,7 @@ impl Client<Buffer> for Player<'_> {
         }
     }
 
-    fn hear(&mut self, answer: &[u8], told: &Told) -> Result<(), Gone> {
+    fn hear(&mut self, answer: &[u8], told: &AnswerContent) -> Result<(), Gone> {
         match self.tell(answer, is_written(told)) {
             Ok(()) => {
                 self.transcript.hears(answer);
@@ -222,7 +222,7 @@ impl Client<Buffer> for Player<'_> {
         ensures asked { self.new.transcript.asked ≡ self.old.transcript.asked }
         ensures left { length self.new.lines.now ≡ length self.old.lines.now }
     {
-        let mut name = Noted::new();
+        let mut name = GhostBytes::new();
         name.note(config);
         Ok(Pages {
             config: name,
@@ -244,9 +244,9 @@ impl Client<Buffer> for Player<'_> {
     {
         match self.tell_file(&pages) {
             Ok(()) => {
-                let mut scalars = Noted::new();
+                let mut scalars = GhostBytes::new();
                 scalars.note(pages.scalars.as_bytes());
-                let mut vectors = Noted::new();
+                let mut vectors = GhostBytes::new();
                 vectors.note(pages.vectors.as_bytes());
                 self.transcript
                     .hears_files(&pages.config, &scalars, &vectors);
@@ -281,11 +281,11 @@ fn refused(alloc: Global, fault: BeginFault) -> Result<Vec<u8>, NoMemory> {
 }
 
 /// What a player wrote down who was served; where a file had no room, that is said at the end.
-fn told_by(player: Player<'_>, stop: Stop) -> Result<Vec<u8>, NoMemory> {
+fn told_by(player: Player<'_>, stop: ServeEnd) -> Result<Vec<u8>, NoMemory> {
     let mut told = player.into_told()?;
     match stop {
-        Stop::End => {}
-        Stop::Gone | Stop::Device(_, _) => say(&mut told, b"no room".as_slice())?,
+        ServeEnd::End => {}
+        ServeEnd::Gone | ServeEnd::Device(_, _) => say(&mut told, b"no room".as_slice())?,
     }
     Ok(told)
 }

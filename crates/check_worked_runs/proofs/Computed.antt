@@ -3,19 +3,19 @@ use Rattle.std.proofs.Common.{◌≡◌, ◌∙◌, ℕ, List, Option, Some, Non
 use Rattle.ned_trees.specs.declared.declarations.TypeDeclaration.{TypeDeclaration}
 use Rattle.ned_trees.specs.declared.declarations.TypeKind.{TypeKind}
 use Rattle.ned_trees.specs.declared.declarations.TypeKind.TheVariants as kind
-use Rattle.inside_parts.specs.declared.fault.Fault.{Fault}
+use Rattle.inside_parts.specs.declared.fault.InsideFault.{InsideFault}
 use Rattle.inside_keys.specs.declared.found.Found.{Found}
 use Rattle.inside_keys.specs.declared.key.Key.{Key}
 use Rattle.inside_keys.specs.declared.key.What.TheVariants as what
 use Rattle.inside_keys.specs.Blamed.{placed}
 use Rattle.inside_keys.specs.Keys.{key}
-use Rattle.inside_keys.specs.Settings.{Setting}
+use Rattle.inside_keys.specs.Settings.{ModuleRules}
 use Rattle.inside_keys.specs.Values.{asking_of, value_at}
 use Rattle.model_data.specs.declared.model.Model.{Model}
 use Rattle.model_questions.specs.declared.answer.Answer.{Answer}
 use Rattle.model_questions.specs.declared.answer.Answer.TheVariants as answer
 use Rattle.model_questions.specs.Answers.{Answers}
-use Rattle.model_questions.specs.Records.{Place, path_along}
+use Rattle.model_questions.specs.Records.{Lineage, path_along}
 use Rattle.model_settings.specs.Standings.{setting_of}
 use Rattle.model_answers.specs.Answering.{answers_of}
 use Rattle.model_answers.specs.Insides.{built_answer, inside_answer, inside_by}
@@ -24,14 +24,14 @@ use Rattle.check_worked_runs.proofs.Literals.{alike, asks_of, value_by, value_so
 
 -- ---- answers where keys have these values
 
-abbrev pub value_with : (Key → Result Found Fault) → List ℕ → Option TypeDeclaration → List ℕ → Answer
+abbrev pub value_with : (Key → Result Found InsideFault) → List ℕ → Option TypeDeclaration → List ℕ → Answer
 value_with values path None name = answer.Absent
 value_with values path (Some t) name = value_answer path (values (key (module_at path) (what.Param name)))
 
-abbrev pub found_with : (Key → Result Found Fault) → Setting → List ℕ → Result Found (List ℕ × Fault)
+abbrev pub found_with : (Key → Result Found InsideFault) → ModuleRules → List ℕ → Result Found (List ℕ × InsideFault)
 found_with values s path = placed values (module_at path) (s.stands (module_at path)).around (asking_of s (key (module_at path) what.Inside))
 
-abbrev pub inside_kind : (Key → Result Found Fault) → Setting → List ℕ → TypeDeclaration → TypeKind → Answer
+abbrev pub inside_kind : (Key → Result Found InsideFault) → ModuleRules → List ℕ → TypeDeclaration → TypeKind → Answer
 inside_kind values s path t kind.Network = built_answer s path t (found_with values s path)
 inside_kind values s path t kind.Module = built_answer s path t (found_with values s path)
 inside_kind values s path t kind.Simple = answer.Absent
@@ -39,14 +39,14 @@ inside_kind values s path t kind.Channel = answer.Absent
 inside_kind values s path t kind.ModuleInterface = answer.Absent
 inside_kind values s path t kind.ChannelInterface = answer.Absent
 
-abbrev pub inside_with : (Key → Result Found Fault) → Setting → List ℕ → Option TypeDeclaration → Answer
+abbrev pub inside_with : (Key → Result Found InsideFault) → ModuleRules → List ℕ → Option TypeDeclaration → Answer
 inside_with values s path t = typed t (λ u. inside_kind values s path u u.kind)
 
-value_same : (s : Setting) (path : List ℕ) (t : Option TypeDeclaration) (name : List ℕ) → param_answer s path t name ≡ value_with (value_at s) path t name
+value_same : (s : ModuleRules) (path : List ℕ) (t : Option TypeDeclaration) (name : List ℕ) → param_answer s path t name ≡ value_with (value_at s) path t name
 value_same s path None name = refl
 value_same s path (Some t) name = refl
 
-kind_same : (s : Setting) (path : List ℕ) (t : TypeDeclaration) (k : TypeKind) → inside_by s path t k ≡ inside_kind (value_at s) s path t k
+kind_same : (s : ModuleRules) (path : List ℕ) (t : TypeDeclaration) (k : TypeKind) → inside_by s path t k ≡ inside_kind (value_at s) s path t k
 kind_same s path t kind.Network = refl
 kind_same s path t kind.Module = refl
 kind_same s path t kind.Simple = refl
@@ -54,23 +54,23 @@ kind_same s path t kind.Channel = refl
 kind_same s path t kind.ModuleInterface = refl
 kind_same s path t kind.ChannelInterface = refl
 
-inside_same : (s : Setting) (path : List ℕ) (t : Option TypeDeclaration) → inside_answer s path t ≡ inside_with (value_at s) s path t
+inside_same : (s : ModuleRules) (path : List ℕ) (t : Option TypeDeclaration) → inside_answer s path t ≡ inside_with (value_at s) s path t
 inside_same s path None = refl
 inside_same s path (Some t) = kind_same s path t t.kind
 
 -- ---- the same, where literals compute
 
-values_are : (s : Setting) → value_at s ≡ value_by (asks_of s)
+values_are : (s : ModuleRules) → value_at s ≡ value_by (asks_of s)
 values_are s = alike (value_at s) (value_by (asks_of s)) (value_so s)
 
-value_is : (s : Setting) (path : List ℕ) (t : Option TypeDeclaration) (name : List ℕ) → param_answer s path t name ≡ value_with (value_by (asks_of s)) path t name
-value_is s path t name = value_same s path t name ∙ ap (λ (v : Key → Result Found Fault). value_with v path t name) (values_are s)
+value_is : (s : ModuleRules) (path : List ℕ) (t : Option TypeDeclaration) (name : List ℕ) → param_answer s path t name ≡ value_with (value_by (asks_of s)) path t name
+value_is s path t name = value_same s path t name ∙ ap (λ (v : Key → Result Found InsideFault). value_with v path t name) (values_are s)
 
-inside_is : (s : Setting) (path : List ℕ) (t : Option TypeDeclaration) → inside_answer s path t ≡ inside_with (value_by (asks_of s)) s path t
-inside_is s path t = inside_same s path t ∙ ap (λ (v : Key → Result Found Fault). inside_with v s path t) (values_are s)
+inside_is : (s : ModuleRules) (path : List ℕ) (t : Option TypeDeclaration) → inside_answer s path t ≡ inside_with (value_by (asks_of s)) s path t
+inside_is s path t = inside_same s path t ∙ ap (λ (v : Key → Result Found InsideFault). inside_with v s path t) (values_are s)
 
 -- the answers of a model, with these of what is inside and of values
-abbrev pub answers_with : Model → (Place → Answer) → (Place → List ℕ → Answer) → Answers
+abbrev pub answers_with : Model → (Lineage → Answer) → (Lineage → List ℕ → Answer) → Answers
 answers_with m f g = record {
   root = (answers_of m).root;
   inside = f;
@@ -83,10 +83,10 @@ answers_with m f g = record {
   injections = (answers_of m).injections;
 }
 
-abbrev pub insides : Model → Place → Answer
+abbrev pub insides : Model → Lineage → Answer
 insides m p = inside_with (value_by (asks_of (setting_of m))) (setting_of m) (path_along p) (type_in (setting_of m) p)
 
-abbrev pub values : Model → Place → List ℕ → Answer
+abbrev pub values : Model → Lineage → List ℕ → Answer
 values m p name = value_with (value_by (asks_of (setting_of m))) (path_along p) (type_in (setting_of m) p) name
 
 abbrev pub computed : Model → Answers
@@ -95,13 +95,13 @@ computed m = answers_with m (insides m) (values m)
 insides_are : (m : Model) → (answers_of m).inside ≡ insides m
 unfolding answers_of
 insides_are m =
-    alike (λ (p : Place). inside_answer (setting_of m) (path_along p) (type_in (setting_of m) p)) (insides m)
+    alike (λ (p : Lineage). inside_answer (setting_of m) (path_along p) (type_in (setting_of m) p)) (insides m)
     (λ p. inside_is (setting_of m) (path_along p) (type_in (setting_of m) p))
 
 values_so : (m : Model) → (answers_of m).value ≡ values m
 unfolding answers_of
 values_so m =
-    alike (λ (p : Place). param_answer (setting_of m) (path_along p) (type_in (setting_of m) p)) (values m) (λ p.
+    alike (λ (p : Lineage). param_answer (setting_of m) (path_along p) (type_in (setting_of m) p)) (values m) (λ p.
     alike (λ (name : List ℕ). param_answer (setting_of m) (path_along p) (type_in (setting_of m) p) name) (values m p)
     (λ name. value_is (setting_of m) (path_along p) (type_in (setting_of m) p) name))
 
@@ -111,5 +111,5 @@ same_answers m = refl
 
 pub answers_are : (m : Model) → answers_of m ≡ computed m
 answers_are m =
-    same_answers m ∙ ap (λ (f : Place → Answer). answers_with m f (answers_of m).value) (insides_are m)
-    ∙ ap (λ (g : Place → List ℕ → Answer). answers_with m (insides m) g) (values_so m)
+    same_answers m ∙ ap (λ (f : Lineage → Answer). answers_with m f (answers_of m).value) (insides_are m)
+    ∙ ap (λ (g : Lineage → List ℕ → Answer). answers_with m (insides m) g) (values_so m)

@@ -5,7 +5,7 @@ use Rattle.module_api.specs.Meaning.{Module, IsFresh}
 use Rattle.model_questions.specs.Answers.{Answers}
 use Rattle.model_questions.specs.declared.record.Record.{Record}
 use Rattle.model_questions.specs.Records.{path_of}
-use Rattle.run_semantics.specs.declared.outcome.Fault.TheVariants.{UnknownClass}
+use Rattle.run_semantics.specs.declared.outcome.RunFault.TheVariants.{UnknownClass}
 use Rattle.run_semantics.specs.declared.outcome.Outcome.{Outcome}
 use Rattle.run_semantics.specs.declared.outcome.Outcome.TheVariants as outcomes
 use Rattle.run_semantics.specs.declared.traces.Instance.{Instance}
@@ -17,7 +17,7 @@ use Rattle.run_semantics.proofs.Ends.{run_over}
 use Rattle.run_semantics.proofs.Placing.{IsBuilt, needs_all, prepared_built}
 use Rattle.run_semantics.proofs.Setting.{IsLasting, Stays, prepared_stays}
 use Rattle.kernel.specs.declared.request.Request.{Request}
-use Rattle.kernel_boxes.specs.Seats.{Seat, AreBelow, instance_of}
+use Rattle.kernel_boxes.specs.Seats.{BoxAt, AreBelow, instance_of}
 use Rattle.kernel.specs.Seats.{AreFirst, AreFresh, missing_part, missing_of, request_for}
 use Rattle.kernel_boxes.specs.Staying.{first_without}
 use Rattle.kernel.proofs.Behind.{parts_rise}
@@ -57,7 +57,7 @@ running_on (Stopped v) w h e = absurd h
 running_on (Broken v path f) w h e = cc
 
 -- set up, without a box
-pub filled_first : (b : Behaviour) (m : Answers) (w : World) (xs : List Seat) → xs ≡ [] → Running w ≡ settled (prepared m) → IsFilled b m w xs
+pub filled_first : (b : Behaviour) (m : Answers) (w : World) (xs : List BoxAt) → xs ≡ [] → Running w ≡ settled (prepared m) → IsFilled b m w xs
 filled_first b m w xs none e =
     let r = running_on (prepared m) w (prepared_goes m) e in
     let built : IsBuilt w = subst (Stays IsBuilt) r.0 (prepared_built m) in
@@ -109,12 +109,12 @@ over_boxes b (On v) w outcome e = cc
 over_boxes b (Stopped v) w outcome e = cc
 over_boxes b (Broken v path f) w outcome e = refl
 
-pub setup_boxes : (b : Behaviour) (m : Answers) (w : World) (xs : List Seat) (outcome : Outcome) → xs ≡ [] → Over w outcome ≡ settled (prepared m) → parts_in xs ≡ boxes_of b (prepared m) []
+pub setup_boxes : (b : Behaviour) (m : Answers) (w : World) (xs : List BoxAt) (outcome : Outcome) → xs ≡ [] → Over w outcome ≡ settled (prepared m) → parts_in xs ≡ boxes_of b (prepared m) []
 setup_boxes b m w xs outcome none e = ap parts_in none ∙ over_boxes b (prepared m) w outcome e
 
 -- ---- what is wanted
 
-pub filled_wants : (b : Behaviour) (m : Answers) (w : World) (xs : List Seat) → IsFilled b m w xs → missing_of w (parts_in xs) ≡ wanted_by m (parts_in xs)
+pub filled_wants : (b : Behaviour) (m : Answers) (w : World) (xs : List BoxAt) → IsFilled b m w xs → missing_of w (parts_in xs) ≡ wanted_by m (parts_in xs)
 filled_wants b m w xs filled = ap (λ (fl : Flow). wanted_after fl (parts_in xs)) filled.prepared_is
 
 none_part : {A B : Type 0} (f : A → B) (o : Option A) → option_map f o ≡ None → o ≡ None
@@ -126,11 +126,11 @@ some_part f None y e = cc
 some_part f (Some x) y e = (x, refl, cc)
 
 -- the boxes are of the first so many of the modules that need one
-filled_parts : (b : Behaviour) (m : Answers) (w : World) (xs : List Seat) → IsFilled b m w xs → parts_in xs ≡ take (length xs) (needs w)
+filled_parts : (b : Behaviour) (m : Answers) (w : World) (xs : List BoxAt) → IsFilled b m w xs → parts_in xs ≡ take (length xs) (needs w)
 filled_parts b m w xs filled = fresh_standing b (take (length xs) (needs w)) xs filled.first
 
 -- so the one that is wanted is the next one
-filled_missing : (b : Behaviour) (m : Answers) (w : World) (xs : List Seat) → IsFilled b m w xs → missing_part w (parts_in xs) ≡ slice_get (needs w) (length xs)
+filled_missing : (b : Behaviour) (m : Answers) (w : World) (xs : List BoxAt) → IsFilled b m w xs → missing_part w (parts_in xs) ≡ slice_get (needs w) (length xs)
 filled_missing b m w xs filled =
     ap (λ boxes. first_without boxes (needs w)) (filled_parts b m w xs filled)
     ∙ subst (λ ps. first_without (take (length xs) ps) ps ≡ slice_get ps (length xs)) (sym filled.unstarted)
@@ -143,7 +143,7 @@ take_none (p ∷ ps) zero e = cc
 take_none (p ∷ ps) (suc n) e = ap (λ qs. p ∷ qs) (take_none ps n e)
 
 -- all boxes are there
-pub filled_ready : (b : Behaviour) (m : Answers) (w : World) (xs : List Seat) → IsFilled b m w xs → missing_of w (parts_in xs) ≡ None → CanStart b m w xs
+pub filled_ready : (b : Behaviour) (m : Answers) (w : World) (xs : List BoxAt) → IsFilled b m w xs → missing_of w (parts_in xs) ≡ None → CanStart b m w xs
 filled_ready b m w xs filled e =
     let none : slice_get (needs w) (length xs) ≡ None = sym (filled_missing b m w xs filled) ∙ none_part (request_for w) (missing_part w (parts_in xs)) e in
     record {
@@ -166,7 +166,7 @@ whole_over b m limit w outcome e =
 -- ---- a box is supplied, or there is none
 
 -- the part that a request is for
-requested : (w : World) (xs : List Seat) (r : Request) → missing_of w (parts_in xs) ≡ Some r → (p : Part) × (missing_part w (parts_in xs) ≡ Some p) × (r ≡ request_for w p)
+requested : (w : World) (xs : List BoxAt) (r : Request) → missing_of w (parts_in xs) ≡ Some r → (p : Part) × (missing_part w (parts_in xs) ≡ Some p) × (r ≡ request_for w p)
 requested w xs r e = some_part (request_for w) (missing_part w (parts_in xs)) r e
 
 take_more : (ps : List Part) (n : ℕ) (p : Part) → slice_get ps n ≡ Some p → take (suc n) ps ≡ take n ps ++ p ∷ []
@@ -178,17 +178,17 @@ length_more : {X : Type 0} (xs : List X) (x : X) → length (xs ++ x ∷ []) ≡
 length_more [] x = refl
 length_more (y ∷ xs) x = ap suc (length_more xs x)
 
-fresh_more : (b : Behaviour) (ps : List Part) (xs : List Seat) (p : Part) (s : Seat) → AreFresh b ps xs → s.id ≡ p.id → IsFresh b p.kind s.box → AreFresh b (ps ++ p ∷ []) (xs ++ s ∷ [])
+fresh_more : (b : Behaviour) (ps : List Part) (xs : List BoxAt) (p : Part) (s : BoxAt) → AreFresh b ps xs → s.id ≡ p.id → IsFresh b p.kind s.box → AreFresh b (ps ++ p ∷ []) (xs ++ s ∷ [])
 fresh_more b [] [] p s h id fresh = (id, fresh, tt)
 fresh_more b [] (x ∷ xs) p s h id fresh = absurd h
 fresh_more b (q ∷ ps) [] p s h id fresh = absurd h
 fresh_more b (q ∷ ps) (x ∷ xs) p s h id fresh = (h.0, h.1, fresh_more b ps xs p s h.2 id fresh)
 
 -- one more box
-pub filled_next : (b : Behaviour) (m : Answers) (w : World) (xs ys : List Seat) (r : Request) (box : Module) → IsFilled b m w xs → missing_of w (parts_in xs) ≡ Some r → IsFresh b r.kind box → ys ≡ xs ++ record { id = r.id; box = box } ∷ [] → IsFilled b m w ys
+pub filled_next : (b : Behaviour) (m : Answers) (w : World) (xs ys : List BoxAt) (r : Request) (box : Module) → IsFilled b m w xs → missing_of w (parts_in xs) ≡ Some r → IsFresh b r.kind box → ys ≡ xs ++ record { id = r.id; box = box } ∷ [] → IsFilled b m w ys
 filled_next b m w xs ys r box filled wanted fresh e =
     let q = requested w xs r wanted in
-    let s : Seat = record { id = r.id; box = box } in
+    let s : BoxAt = record { id = r.id; box = box } in
     let at : slice_get (needs w) (length xs) ≡ Some q.0 = sym (filled_missing b m w xs filled) ∙ q.1 in
     let id : r.id ≡ q.0.id = ap (λ (x : Request). x.id) q.2 in
     let kind : r.kind ≡ q.0.kind = ap (λ (x : Request). x.kind) q.2 in
@@ -205,11 +205,11 @@ filled_next b m w xs ys r box filled wanted fresh e =
     }
 
 -- the modules of the boxes with one more
-parts_more : (xs : List Seat) (s : Seat) → parts_in (xs ++ s ∷ []) ≡ parts_in xs ++ record { id = s.id; kind = s.box.kind } ∷ []
+parts_more : (xs : List BoxAt) (s : BoxAt) → parts_in (xs ++ s ∷ []) ≡ parts_in xs ++ record { id = s.id; kind = s.box.kind } ∷ []
 parts_more [] s = refl
 parts_more (x ∷ xs) s = ap (λ (ps : List Part). record { id = x.id; kind = x.box.kind } ∷ ps) (parts_more xs s)
 
-pub supplied_part : (is : List Instance) (xs ys : List Seat) (id : ℕ) (box : Module) → ys ≡ xs ++ record { id = id; box = box } ∷ [] → standing is ++ parts_in ys ≡ (standing is ++ parts_in xs) ++ record { id = id; kind = box.kind } ∷ []
+pub supplied_part : (is : List Instance) (xs ys : List BoxAt) (id : ℕ) (box : Module) → ys ≡ xs ++ record { id = id; box = box } ∷ [] → standing is ++ parts_in ys ≡ (standing is ++ parts_in xs) ++ record { id = id; kind = box.kind } ∷ []
 supplied_part is xs ys id box e =
     ap (λ zs. standing is ++ parts_in zs) e
     ∙ ap (λ ps. standing is ++ ps) (parts_more xs (record { id = id; box = box }))
@@ -248,7 +248,7 @@ before_part k (r ∷ rs) n p e = by r.class n (λ n e. before_part (suc k) rs n 
     by (Some kind) zero later e = tt
     by (Some kind) (suc n) later e = (at_least (suc k) rs n p e, later n e)
 
-pub filled_above : (b : Behaviour) (m : Answers) (w : World) (xs : List Seat) (r : Request) → IsFilled b m w xs → missing_of w (parts_in xs) ≡ Some r → AreBelow r.id (map instance_of xs)
+pub filled_above : (b : Behaviour) (m : Answers) (w : World) (xs : List BoxAt) (r : Request) → IsFilled b m w xs → missing_of w (parts_in xs) ≡ Some r → AreBelow r.id (map instance_of xs)
 filled_above b m w xs r filled wanted =
     let q = requested w xs r wanted in
     let id : r.id ≡ q.0.id = ap (λ (x : Request). x.id) q.2 in
@@ -257,7 +257,7 @@ filled_above b m w xs r filled wanted =
     below_instances r.id (map instance_of xs) (subst (AreBelowPart r.id) (sym parts) (subst (λ i. AreBelowPart i (take (length xs) (parts_of w))) (sym id) (before_part 1 w.records (length xs) q.0 at)))
 
 -- there is none
-pub filled_declined : (b : Behaviour) (m : Answers) (w : World) (xs : List Seat) (r : Request) → IsFilled b m w xs → missing_of w (parts_in xs) ≡ Some r → b.known r.kind ≡ false → IsDeclined b m w xs
+pub filled_declined : (b : Behaviour) (m : Answers) (w : World) (xs : List BoxAt) (r : Request) → IsFilled b m w xs → missing_of w (parts_in xs) ≡ Some r → b.known r.kind ≡ false → IsDeclined b m w xs
 filled_declined b m w xs r filled wanted unknown =
     let q = requested w xs r wanted in
     record {
@@ -268,7 +268,7 @@ filled_declined b m w xs r filled wanted unknown =
     }
 
 -- after modules that have boxes comes one of a class that is not known
-unknown_at : (b : Behaviour) (ps : List Part) (xs : List Seat) (p : Part) → AreFresh b (take (length xs) ps) xs → slice_get ps (length xs) ≡ Some p → b.known p.kind ≡ false → first_unknown b ps ≡ Some p
+unknown_at : (b : Behaviour) (ps : List Part) (xs : List BoxAt) (p : Part) → AreFresh b (take (length xs) ps) xs → slice_get ps (length xs) ≡ Some p → b.known p.kind ≡ false → first_unknown b ps ≡ Some p
 unknown_at b [] xs p h e u = cc
 unknown_at b (q ∷ ps) [] p h e u =
     let same : q ≡ p = cc in
@@ -277,7 +277,7 @@ unknown_at b (q ∷ ps) (x ∷ xs) p h e u =
     let known : b.known q.kind ≡ true = ap b.known (sym h.1.kind) ∙ h.1.of_kind.known in
     rw known (unknown_at b ps xs p h.2 e u)
 
-known_at : (b : Behaviour) (ps : List Part) (xs : List Seat) (p : Part) → AreFresh b (take (length xs) ps) xs → slice_get ps (length xs) ≡ Some p → b.known p.kind ≡ false → known_first b ps ≡ take (length xs) ps
+known_at : (b : Behaviour) (ps : List Part) (xs : List BoxAt) (p : Part) → AreFresh b (take (length xs) ps) xs → slice_get ps (length xs) ≡ Some p → b.known p.kind ≡ false → known_first b ps ≡ take (length xs) ps
 known_at b [] xs p h e u = cc
 known_at b (q ∷ ps) [] p h e u =
     let same : q ≡ p = cc in
@@ -286,18 +286,18 @@ known_at b (q ∷ ps) (x ∷ xs) p h e u =
     let known : b.known q.kind ≡ true = ap b.known (sym h.1.kind) ∙ h.1.of_kind.known in
     rw known (ap (λ qs. q ∷ qs) (known_at b ps xs p h.2 e u))
 
-declined_at : (b : Behaviour) (m : Answers) (w : World) (xs : List Seat) → (d : IsDeclined b m w xs) → slice_get (needs w) (length xs) ≡ Some d.part
+declined_at : (b : Behaviour) (m : Answers) (w : World) (xs : List BoxAt) → (d : IsDeclined b m w xs) → slice_get (needs w) (length xs) ≡ Some d.part
 declined_at b m w xs d = sym (filled_missing b m w xs d.filled) ∙ d.missing
 
 -- THE START CAN'T BE MADE where a box was declined
-pub declined_over : (b : Behaviour) (m : Answers) (w : World) (xs : List Seat) → (d : IsDeclined b m w xs) → Over w (outcomes.Fault w.count (path_of w.records d.part.id) UnknownClass) ≡ start b m
+pub declined_over : (b : Behaviour) (m : Answers) (w : World) (xs : List BoxAt) → (d : IsDeclined b m w xs) → Over w (outcomes.Fault w.count (path_of w.records d.part.id) UnknownClass) ≡ start b m
 declined_over b m w xs d =
     let at = unknown_at b (needs w) xs d.part d.filled.first (declined_at b m w xs d) d.unknown in
     ap (λ o. settled (unless_unknown b (needs w) w o >>= initialize_all b m)) (sym at)
     ∙ ap (λ (fl : Flow). settled ((fl >>= place_parts b) >>= initialize_all b m)) d.filled.prepared_is
 
 -- the same, by the request that is missing
-pub declined_request : (b : Behaviour) (m : Answers) (w : World) (xs : List Seat) (r : Request) → IsDeclined b m w xs → missing_of w (parts_in xs) ≡ Some r → Over w (outcomes.Fault w.count r.path UnknownClass) ≡ start b m
+pub declined_request : (b : Behaviour) (m : Answers) (w : World) (xs : List BoxAt) (r : Request) → IsDeclined b m w xs → missing_of w (parts_in xs) ≡ Some r → Over w (outcomes.Fault w.count r.path UnknownClass) ≡ start b m
 declined_request b m w xs r d e =
     let q = requested w xs r e in
     let same : q.0 ≡ d.part = let both : Some q.0 ≡ Some d.part = sym q.1 ∙ d.missing in cc in
@@ -305,10 +305,10 @@ declined_request b m w xs r d e =
     ap (λ p. Over w (outcomes.Fault w.count p UnknownClass)) path ∙ declined_over b m w xs d
 
 -- there is a request
-pub declined_some : (b : Behaviour) (m : Answers) (w : World) (xs : List Seat) → (d : IsDeclined b m w xs) → missing_of w (parts_in xs) ≡ Some (request_for w d.part)
+pub declined_some : (b : Behaviour) (m : Answers) (w : World) (xs : List BoxAt) → (d : IsDeclined b m w xs) → missing_of w (parts_in xs) ≡ Some (request_for w d.part)
 declined_some b m w xs d = ap (option_map (request_for w)) d.missing
 
-pub declined_boxes : (b : Behaviour) (m : Answers) (w : World) (xs : List Seat) → IsDeclined b m w xs → parts_in xs ≡ boxes_of b (prepared m) []
+pub declined_boxes : (b : Behaviour) (m : Answers) (w : World) (xs : List BoxAt) → IsDeclined b m w xs → parts_in xs ≡ boxes_of b (prepared m) []
 declined_boxes b m w xs d =
     let at = unknown_at b (needs w) xs d.part d.filled.first (declined_at b m w xs d) d.unknown in
     filled_parts b m w xs d.filled
@@ -317,18 +317,18 @@ declined_boxes b m w xs d =
     ∙ ap (λ (fl : Flow). boxes_of b fl []) d.filled.prepared_is
 
 -- where no module stands the boxes are those that wait
-pub filled_boxes : (b : Behaviour) (m : Answers) (w : World) (xs : List Seat) → IsFilled b m w xs → standing w.modules ++ parts_in xs ≡ parts_in xs
+pub filled_boxes : (b : Behaviour) (m : Answers) (w : World) (xs : List BoxAt) → IsFilled b m w xs → standing w.modules ++ parts_in xs ≡ parts_in xs
 filled_boxes b m w xs filled = ap (λ (is : List Instance). standing is ++ parts_in xs) filled.none
 
 -- a run that can't begin leaves the boxes that wait
-pub over_left : (b : Behaviour) (m : Answers) (limit : ℕ) (w : World) (xs : List Seat) (outcome : Outcome) → whole_run b m limit w outcome → w.modules ≡ [] → parts_in xs ≡ boxes_of b (prepared m) [] → standing w.modules ++ parts_in xs ≡ boxes_left b m limit
+pub over_left : (b : Behaviour) (m : Answers) (limit : ℕ) (w : World) (xs : List BoxAt) (outcome : Outcome) → whole_run b m limit w outcome → w.modules ≡ [] → parts_in xs ≡ boxes_of b (prepared m) [] → standing w.modules ++ parts_in xs ≡ boxes_left b m limit
 over_left b m limit w xs outcome whole none boxes =
     ap (λ (is : List Instance). standing is ++ parts_in xs) none
     ∙ boxes
     ∙ sym (ap (λ (r : Ran). boxes_of b (prepared m) (standing r.world.modules)) whole ∙ ap (λ (is : List Instance). boxes_of b (prepared m) (standing is)) none)
 
 -- one that began leaves those of the modules that stand
-pub ended_left : (b : Behaviour) (m : Answers) (limit : ℕ) (w : World) (xs : List Seat) (outcome : Outcome) → whole_run b m limit w outcome → xs ≡ [] → ((all : List Part) → boxes_of b (prepared m) all ≡ all) → standing w.modules ++ parts_in xs ≡ boxes_left b m limit
+pub ended_left : (b : Behaviour) (m : Answers) (limit : ℕ) (w : World) (xs : List BoxAt) (outcome : Outcome) → whole_run b m limit w outcome → xs ≡ [] → ((all : List Part) → boxes_of b (prepared m) all ≡ all) → standing w.modules ++ parts_in xs ≡ boxes_left b m limit
 ended_left b m limit w xs outcome whole none has =
     ap (λ ys. standing w.modules ++ parts_in ys) none
     ∙ append-nil (standing w.modules)
@@ -336,13 +336,13 @@ ended_left b m limit w xs outcome whole none has =
     ∙ sym (ap (λ (r : Ran). boxes_of b (prepared m) (standing r.world.modules)) whole)
 
 -- the same, where memory did not run out
-pub left_if_ok : {E : Type 0} (b : Behaviour) (m : Answers) (limit : ℕ) (w : World) (xs : List Seat) (result : Result Outcome E) → IfOk result (λ o. whole_run b m limit w o) → xs ≡ [] → ((all : List Part) → boxes_of b (prepared m) all ≡ all) → OnOk result (standing w.modules ++ parts_in xs ≡ boxes_left b m limit)
+pub left_if_ok : {E : Type 0} (b : Behaviour) (m : Answers) (limit : ℕ) (w : World) (xs : List BoxAt) (result : Result Outcome E) → IfOk result (λ o. whole_run b m limit w o) → xs ≡ [] → ((all : List Part) → boxes_of b (prepared m) all ≡ all) → OnOk result (standing w.modules ++ parts_in xs ≡ boxes_left b m limit)
 left_if_ok b m limit w xs (Ok o) whole none has = ended_left b m limit w xs o whole none has
 left_if_ok b m limit w xs (Err e) whole none has = tt
 
 -- ---- the boxes of a run that began
 
-pub started_boxes : (b : Behaviour) (m : Answers) (w : World) (xs : List Seat) (all : List Part) → CanStart b m w xs → boxes_of b (prepared m) all ≡ all
+pub started_boxes : (b : Behaviour) (m : Answers) (w : World) (xs : List BoxAt) (all : List Part) → CanStart b m w xs → boxes_of b (prepared m) all ≡ all
 started_boxes b m w xs all h =
     sym (ap (λ (fl : Flow). boxes_of b fl all) h.prepared_is)
     ∙ ap (λ o. boxes_unless o all (known_first b (needs w))) (fresh_known b (needs w) xs h.fresh)
@@ -383,7 +383,7 @@ going_boxes b m k w all e = (subst (HasBegun b m) (sym e) (begun_after b m k)) a
 -- ---- a run that begins with setup
 
 -- where no position is up to the limit, what a run comes to with none is what it comes to
-pub setup_advances : (b : Behaviour) (m : Answers) (limit : ℕ) (kept : List Part) (phase : Phase) (old cleared : Timeline ℕ) (w : World) (waiting : List Seat) (new : Timeline ℕ) (a : Advance) → start_of limit old.stored ≡ None → cleared ≡ begun old.first
+pub setup_advances : (b : Behaviour) (m : Answers) (limit : ℕ) (kept : List Part) (phase : Phase) (old cleared : Timeline ℕ) (w : World) (waiting : List BoxAt) (new : Timeline ℕ) (a : Advance) → start_of limit old.stored ≡ None → cleared ≡ begun old.first
     → Advances b m limit kept phase cleared w waiting new a → Advances b m limit kept phase old w waiting new a
 setup_advances b m limit kept phase old cleared w waiting new (advance.Waits request) none is h = record {
   filled = h.filled;

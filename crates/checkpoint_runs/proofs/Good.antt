@@ -4,7 +4,7 @@ use Rattle.std.proofs.Math.Seq.{take-append_seam}
 use Rattle.std.proofs.lemmas.Bool.Decides.{nat_tests}
 use Rattle.module_api.specs.Behaviour.{Behaviour}
 use Rattle.module_api.specs.Laws.{IsLawful}
-use Rattle.model_questions.specs.declared.answer.Asked.{Asked}
+use Rattle.model_questions.specs.declared.answer.AskedQuestion.{AskedQuestion}
 use Rattle.model_questions.specs.Answers.{Answers}
 use Rattle.model_questions.specs.declared.record.Record.{Record}
 use Rattle.run_semantics.specs.Laws.{GoesOn, AreStates}
@@ -20,7 +20,7 @@ use Rattle.kernel_boxes.specs.Saved.{CanTake}
 use Rattle.kernel_boxes.specs.Staying.{first_without, staying, IdsRise}
 use Rattle.kernel_boxes.proofs.Going.{all_stay, none_lacks}
 use Rattle.kernel_actions.specs.Positions.{cut_to, lengths_of, position_of, world_back, IsGrownFrom, IsSameBesideModules}
-use Rattle.kernel_boxes.specs.Seats.{Seat, instance_of, AreKept, AreOfKinds}
+use Rattle.kernel_boxes.specs.Seats.{BoxAt, instance_of, AreKept, AreOfKinds}
 use Rattle.kernel_actions.proofs.Growing.{growth_on, run_grows}
 use Rattle.kernel_actions.proofs.Positions.{back_when_grown}
 use Rattle.checkpoint_runs.specs.Kept.{taken_if, AreGood, IsGood}
@@ -44,7 +44,7 @@ nothing_grown w = record {
   questions = stays w.questions;
 }
 
-grown_good : (b : Behaviour) (m : Answers) (ss ts : List Seat) (v w : World) (p : Position) → AreKept b ss ts → IsGrownFrom v w → IsGood b m ss v p → IsGood b m ts w p
+grown_good : (b : Behaviour) (m : Answers) (ss ts : List BoxAt) (v w : World) (p : Position) → AreKept b ss ts → IsGrownFrom v w → IsGood b m ss v p → IsGood b m ts w p
 grown_good b m ss ts v w p kept grown h = record {
   world = h.world;
   stage = h.stage;
@@ -54,16 +54,16 @@ grown_good b m ss ts v w p kept grown h = record {
   same = kept.standing_is ∙ h.same;
 }
 
-pub good_on : (b : Behaviour) (m : Answers) (ss ts : List Seat) (v w : World) (ps : List Position) → AreKept b ss ts → IsGrownFrom v w → AreGood b m ss v ps → AreGood b m ts w ps
+pub good_on : (b : Behaviour) (m : Answers) (ss ts : List BoxAt) (v w : World) (ps : List Position) → AreKept b ss ts → IsGrownFrom v w → AreGood b m ss v ps → AreGood b m ts w ps
 good_on b m ss ts v w [] kept grown h = tt
 good_on b m ss ts v w (p ∷ ps) kept grown h = (grown_good b m ss ts v w p kept grown h.0, good_on b m ss ts v w ps kept grown h.1)
 
-good_more : (b : Behaviour) (m : Answers) (ss : List Seat) (w : World) (ps : List Position) (p : Position) → AreGood b m ss w ps → IsGood b m ss w p → AreGood b m ss w (ps ++ p ∷ [])
+good_more : (b : Behaviour) (m : Answers) (ss : List BoxAt) (w : World) (ps : List Position) (p : Position) → AreGood b m ss w ps → IsGood b m ss w p → AreGood b m ss w (ps ++ p ∷ [])
 good_more b m ss w [] p h g = (g, tt)
 good_more b m ss w (q ∷ qs) p h g = (h.0, good_more b m ss w qs p h.1 g)
 
 -- the position where a run stands
-taken_good : (b : Behaviour) (m : Answers) (ss : List Seat) (w : World) → Running w ≡ after b m w.count → HasRoom w → w.modules ≡ map instance_of ss → IsGood b m ss w (position_of w)
+taken_good : (b : Behaviour) (m : Answers) (ss : List BoxAt) (w : World) → Running w ≡ after b m w.count → HasRoom w → w.modules ≡ map instance_of ss → IsGood b m ss w (position_of w)
 taken_good b m ss w going room modules = record {
   world = w;
   stage = sym going;
@@ -74,7 +74,7 @@ taken_good b m ss w going room modules = record {
 }
 
 -- some of them
-good_some : (b : Behaviour) (m : Answers) (ss : List Seat) (w : World) (test : Position → Bool) (ps : List Position) → AreGood b m ss w ps → AreGood b m ss w (filter test ps)
+good_some : (b : Behaviour) (m : Answers) (ss : List BoxAt) (w : World) (test : Position → Bool) (ps : List Position) → AreGood b m ss w ps → AreGood b m ss w (filter test ps)
 good_some b m ss w test [] h = tt
 good_some b m ss w test (p ∷ ps) h = by (test p) (good_some b m ss w test ps h.1)
   where
@@ -82,7 +82,7 @@ good_some b m ss w test (p ∷ ps) h = by (test p) (good_some b m ss w test ps h
     by true rest = (h.0, rest)
     by false rest = rest
 
-good_thinned : (b : Behaviour) (m : Answers) (ss : List Seat) (w : World) (newest : ℕ) (t : Timeline Position) → AreGood b m ss w t.stored → AreGood b m ss w (thinned (λ (p : Position). p.count) newest t).stored
+good_thinned : (b : Behaviour) (m : Answers) (ss : List BoxAt) (w : World) (newest : ℕ) (t : Timeline Position) → AreGood b m ss w t.stored → AreGood b m ss w (thinned (λ (p : Position). p.count) newest t).stored
 good_thinned b m ss w newest t h = by (nat_lt most_stored (length t.stored))
   where
     by : (test : Bool) → AreGood b m ss w (Timeline.stored (if test then record { first = t.first; interval = doubled t.interval; stored = filter (λ (p : Position). stays_at (doubled t.interval) newest p.count) t.stored } else t))
@@ -90,7 +90,7 @@ good_thinned b m ss w newest t h = by (nat_lt most_stored (length t.stored))
     by false = h
 
 -- one more, where it is due
-pub good_stored : (b : Behaviour) (m : Answers) (ss : List Seat) (w : World) (due : Bool) (old new : Timeline Position) → (due ≡ true → Running w ≡ after b m w.count) → HasRoom w → w.modules ≡ map instance_of ss
+pub good_stored : (b : Behaviour) (m : Answers) (ss : List BoxAt) (w : World) (due : Bool) (old new : Timeline Position) → (due ≡ true → Running w ≡ after b m w.count) → HasRoom w → w.modules ≡ map instance_of ss
     → new ≡ taken_if due (position_of w) old → AreGood b m ss w old.stored → AreGood b m ss w new.stored
 good_stored b m ss w due old new going room modules e h = subst (λ (t : Timeline Position). AreGood b m ss w t.stored) (sym e) (by due going)
   where
@@ -102,14 +102,14 @@ good_stored b m ss w due old new going room modules e h = subst (λ (t : Timelin
 
 -- ---- those up to an event
 
-pub good_up_to : (b : Behaviour) (m : Answers) (ss : List Seat) (w : World) (v : ℕ) (ps : List Position) → AreGood b m ss w ps → AreGood b m ss w (up_to v ps)
+pub good_up_to : (b : Behaviour) (m : Answers) (ss : List BoxAt) (w : World) (v : ℕ) (ps : List Position) → AreGood b m ss w ps → AreGood b m ss w (up_to v ps)
 good_up_to b m ss w v ps h = good_some b m ss w (λ (p : Position). nat_le p.count v) ps h
 
-good_last_from : (b : Behaviour) (m : Answers) (ss : List Seat) (w : World) (p : Position) (ps : List Position) → IsGood b m ss w p → AreGood b m ss w ps → IsGood b m ss w (last_from p ps)
+good_last_from : (b : Behaviour) (m : Answers) (ss : List BoxAt) (w : World) (p : Position) (ps : List Position) → IsGood b m ss w p → AreGood b m ss w ps → IsGood b m ss w (last_from p ps)
 good_last_from b m ss w p [] g h = g
 good_last_from b m ss w p (q ∷ qs) g h = good_last_from b m ss w q qs h.0 h.1
 
-pub good_last : (b : Behaviour) (m : Answers) (ss : List Seat) (w : World) (ps : List Position) (p : Position) → AreGood b m ss w ps → last_of ps ≡ Some p → IsGood b m ss w p
+pub good_last : (b : Behaviour) (m : Answers) (ss : List BoxAt) (w : World) (ps : List Position) (p : Position) → AreGood b m ss w ps → last_of ps ≡ Some p → IsGood b m ss w p
 good_last b m ss w [] p h e = cc
 good_last b m ss w (q ∷ qs) p h e =
     let is : last_from q qs ≡ p = cc in
@@ -121,11 +121,11 @@ up_to_is n v h = grind (arith, nat_tests)
 -- ---- going back
 
 -- a position has the count of its world
-pub good_count : (b : Behaviour) (m : Answers) (ss : List Seat) (w : World) (p : Position) → (h : IsGood b m ss w p) → p.count ≡ h.world.count
+pub good_count : (b : Behaviour) (m : Answers) (ss : List BoxAt) (w : World) (p : Position) → (h : IsGood b m ss w p) → p.count ≡ h.world.count
 good_count b m ss w p h = ap (λ (q : Position). q.count) h.position
 
 -- the boxes can be brought into its states
-pub good_can : (b : Behaviour) → IsLawful b → (m : Answers) (ss : List Seat) (w : World) (p : Position) → AreOfKinds b ss → IsGood b m ss w p → CanTake b p.modules ss
+pub good_can : (b : Behaviour) → IsLawful b → (m : Answers) (ss : List BoxAt) (w : World) (p : Position) → AreOfKinds b ss → IsGood b m ss w p → CanTake b p.modules ss
 good_can b law m ss w p kinds h =
     let modules : p.modules ≡ h.world.modules = ap (λ (q : Position). q.modules) h.position in
     let here : world_at (after b m p.count) ≡ h.world = ap world_at h.stage in
@@ -136,14 +136,14 @@ good_can b law m ss w p kinds h =
     }
 
 -- going back gives its world
-pub good_back : (b : Behaviour) (m : Answers) (ss : List Seat) (w : World) (p : Position) → (h : IsGood b m ss w p) → world_back p w ≡ h.world
+pub good_back : (b : Behaviour) (m : Answers) (ss : List BoxAt) (w : World) (p : Position) → (h : IsGood b m ss w p) → world_back p w ≡ h.world
 good_back b m ss w p h = ap (λ q. world_back q w) h.position ∙ back_when_grown h.world w h.grown
 
-pub going_back : (b : Behaviour) (m : Answers) (ss : List Seat) (w : World) (p : Position) → (h : IsGood b m ss w p) → Running h.world ≡ after b m h.world.count
+pub going_back : (b : Behaviour) (m : Answers) (ss : List BoxAt) (w : World) (p : Position) → (h : IsGood b m ss w p) → Running h.world ≡ after b m h.world.count
 going_back b m ss w p h = sym (subst (λ k. after b m k ≡ Running h.world) (good_count b m ss w p h) h.stage)
 
 -- an earlier position is good wherever the lists go on from this one
-pub good_at : (b : Behaviour) (m : Answers) (ss ts : List Seat) (w u : World) (p q : Position) → (h : IsGood b m ss w p) → IsGrownFrom h.world u → standing (map instance_of ts) ≡ standing (map instance_of ss) → q.count ≤ p.count → IsGood b m ss w q → IsGood b m ts u q
+pub good_at : (b : Behaviour) (m : Answers) (ss ts : List BoxAt) (w u : World) (p q : Position) → (h : IsGood b m ss w p) → IsGrownFrom h.world u → standing (map instance_of ts) ≡ standing (map instance_of ss) → q.count ≤ p.count → IsGood b m ss w q → IsGood b m ts u q
 good_at b m ss ts w u p q h on standing_is l g =
     let grew : IsGrownFrom (world_at (after b m q.count)) (world_at (after b m p.count)) = run_grows b m q.count p.count l in
     record {
@@ -156,7 +156,7 @@ good_at b m ss ts w u p q h on standing_is l g =
     }
 
 -- those up to the position to which a run goes back are good there
-pub good_before : (b : Behaviour) (m : Answers) (ss ts : List Seat) (w : World) (p : Position) (ps : List Position) → AreKept b ss ts → (h : IsGood b m ss w p) → AreGood b m ss w ps → AreGood b m ts h.world (up_to p.count ps)
+pub good_before : (b : Behaviour) (m : Answers) (ss ts : List BoxAt) (w : World) (p : Position) (ps : List Position) → AreKept b ss ts → (h : IsGood b m ss w p) → AreGood b m ss w ps → AreGood b m ts h.world (up_to p.count ps)
 good_before b m ss ts w p [] kept h g = tt
 good_before b m ss ts w p (q ∷ qs) kept h g = by (nat_le q.count p.count) refl (good_before b m ss ts w p qs kept h g.1)
   where
@@ -165,7 +165,7 @@ good_before b m ss ts w p (q ∷ qs) kept h g = by (nat_le q.count p.count) refl
     by false e rest = rest
 
 -- A RUN THAT WENT BACK to the last position up to the limit
-pub record IsBackAt (b : Behaviour) (m : Answers) (limit : ℕ) (ts : List Seat) (u : World) (p : Position) (qs : List Position) : Type 0 where
+pub record IsBackAt (b : Behaviour) (m : Answers) (limit : ℕ) (ts : List BoxAt) (u : World) (p : Position) (qs : List Position) : Type 0 where
   pub going : Running u ≡ after b m u.count
   pub within : u.count ≤ limit
   pub room : HasRoom u
@@ -173,7 +173,7 @@ pub record IsBackAt (b : Behaviour) (m : Answers) (limit : ℕ) (ts : List Seat)
   pub below : AreBelow (suc u.count) qs
   pub count : u.count ≡ p.count
 
-pub back_at : (b : Behaviour) (m : Answers) (limit : ℕ) (ss ts : List Seat) (w u : World) (p : Position) (ps qs : List Position) → AreGood b m ss w ps → last_of (up_to limit ps) ≡ Some p → AreKept b ss ts
+pub back_at : (b : Behaviour) (m : Answers) (limit : ℕ) (ss ts : List BoxAt) (w u : World) (p : Position) (ps qs : List Position) → AreGood b m ss w ps → last_of (up_to limit ps) ≡ Some p → AreKept b ss ts
     → u ≡ world_back p w → qs ≡ up_to p.count ps → IsBackAt b m limit ts u p qs
 back_at b m limit ss ts w u p ps qs good last kept back cut =
     let h : IsGood b m ss w p = good_last b m ss w (up_to limit ps) p (good_up_to b m ss w limit ps good) last in
@@ -191,11 +191,11 @@ back_at b m limit ss ts w u p ps qs good last kept back cut =
     }))
 
 -- its boxes can take the states
-pub can_take_last : (b : Behaviour) → IsLawful b → (m : Answers) (limit : ℕ) (ss : List Seat) (w : World) (p : Position) (ps : List Position) → AreOfKinds b ss → AreGood b m ss w ps → last_of (up_to limit ps) ≡ Some p → CanTake b p.modules ss
+pub can_take_last : (b : Behaviour) → IsLawful b → (m : Answers) (limit : ℕ) (ss : List BoxAt) (w : World) (p : Position) (ps : List Position) → AreOfKinds b ss → AreGood b m ss w ps → last_of (up_to limit ps) ≡ Some p → CanTake b p.modules ss
 can_take_last b law m limit ss w p ps kinds good last = good_can b law m ss w p kinds (good_last b m ss w (up_to limit ps) p (good_up_to b m ss w limit ps good) last)
 
 -- the run goes on after it
-pub can_go_on_last : (b : Behaviour) (m : Answers) (limit : ℕ) (ss : List Seat) (w : World) (p : Position) (ps : List Position) → AreGood b m ss w ps → last_of (up_to limit ps) ≡ Some p → CanGoOn b m p.count
+pub can_go_on_last : (b : Behaviour) (m : Answers) (limit : ℕ) (ss : List BoxAt) (w : World) (p : Position) (ps : List Position) → AreGood b m ss w ps → last_of (up_to limit ps) ≡ Some p → CanGoOn b m p.count
 can_go_on_last b m limit ss w p ps good last = let h = good_last b m ss w (up_to limit ps) p (good_up_to b m ss w limit ps good) last in (h.world, sym h.stage)
 
 -- a world that differs in its modules alone has grown
@@ -210,7 +210,7 @@ grown_beside v w e =
       finished = lists ℕ (λ x. x.finished) (λ x. refl);
       emissions = lists _ (λ x. x.emissions) (λ x. refl);
       scalars = lists _ (λ x. x.scalars) (λ x. refl);
-      questions = lists Asked (λ x. x.questions) (λ x. refl);
+      questions = lists AskedQuestion (λ x. x.questions) (λ x. refl);
     }
 
 -- ---- a run is given up
@@ -244,7 +244,7 @@ last_below (q ∷ qs) p r e =
     let is : last_from q qs ≡ p = cc in
     subst (λ (x : Position). AreBelow (suc x.count) (q ∷ qs)) is (rising_below q qs r)
 
-pub cut_good : (b : Behaviour) (m : Answers) (ss : List Seat) (w u : World) (p : Position) (ps : List Position) → (h : IsGood b m ss w p) → IsGrownFrom h.world u → AreBelow (suc p.count) ps → AreGood b m ss w ps → AreGood b m ss u ps
+pub cut_good : (b : Behaviour) (m : Answers) (ss : List BoxAt) (w u : World) (p : Position) (ps : List Position) → (h : IsGood b m ss w p) → IsGrownFrom h.world u → AreBelow (suc p.count) ps → AreGood b m ss w ps → AreGood b m ss u ps
 cut_good b m ss w u p [] h g l a = tt
 cut_good b m ss w u p (q ∷ qs) h g l a =
     let k = l.0 in
@@ -253,10 +253,10 @@ cut_good b m ss w u p (q ∷ qs) h g l a =
 -- ---- the boxes of a position
 
 -- all boxes stay, and none is wanted
-pub all_kept : (b : Behaviour) (saved : List Instance) (ss ts : List Seat) → IdsRise 0 (map instance_of ss) → standing (map instance_of ss) ≡ standing saved → AreKept b (staying saved ss) ts → AreKept b ss ts
+pub all_kept : (b : Behaviour) (saved : List Instance) (ss ts : List BoxAt) → IdsRise 0 (map instance_of ss) → standing (map instance_of ss) ≡ standing saved → AreKept b (staying saved ss) ts → AreKept b ss ts
 all_kept b saved ss ts r e kept = subst (λ xs. AreKept b xs ts) (all_stay 0 ss saved r e) kept
 
-pub none_wanted : (w : World) (saved : List Instance) (ss : List Seat) → IdsRise 0 (map instance_of ss) → standing (map instance_of ss) ≡ standing saved → lacking_of w saved ss ≡ None
+pub none_wanted : (w : World) (saved : List Instance) (ss : List BoxAt) → IdsRise 0 (map instance_of ss) → standing (map instance_of ss) ≡ standing saved → lacking_of w saved ss ≡ None
 none_wanted w saved ss r e =
     ap (λ ts. option_map (request_for w) (first_without (standing (map instance_of ts)) (standing saved))) (all_stay 0 ss saved r e)
     ∙ ap (option_map (request_for w)) (none_lacks (standing (map instance_of ss)) (standing saved) e)

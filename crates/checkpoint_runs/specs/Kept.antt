@@ -3,9 +3,9 @@ use Rattle.std.specs.Prelude.{◌≡◌, ◌⊎◌, ◌≤◌, ℕ, suc, ◌-◌
 use Rattle.checkpoints.specs.Stored.{counts_in, cut_after, ends_at, begun, is_multiple, with_position, AreBelow, Timeline}
 use Rattle.kernel_actions.specs.declared.position.Position.{Position}
 use Rattle.kernel_boxes.specs.Seats.{Members}
-use Rattle.kernel.specs.Kernels.{seats_in, world_in}
+use Rattle.kernel.specs.Kernels.{boxes_in, world_in}
 use Rattle.kernel_actions.specs.Positions.{cut_to, position_of, IsGrownFrom}
-use Rattle.kernel_boxes.specs.Seats.{Seat, instance_of}
+use Rattle.kernel_boxes.specs.Seats.{BoxAt, instance_of}
 use Rattle.module_api.specs.Behaviour.{Behaviour}
 use Rattle.model_questions.specs.Answers.{Answers}
 use Rattle.run_semantics.specs.declared.outcome.Outcome.{Outcome}
@@ -20,7 +20,7 @@ use Rattle.checkpoint_runs.specs.declared.running.Stood.TheVariants as stood
 
 -- A POSITION IS GOOD: the run of the model goes on after its events, it is the position of the
 -- world there, whose lists have only grown since, and its modules are those that have boxes.
-pub record IsGood (b : Behaviour) (m : Answers) (seats : List Seat) (w : World) (p : Position) : Type 0 where
+pub record IsGood (b : Behaviour) (m : Answers) (seats : List BoxAt) (w : World) (p : Position) : Type 0 where
   pub world : World
   pub stage : after b m p.count ≡ Running world
   pub position : p ≡ position_of world
@@ -28,7 +28,7 @@ pub record IsGood (b : Behaviour) (m : Answers) (seats : List Seat) (w : World) 
   pub grown : IsGrownFrom world w
   pub same : standing (map instance_of seats) ≡ standing world.modules
 
-abbrev pub AreGood : Behaviour → Answers → List Seat → World → List Position → Type 0
+abbrev pub AreGood : Behaviour → Answers → List BoxAt → World → List Position → Type 0
 AreGood b m seats w [] = Unit {0}
 AreGood b m seats w (p ∷ ps) = IsGood b m seats w p × AreGood b m seats w ps
 
@@ -92,7 +92,7 @@ HasBegun b m limit from stood.Ending before new = HasLeft from before new (run_t
 module _ {C X : Type 0} {Y : X → Type 0} where
   -- its positions are good
   abbrev pub HasGood : Behaviour → Answers → Members X Y → Runner C X Y → Type 0
-  HasGood b m members r = AreGood b m (seats_in members r.kernel) (world_in members r.kernel) r.positions.stored
+  HasGood b m members r = AreGood b m (boxes_in members r.kernel) (world_in members r.kernel) r.positions.stored
 
   -- the run of the model goes on from where its kernel stands, which is up to the limit; numbers
   -- are far from running out
@@ -105,12 +105,12 @@ module _ {C X : Type 0} {Y : X → Type 0} where
     pub stood : r.stood ≡ stood.After (world_in members r.kernel).count
 
   -- what the boxes are that wait for the start of their modules
-  abbrev pub waiting_in : Members X Y → Runner C X Y → List Seat
+  abbrev pub waiting_in : Members X Y → Runner C X Y → List BoxAt
   waiting_in members r = seats_held members r.waiting
 
   -- THE MODULES THAT HAVE BOXES: those that were started, and then those whose boxes wait
-  abbrev pub boxes_in : Members X Y → Runner C X Y → List Part
-  boxes_in members r = standing (world_in members r.kernel).modules ++ parts_in (waiting_in members r)
+  abbrev pub standing_in : Members X Y → Runner C X Y → List Part
+  standing_in members r = standing (world_in members r.kernel).modules ++ parts_in (waiting_in members r)
 
   -- Where there is a start the run goes on from there, of the positions those up to it are left,
   -- and no box waits; else nothing has changed.

@@ -8,7 +8,7 @@ use Rattle.run_semantics.specs.Perform.{Flow, On, Stopped, Broken}
 use Rattle.run_semantics.specs.Run.{Part, first_unknown, needs, prepared, standing, start, Over, Ran, run_to}
 use Rattle.run_semantics.specs.Ending.{ending}
 use Rattle.kernel.specs.declared.request.Request.{Request}
-use Rattle.kernel_boxes.specs.Seats.{Seat, instance_of}
+use Rattle.kernel_boxes.specs.Seats.{BoxAt, instance_of}
 use Rattle.kernel.specs.Seats.{AreFirst, AreFresh, IsUnstarted, missing_of, missing_part}
 use Rattle.checkpoint_runs.specs.declared.running.Phase.{Phase}
 use Rattle.checkpoint_runs.specs.declared.running.Phase.TheVariants.{Idle, Waiting, Declined}
@@ -26,7 +26,7 @@ fresh_run b m limit = ending b m (run_to b m limit)
 -- ---- boxes that a run needs
 
 -- the modules of boxes
-abbrev pub parts_in : List Seat → List Part
+abbrev pub parts_in : List BoxAt → List Part
 parts_in seats = standing (map instance_of seats)
 
 -- the box that a run needs next once there are these: setup makes the modules, and of those that
@@ -80,7 +80,7 @@ IsUndeclined Declined = ⊥
 
 -- A network that was set up, and is not started: no module has a state, and the boxes that wait are
 -- those of the first modules that need one.
-pub record IsFilled (b : Behaviour) (m : Answers) (w : World) (waiting : List Seat) : Type 0 where
+pub record IsFilled (b : Behaviour) (m : Answers) (w : World) (waiting : List BoxAt) : Type 0 where
   pub prepared_is : On w ≡ prepared m
   pub next : w.next ≡ 0
   pub none : w.modules ≡ []
@@ -88,20 +88,20 @@ pub record IsFilled (b : Behaviour) (m : Answers) (w : World) (waiting : List Se
   pub first : AreFirst b w waiting
 
 -- the next box was declined
-pub record IsDeclined (b : Behaviour) (m : Answers) (w : World) (waiting : List Seat) : Type 0 where
+pub record IsDeclined (b : Behaviour) (m : Answers) (w : World) (waiting : List BoxAt) : Type 0 where
   pub filled : IsFilled b m w waiting
   pub part : Part
   pub missing : missing_part w (parts_in waiting) ≡ Some part
   pub unknown : b.known part.kind ≡ false
 
 -- where a run stands
-abbrev pub IsLive : Behaviour → Answers → World → List Seat → Phase → Type 0
+abbrev pub IsLive : Behaviour → Answers → World → List BoxAt → Phase → Type 0
 IsLive b m w waiting Idle = Unit {0}
 IsLive b m w waiting (Waiting from at) = IsFilled b m w waiting
 IsLive b m w waiting Declined = IsDeclined b m w waiting
 
 -- each module that needs a box has one that waits
-pub record CanStart (b : Behaviour) (m : Answers) (w : World) (waiting : List Seat) : Type 0 where
+pub record CanStart (b : Behaviour) (m : Answers) (w : World) (waiting : List BoxAt) : Type 0 where
   pub prepared_is : On w ≡ prepared m
   pub next : w.next ≡ 0
   pub none : w.modules ≡ []
@@ -121,7 +121,7 @@ pub record IsStopped (b : Behaviour) (m : Answers) (limit : ℕ) (ran : Ran) : T
 -- ---- how a run gets on
 
 -- where a run stands that has its boxes, waits for one, or can't begin
-abbrev pub Stands : Behaviour → Answers → List Part → World → List Seat → Standing → Type 0
+abbrev pub Stands : Behaviour → Answers → List Part → World → List BoxAt → Standing → Type 0
 Stands b m kept w waiting (stands.Over outcome) =
     (Over w outcome ≡ start b m) × (w.modules ≡ []) × (parts_in waiting ≡ boxes_of b (prepared m) [])
 Stands b m kept w waiting (stands.Missing request) =
@@ -136,7 +136,7 @@ Wants m kept phase (stands.Over outcome) = (phase ≡ Declined) ⊎ (wanted_by m
 Wants m kept phase stands.Ready = (phase ≡ Declined) ⊎ (wanted_by m kept ≡ None)
 
 -- a run waits with the boxes that it kept, as it begins with setup; no position is stored
-pub record IsWaiting (b : Behaviour) (m : Answers) (limit : ℕ) (kept : List Part) (phase : Phase) (old : Timeline ℕ) (w : World) (waiting : List Seat) (new : Timeline ℕ) (request : Request) : Type 0 where
+pub record IsWaiting (b : Behaviour) (m : Answers) (limit : ℕ) (kept : List Part) (phase : Phase) (old : Timeline ℕ) (w : World) (waiting : List BoxAt) (new : Timeline ℕ) (request : Request) : Type 0 where
   pub filled : IsFilled b m w waiting
   pub kept_is : parts_in waiting ≡ kept
   pub undeclined : IsUndeclined phase
@@ -145,7 +145,7 @@ pub record IsWaiting (b : Behaviour) (m : Answers) (limit : ℕ) (kept : List Pa
   pub positions : new ≡ cut None old
 
 -- a run is done that began there, and it has left its positions
-pub record IsEnded (b : Behaviour) (m : Answers) (limit : ℕ) (kept : List Part) (phase : Phase) (old : Timeline ℕ) (w : World) (waiting : List Seat) (new : Timeline ℕ) (from : Option ℕ) (outcome : Outcome) : Type 0 where
+pub record IsEnded (b : Behaviour) (m : Answers) (limit : ℕ) (kept : List Part) (phase : Phase) (old : Timeline ℕ) (w : World) (waiting : List BoxAt) (new : Timeline ℕ) (from : Option ℕ) (outcome : Outcome) : Type 0 where
   pub whole : whole_run b m limit w outcome
   pub boxes : standing w.modules ++ parts_in waiting ≡ boxes_left b m limit
   pub start : from ≡ start_of limit old.stored
@@ -154,6 +154,6 @@ pub record IsEnded (b : Behaviour) (m : Answers) (limit : ℕ) (kept : List Part
   pub positions : new ≡ positions_after b m limit old
 
 -- where a run is after it was asked for, with the positions before and after
-abbrev pub Advances : Behaviour → Answers → ℕ → List Part → Phase → Timeline ℕ → World → List Seat → Timeline ℕ → Advance → Type 0
+abbrev pub Advances : Behaviour → Answers → ℕ → List Part → Phase → Timeline ℕ → World → List BoxAt → Timeline ℕ → Advance → Type 0
 Advances b m limit kept phase old w waiting new (advance.Waits request) = IsWaiting b m limit kept phase old w waiting new request
 Advances b m limit kept phase old w waiting new (advance.Ends from outcome) = IsEnded b m limit kept phase old w waiting new from outcome

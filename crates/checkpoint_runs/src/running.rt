@@ -5,12 +5,12 @@ ghost use Rattle.model_answers.specs.Answering.{answers_of};
 ghost use Rattle.run_semantics.specs.Run.{prepared, run_to, settled, stage_of};
 ghost use Rattle.kernel_actions.specs.Positions.{position_of};
 ghost use Rattle.kernel_call_views.specs.Tables.{AreShown};
-ghost use Rattle.kernel.specs.Kernels.{seats_in, world_in, ran_in, HasKinds};
+ghost use Rattle.kernel.specs.Kernels.{boxes_in, world_in, ran_in, HasKinds};
 ghost use Rattle.checkpoints.specs.Stored.{counts_in, counts_of, is_multiple, last_of, AreBelow, AreRising, IsBegun};
 ghost use Rattle.checkpoint_runs.specs.Running.{boxes_left, fresh_run, kept_boxes, parts_in, Advances, CanStart, IsDeclined, IsFilled, IsLive, IsStopped, IsUndeclined, Stands, Wants};
-ghost use Rattle.checkpoint_runs.specs.Kept.{boxes_in, cut_to_last, kept_up_to, taken_if, waiting_in, HasBegun, HasGood, HasGoneOn, HasLeft, IsBack, IsBesideKernel, IsGoing};
+ghost use Rattle.checkpoint_runs.specs.Kept.{standing_in, cut_to_last, kept_up_to, taken_if, waiting_in, HasBegun, HasGood, HasGoneOn, HasLeft, IsBack, IsBesideKernel, IsGoing};
 ghost use Rattle.checkpoint_runs.specs.Positions.{last_count, positions_after, start_of, HasStored};
-ghost use Rattle.kernel_boxes.specs.Seats.{Seat, AreBelow as AreOfSmallerIds};
+ghost use Rattle.kernel_boxes.specs.Seats.{BoxAt, AreBelow as AreOfSmallerIds};
 ghost use Rattle.kernel_boxes.specs.Saved.{instances_held};
 ghost use Rattle.checkpoint_runs.specs.declared.running.Phase.{Phase};
 ghost use Rattle.checkpoint_runs.specs.declared.running.Stood.{Stood};
@@ -19,14 +19,14 @@ use crate::observer::Observer;
 use checkpoints::positions::Positions;
 use kernel::kernel::Kernel;
 use kernel::request::Request;
-use kernel_call_views::ShownModules;
+use kernel_call_views::CallViews;
 use model_answers::asked::AskedModel;
 use model_answers::evaluated::EvaluatedModel;
 use module_api::catalogue::Catalogue;
 use module_api::simple_module::SimpleModule;
 use module_tree::Tree;
 use run_answers::{Answers, ModelMarker};
-use run_semantics::outcome::{Fault, Outcome};
+use run_semantics::outcome::{Outcome, RunFault};
 use sim_values::NoMemory;
 use std::alloc::{AllocFailed, Global};
 use std::marker::{Brand, PhantomData};
@@ -140,7 +140,7 @@ impl<C: Catalogue> Runner<C> {
         requires kinds { HasKinds C.behaviour SimpleModule-box self.old.kernel }
         ensures kinds { HasKinds C.behaviour SimpleModule-box self.new.kernel }
         ensures kept { IsBesideKernel self.old self.new }
-        ensures empty { OnOk result (seats_in SimpleModule-box self.new.kernel ≡ []) }
+        ensures empty { OnOk result (boxes_in SimpleModule-box self.new.kernel ≡ []) }
         ensures none { waiting_in SimpleModule-box self.new ≡ [] }
         ensures step { IfOk result (λ over.
             stage_of over (world_in SimpleModule-box self.new.kernel) ≡ settled (prepared M.answers)) }
@@ -187,7 +187,11 @@ impl<C: Catalogue> Runner<C> {
         ensures over { IfOk result (λ standing. Wants M.answers [] Phase.Declined standing) }
     {
         let request = self.kernel.missing(alloc, &self.waiting)?.unwrap();
-        Ok(Standing::Over(Outcome::Fault(self.kernel.count(), request.path, Fault::UnknownClass)))
+        Ok(Standing::Over(Outcome::Fault(
+            self.kernel.count(),
+            request.path,
+            RunFault::UnknownClass,
+        )))
     }
 
     /// Where a run stands that begins with setup: one that waits goes on, any other is set up.
@@ -204,11 +208,11 @@ impl<C: Catalogue> Runner<C> {
         requires kinds { HasKinds C.behaviour SimpleModule-box self.old.kernel }
         ensures kinds { HasKinds C.behaviour SimpleModule-box self.new.kernel }
         ensures kept { IsBesideKernel self.old self.new }
-        ensures stands { let kept = kept_boxes phase (boxes_in SimpleModule-box self.old) in
+        ensures stands { let kept = kept_boxes phase (standing_in SimpleModule-box self.old) in
             let left = world_in SimpleModule-box self.new.kernel in
             let waiting = waiting_in SimpleModule-box self.new in
             IfOk result (λ standing. Stands C.behaviour M.answers kept left waiting standing) }
-        ensures wants { let kept = kept_boxes phase (boxes_in SimpleModule-box self.old) in
+        ensures wants { let kept = kept_boxes phase (standing_in SimpleModule-box self.old) in
             IfOk result (λ standing. Wants M.answers kept phase standing) }
     {
         match phase {
@@ -237,7 +241,7 @@ impl<C: Catalogue> Runner<C> {
         requires above { AreOfSmallerIds id (instances_held SimpleModule-box self.old.waiting) }
         ensures kernel { self.new.kernel ≡ self.old.kernel }
         ensures kept { IsBesideKernel self.old self.new }
-        ensures ok { let supplied : Seat = record { id = id; box = meaning held } in
+        ensures ok { let supplied : BoxAt = record { id = id; box = meaning held } in
             OnOk result (waiting_in SimpleModule-box self.new
             ≡ waiting_in SimpleModule-box self.old ++ supplied ∷ []) }
         ensures err { OnErr result
@@ -249,7 +253,7 @@ impl<C: Catalogue> Runner<C> {
 
     /// How many boxes there are: those of the modules that were started, and those that wait.
     pub fn held(&self) -> u128
-        ensures { result ≡ length (boxes_in SimpleModule-box self.now) }
+        ensures { result ≡ length (standing_in SimpleModule-box self.now) }
     {
         self.kernel.held() as u128 + self.waiting.len() as u128
     }
@@ -331,8 +335,8 @@ impl<C: Catalogue> Runner<C> {
     /// of events. Where there is no position nothing changes.
     pub fn cut_back(&mut self) -> Option<u64>
         requires { HasKinds C.behaviour SimpleModule-box self.old.kernel }
-        ensures seats { seats_in SimpleModule-box self.new.kernel
-            ≡ seats_in SimpleModule-box self.old.kernel }
+        ensures seats { boxes_in SimpleModule-box self.new.kernel
+            ≡ boxes_in SimpleModule-box self.old.kernel }
         ensures waiting { self.new.waiting ≡ self.old.waiting }
         ensures positions { self.new.positions ≡ self.old.positions }
         ensures stood { self.new.stood ≡ self.old.stood }
@@ -357,11 +361,11 @@ impl<C: Catalogue> Runner<C> {
 
     /// Goes on to the limit or to an end, and tells the observer of each event. After each one
     /// whose number is a multiple of the interval as it is then, a position is stored.
-    fn go_on<A: Answers, W: Observer>(
+    fn run_events<A: Answers, W: Observer>(
         &mut self,
         alloc: Global,
         model: &mut A,
-        shown: &mut ShownModules,
+        shown: &mut CallViews,
         limit: u64,
         observer: &mut W,
     ) -> Result<Outcome, NoMemory>
@@ -403,7 +407,7 @@ impl<C: Catalogue> Runner<C> {
         &mut self,
         alloc: Global,
         model: &mut A,
-        shown: &mut ShownModules,
+        shown: &mut CallViews,
         limit: u64,
         observer: &mut W,
     ) -> Result<Outcome, NoMemory>
@@ -425,7 +429,7 @@ impl<C: Catalogue> Runner<C> {
     {
         let from = self.kernel.count();
         observer.begin(from, limit);
-        let outcome = self.go_on(alloc, model, shown, limit, observer)?;
+        let outcome = self.run_events(alloc, model, shown, limit, observer)?;
         let last = self.kernel.count();
         let due = is_owed(from, outcome.is_fault(), last, self.positions.ends_at(last));
         self.keep_if(alloc, due)?;
@@ -434,11 +438,11 @@ impl<C: Catalogue> Runner<C> {
     }
 
     /// A whole run from where each module has its box: its events, and its end.
-    fn complete<A: Answers, W: Observer>(
+    fn run_to_end<A: Answers, W: Observer>(
         &mut self,
         alloc: Global,
         model: &mut A,
-        shown: &mut ShownModules,
+        shown: &mut CallViews,
         limit: u64,
         observer: &mut W,
     ) -> Result<Outcome, NoMemory>
@@ -453,7 +457,7 @@ impl<C: Catalogue> Runner<C> {
         ensures good { HasGood C.behaviour A.answers SimpleModule-box self.new }
         ensures ran { IfOk result (λ outcome. fresh_run C.behaviour A.answers limit
             ≡ ran_in SimpleModule-box outcome self.new.kernel) }
-        ensures boxes { let left = boxes_in SimpleModule-box self.new in
+        ensures boxes { let left = standing_in SimpleModule-box self.new in
             OnOk result (left ≡ boxes_left C.behaviour A.answers limit) }
         ensures left { OnOk result (counts_in self.new.positions
             ≡ positions_after C.behaviour A.answers limit (counts_in self.old.positions)) }
@@ -471,7 +475,7 @@ impl<C: Catalogue> Runner<C> {
 
     /// Runs from setup, or finds the box that is needed first. There is no position after which it
     /// could begin.
-    fn begin<M: ModelMarker, W: Observer>(
+    fn run_from_setup<M: ModelMarker, W: Observer>(
         &mut self,
         alloc: Global,
         model: &EvaluatedModel,
@@ -488,7 +492,7 @@ impl<C: Catalogue> Runner<C> {
         requires stood { self.old.stood ≡ Stood.Before }
         ensures kinds { HasKinds C.behaviour SimpleModule-box self.new.kernel }
         ensures good { HasGood C.behaviour M.answers SimpleModule-box self.new }
-        ensures advances { let kept = kept_boxes phase (boxes_in SimpleModule-box self.old) in
+        ensures advances { let kept = kept_boxes phase (standing_in SimpleModule-box self.old) in
             let left = world_in SimpleModule-box self.new.kernel in
             let waiting = waiting_in SimpleModule-box self.new in
             IfOk result (λ advance.
@@ -502,8 +506,8 @@ impl<C: Catalogue> Runner<C> {
             Standing::Missing(request) => Ok(Advance::Waits(request)),
             Standing::Ready => {
                 let mut answers = AskedModel::<M>::new(alloc, model)?;
-                let mut shown = ShownModules::new(alloc);
-                let outcome = self.complete(alloc, &mut answers, &mut shown, limit, observer)?;
+                let mut shown = CallViews::new(alloc);
+                let outcome = self.run_to_end(alloc, &mut answers, &mut shown, limit, observer)?;
                 Ok(Advance::Ends(None, outcome))
             }
         }
@@ -511,7 +515,7 @@ impl<C: Catalogue> Runner<C> {
 
     /// Runs the model for at most so many events, from the last position up to there or from setup,
     /// or finds the box that is needed first. The observer is told of each event that is executed.
-    pub fn carry_on<W: Observer>(
+    pub fn advance<W: Observer>(
         &mut self,
         alloc: Global,
         model: &EvaluatedModel,
@@ -526,7 +530,7 @@ impl<C: Catalogue> Runner<C> {
         requires good { HasGood C.behaviour (answers_of model.now) SimpleModule-box self.old }
         ensures kinds { HasKinds C.behaviour SimpleModule-box self.new.kernel }
         ensures good { HasGood C.behaviour (answers_of model.now) SimpleModule-box self.new }
-        ensures advances { let kept = kept_boxes phase (boxes_in SimpleModule-box self.old) in
+        ensures advances { let kept = kept_boxes phase (standing_in SimpleModule-box self.old) in
             let left = world_in SimpleModule-box self.new.kernel in
             let waiting = waiting_in SimpleModule-box self.new in
             IfOk result (λ advance.
@@ -535,13 +539,13 @@ impl<C: Catalogue> Runner<C> {
         ensures stopped { HasStored C.behaviour (answers_of model.now) limit (counts_in self.old.positions)
             self.new.stood (counts_in self.new.positions) }
     {
-        self.carry_on_as::<Brand, W>(alloc, model, phase, limit, observer)
+        self.advance_as::<Brand, W>(alloc, model, phase, limit, observer)
     }
 
     /// Runs the model M for at most so many events, from the last position up to there or from
     /// setup, or finds the box that is needed first. The observer is told of each event that is
     /// executed.
-    fn carry_on_as<M: ModelMarker, W: Observer>(
+    fn advance_as<M: ModelMarker, W: Observer>(
         &mut self,
         alloc: Global,
         model: &EvaluatedModel,
@@ -557,7 +561,7 @@ impl<C: Catalogue> Runner<C> {
         requires good { HasGood C.behaviour M.answers SimpleModule-box self.old }
         ensures kinds { HasKinds C.behaviour SimpleModule-box self.new.kernel }
         ensures good { HasGood C.behaviour M.answers SimpleModule-box self.new }
-        ensures advances { let kept = kept_boxes phase (boxes_in SimpleModule-box self.old) in
+        ensures advances { let kept = kept_boxes phase (standing_in SimpleModule-box self.old) in
             let left = world_in SimpleModule-box self.new.kernel in
             let waiting = waiting_in SimpleModule-box self.new in
             IfOk result (λ advance.
@@ -569,14 +573,14 @@ impl<C: Catalogue> Runner<C> {
         match self.go_back::<M>(alloc, limit)? {
             Some(start) => {
                 let mut answers = AskedModel::<M>::new(alloc, model)?;
-                let mut shown = ShownModules::new(alloc);
+                let mut shown = CallViews::new(alloc);
                 let outcome = self.run_on(alloc, &mut answers, &mut shown, limit, observer)?;
                 Ok(Advance::Ends(Some(start), outcome))
             }
             None => {
                 self.positions.clear();
                 self.stood = Stood::Before;
-                self.begin::<M, W>(alloc, model, phase, limit, observer)
+                self.run_from_setup::<M, W>(alloc, model, phase, limit, observer)
             }
         }
     }

@@ -6,13 +6,13 @@ ghost use Rattle.desk_answers.specs.Refusals.{refusal_name, refusal_place, refus
 ghost use Rattle.desk_client.specs.Answers.{counts_text, done_text, edit_refusal_text, edited_text, held_text, injection_text, numbers_text, positions_text, valid_text};
 ghost use Rattle.desk_client.specs.Answers.{fault_detail, fault_name, outcome_text, start_text, type_fault_name, IsTold};
 
-use desk_client::told::Told;
+use desk_client::told::AnswerContent;
 use edit_session::session::Report;
 use itoa::Buffer as Digits;
 use model_edits::edit::Refusal;
 use model_reading::begin::BeginFault;
 use ned_inheritance::table::TypeFault;
-use run_semantics::outcome::{Fault, Outcome};
+use run_semantics::outcome::{Outcome, RunFault};
 use sim_values::NoMemory;
 use sim_values::text::Text;
 use std::alloc::{AllocError, Global};
@@ -21,7 +21,7 @@ use std::alloc::{AllocError, Global};
 pub struct Answer {
     pub text: Text,
     /// What the text tells.
-    pub told: Told,
+    pub told: AnswerContent,
 }
 
 // Written out, so that a crate which drops one need not prove what that does.
@@ -43,39 +43,39 @@ impl Answer {
 }
 
 /// The name of a fault.
-fn fault_name(fault: &Fault) -> &'static [u8]
+fn fault_name(fault: &RunFault) -> &'static [u8]
     ensures { result.now ≡ fault_name fault.now }
 {
     match fault {
-        Fault::UnknownType => b"UnknownType",
-        Fault::Interface => b"Interface",
-        Fault::Unassigned => b"Unassigned",
-        Fault::Circle => b"Circle",
-        Fault::Overflow => b"Overflow",
-        Fault::Inexact => b"Inexact",
-        Fault::Mismatch => b"Mismatch",
-        Fault::GateSize => b"GateSize",
-        Fault::AlreadyConnected => b"AlreadyConnected",
-        Fault::Unconnected => b"Unconnected",
-        Fault::TooManyTurns => b"TooManyTurns",
-        Fault::TooManyModules => b"TooManyModules",
-        Fault::TooDeep => b"TooDeep",
-        Fault::UnknownClass => b"UnknownClass",
-        Fault::NoParameter => b"NoParameter",
-        Fault::NoGate => b"NoGate",
-        Fault::TooManyActions => b"TooManyActions",
-        Fault::NotInFinish => b"NotInFinish",
-        Fault::BadName => b"BadName",
-        Fault::TimeOverflow => b"TimeOverflow",
-        Fault::NotConnected => b"NotConnected",
-        Fault::TooManyHops => b"TooManyHops",
-        Fault::TwoTransmissionChannels => b"TwoTransmissionChannels",
-        Fault::Busy => b"Busy",
-        Fault::NoModule => b"NoModule",
-        Fault::PayloadTooLarge => b"PayloadTooLarge",
-        Fault::Past => b"Past",
-        Fault::AlreadyScheduled => b"AlreadyScheduled",
-        Fault::ModuleFailed(_) => b"ModuleFailed",
+        RunFault::UnknownType => b"UnknownType",
+        RunFault::Interface => b"Interface",
+        RunFault::Unassigned => b"Unassigned",
+        RunFault::Circle => b"Circle",
+        RunFault::Overflow => b"Overflow",
+        RunFault::Inexact => b"Inexact",
+        RunFault::Mismatch => b"Mismatch",
+        RunFault::GateSize => b"GateSize",
+        RunFault::AlreadyConnected => b"AlreadyConnected",
+        RunFault::Unconnected => b"Unconnected",
+        RunFault::TooManyTurns => b"TooManyTurns",
+        RunFault::TooManyModules => b"TooManyModules",
+        RunFault::TooDeep => b"TooDeep",
+        RunFault::UnknownClass => b"UnknownClass",
+        RunFault::NoParameter => b"NoParameter",
+        RunFault::NoGate => b"NoGate",
+        RunFault::TooManyActions => b"TooManyActions",
+        RunFault::NotInFinish => b"NotInFinish",
+        RunFault::BadName => b"BadName",
+        RunFault::TimeOverflow => b"TimeOverflow",
+        RunFault::NotConnected => b"NotConnected",
+        RunFault::TooManyHops => b"TooManyHops",
+        RunFault::TwoTransmissionChannels => b"TwoTransmissionChannels",
+        RunFault::Busy => b"Busy",
+        RunFault::NoModule => b"NoModule",
+        RunFault::PayloadTooLarge => b"PayloadTooLarge",
+        RunFault::Past => b"Past",
+        RunFault::AlreadyScheduled => b"AlreadyScheduled",
+        RunFault::ModuleFailed(_) => b"ModuleFailed",
     }
 }
 
@@ -95,10 +95,10 @@ fn push_number(text: &mut Vec<u8>, number: u64) -> Result<(), AllocError>
 }
 
 /// Adds what a module said that failed.
-fn push_detail(text: &mut Vec<u8>, fault: &Fault) -> Result<(), AllocError>
+fn push_detail(text: &mut Vec<u8>, fault: &RunFault) -> Result<(), AllocError>
     ensures { OnOk result (text.new.items ≡ text.old.items ++ fault_detail fault.now) }
 {
-    if let Fault::ModuleFailed(said) = fault {
+    if let RunFault::ModuleFailed(said) = fault {
         push(text, b": ")?;
         push(text, said.as_bytes())?;
     }
@@ -160,7 +160,7 @@ pub fn done(alloc: Global, report: Report) -> Result<Answer, AllocError>
     let text = done_text(alloc, &report)?;
     Ok(Answer {
         text,
-        told: Told::Done(report.outcome),
+        told: AnswerContent::Done(report.outcome),
     })
 }
 
@@ -363,6 +363,6 @@ pub fn refused(alloc: Global, refusal: Refusal) -> Result<Answer, NoMemory>
     let text = edit_refusal_text(alloc, refusal)?;
     Ok(Answer {
         text,
-        told: Told::Refused(refusal),
+        told: AnswerContent::Refused(refusal),
     })
 }

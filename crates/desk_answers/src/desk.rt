@@ -13,7 +13,7 @@ ghost use Rattle.desk_answers.specs.Turns.{editing_at, limit_at, limit_after, An
 
 use crate::answers::{Answer, done, edited_text, held_text, positions_text, refused, refused_as};
 use checkpoint_runs::observer::Observer;
-use desk_client::told::Told;
+use desk_client::told::AnswerContent;
 use desk_commands::commands::{Command, command_of};
 use edit_session::session::{FileFault, NotWanted, Progress, Session, SupplyFault};
 use kernel::request::Request;
@@ -96,11 +96,11 @@ impl<C: Catalogue> Desk<C> {
             Command::Held => Ok(DeskTurn::Text(self.held()?)),
             Command::Write | Command::Unknown | Command::Ned(_, _) => Ok(DeskTurn::Text(Answer {
                 text: refused_as(self.alloc, b"Command")?,
-                told: Told::NoCommand,
+                told: AnswerContent::NoCommand,
             })),
             Command::TooLarge => Ok(DeskTurn::Text(Answer {
                 text: refused_as(self.alloc, b"TooLarge")?,
-                told: Told::TooLarge,
+                told: AnswerContent::TooLarge,
             })),
         }
     }
@@ -125,7 +125,7 @@ impl<C: Catalogue> Desk<C> {
                 self.session.accept(change);
                 Ok(Answer {
                     text,
-                    told: Told::Edited(number),
+                    told: AnswerContent::Edited(number),
                 })
             }
             Err(refusal) => refused(self.alloc, refusal),
@@ -229,7 +229,7 @@ impl<C: Catalogue> Desk<C> {
     {
         Ok(Answer {
             text: positions_text(self.alloc, self.session.positions())?,
-            told: Told::Positions,
+            told: AnswerContent::Positions,
         })
     }
 
@@ -241,7 +241,7 @@ impl<C: Catalogue> Desk<C> {
     {
         Ok(Answer {
             text: held_text(self.alloc, self.session.held())?,
-            told: Told::Held,
+            told: AnswerContent::Held,
         })
     }
 

@@ -5,15 +5,15 @@ use Rattle.model_edits.specs.declared.edit.Refusal.{Refusal}
 use Rattle.model_edits.specs.declared.edit.Refusal.TheVariants as edit
 use Rattle.ned_inheritance.specs.declared.table.TypeFault.{TypeFault}
 use Rattle.ned_inheritance.specs.declared.table.TypeFault.TheVariants as types
-use Rattle.run_semantics.specs.declared.outcome.Fault.{Fault}
-use Rattle.run_semantics.specs.declared.outcome.Fault.TheVariants as fault
+use Rattle.run_semantics.specs.declared.outcome.RunFault.{RunFault}
+use Rattle.run_semantics.specs.declared.outcome.RunFault.TheVariants as fault
 use Rattle.run_semantics.specs.declared.outcome.Outcome.{Outcome}
 use Rattle.run_semantics.specs.declared.outcome.Outcome.TheVariants as outcome
-use Rattle.desk_client.specs.declared.told.Told.{Told}
-use Rattle.desk_client.specs.declared.told.Told.TheVariants as told
+use Rattle.desk_client.specs.declared.told.AnswerContent.{AnswerContent}
+use Rattle.desk_client.specs.declared.told.AnswerContent.TheVariants as told
 
 -- the name of a fault
-abbrev pub fault_name : Fault → List ℕ
+abbrev pub fault_name : RunFault → List ℕ
 fault_name fault.UnknownType = codes "UnknownType"
 fault_name fault.Interface = codes "Interface"
 fault_name fault.Unassigned = codes "Unassigned"
@@ -45,7 +45,7 @@ fault_name fault.AlreadyScheduled = codes "AlreadyScheduled"
 fault_name (fault.ModuleFailed text) = codes "ModuleFailed"
 
 -- and after the name of ModuleFailed what the module said
-abbrev pub fault_detail : Fault → List ℕ
+abbrev pub fault_detail : RunFault → List ℕ
 fault_detail (fault.ModuleFailed text) = codes ": " ++ text
 fault_detail _ = codes ""
 
@@ -127,7 +127,7 @@ edit_refusal_text (edit.NoMemory _) = None
 
 -- THE TEXT TELLS THAT: of a run how it ended, of an edit the number of the message that it put in,
 -- or why it is refused; of another command its text is what such a command is answered
-abbrev pub IsTold : Told → List ℕ → Type 0
+abbrev pub IsTold : AnswerContent → List ℕ → Type 0
 IsTold (told.Done o) text = (from : Option ℕ) × (executed : ℕ) × (text ≡ done_text o from executed)
 IsTold (told.Edited injection) text = (valid_to : Option ℕ) × (text ≡ edited_text valid_to injection)
 IsTold (told.Refused why) text = Some text ≡ edit_refusal_text why

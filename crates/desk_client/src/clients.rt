@@ -4,17 +4,17 @@ ghost use Rattle.std.specs.Prelude.{◌≡◌, ◌<◌, ℕ, List, ◌∷◌, �
 ghost use Rattle.result_lines.specs.Taken.{untouched};
 ghost use Rattle.desk_client.specs.Answers.{IsTold};
 ghost use Rattle.desk_client.specs.Devices.{HasFailed};
-ghost use Rattle.desk_client.specs.declared.clients.Stop.{Stop as StopValue};
-ghost use Rattle.desk_client.specs.declared.clients.Stop.TheVariants as why;
-ghost use Rattle.transcripts.specs.declared.asked.Asked.{Asked as AskedValue};
+ghost use Rattle.desk_client.specs.declared.clients.ServeEnd.{Stop as StopValue};
+ghost use Rattle.desk_client.specs.declared.clients.ServeEnd.TheVariants as why;
+ghost use Rattle.transcripts.specs.declared.asked.AskedLine.{AskedLine as AskedValue};
 ghost use Rattle.transcripts.specs.Heard.{Heard, Answer, Files, OutOfMemory, Read};
 
-use crate::told::Told;
-use input_texts::noted::Noted;
+use crate::told::AnswerContent;
+use input_texts::noted::GhostBytes;
 use result_lines::writer::Out;
 use sim_values::NoMemory;
 use sim_values::text::Text;
-use transcripts::asked::Asked;
+use transcripts::asked::AskedLine;
 
 /// A client can't ask or hear any more. It knows why.
 #[derive(Clone, Copy, PartialEq, Eq)]
@@ -23,7 +23,7 @@ pub struct Gone;
 /// The devices of the files of a run, with the name of the configuration that they were opened for.
 #[derive(Drop)]
 pub struct Pages<O> {
-    pub config: Noted,
+    pub config: GhostBytes,
     pub scalars: O,
     pub vectors: O,
 }
@@ -56,7 +56,7 @@ pub trait Client<O: Out + Drop> {
     ghost stops: { Self → StopValue → Type 0 };
 
     /// What it asks next, or nothing more.
-    fn next(&mut self) -> Result<Option<Asked>, Gone>
+    fn next(&mut self) -> Result<Option<AskedLine>, Gone>
         requires kept { keeps self.old }
         ensures kept { keeps self.new }
         ensures label { label self.new ≡ label self.old }
@@ -70,7 +70,7 @@ pub trait Client<O: Out + Drop> {
         ensures heard { heard self.new ≡ heard self.old };
 
     /// Hears an answer, and what it tells.
-    fn hear(&mut self, answer: &[u8], told: &Told) -> Result<(), Gone>
+    fn hear(&mut self, answer: &[u8], told: &AnswerContent) -> Result<(), Gone>
         requires kept { keeps self.old }
         requires told { IsTold told.now answer.now }
         ensures kept { keeps self.new }
@@ -145,7 +145,7 @@ pub trait Client<O: Out + Drop> {
 
 /// Why a client is served no more.
 #[derive(Clone, Copy, PartialEq, Eq)]
-pub enum Stop {
+pub enum ServeEnd {
     /// It asks nothing more.
     End,
     /// It can't ask or hear, or keep files.

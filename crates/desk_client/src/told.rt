@@ -5,7 +5,7 @@ use run_semantics::outcome::Outcome;
 
 /// What an answer tells, besides its text.
 #[derive(Drop)]
-pub enum Told {
+pub enum AnswerContent {
     /// A run is done, and ended so.
     Done(Outcome),
     /// An edit is made. The message that it put in has this number, where it put one in.

@@ -19,12 +19,12 @@ use Rattle.desk_commands.specs.declared.commands.Command.{Command}
 use Rattle.desk_commands.specs.declared.commands.Command.TheVariants as command
 use Rattle.desk_server.specs.Served.{Machine, AreHeard, Hears, HearsFiles, behind_run, command_asked, events_of}
 use Rattle.transcripts.specs.Heard.{Answer, Files, Heard, OutOfMemory, Read}
-use Rattle.transcripts.specs.declared.asked.Asked.{Asked}
+use Rattle.transcripts.specs.declared.asked.AskedLine.{AskedLine}
 use Rattle.desk_server.specs.Serving.{Seen, AreFilled, ComesTo, HearsNext, HearsOne, IsAt, IsCutOff, IsRunIn, RunsAlike}
 use Rattle.desk_server.specs.declared.serving.Next.{Next}
 use Rattle.desk_server.specs.declared.serving.Next.TheVariants as next
-use Rattle.desk_client.specs.declared.clients.Stop.TheVariants as stop
-use Rattle.desk_server.specs.declared.serving.Turn.TheVariants as turn
+use Rattle.desk_client.specs.declared.clients.ServeEnd.TheVariants as stop
+use Rattle.desk_server.specs.declared.serving.ServerStep.TheVariants as turn
 use Rattle.desk_server.proofs.Alike.{same_answer, same_positions, same_stored}
 
 nothing_more : (heard : List Heard) → heard ≡ heard ++ []
@@ -380,7 +380,7 @@ tells_written b before after kept config scalars vectors (next.Stop (stop.Device
 
 -- ---- one thing more is asked and heard
 
-pub heard_more : (b : Behaviour) (s mid after : Machine) (asks : List Asked) (hs front : List Heard) (a : Asked)
+pub heard_more : (b : Behaviour) (s mid after : Machine) (asks : List AskedLine) (hs front : List Heard) (a : AskedLine)
     → AreHeard b s asks hs mid → Hears b mid (command_asked a) front after → AreHeard b s (asks ++ a ∷ []) (hs ++ front) after
 heard_more b s mid after [] hs front a are is = (
   front,

@@ -18,13 +18,13 @@ use Rattle.desk_server.specs.Boxes.{most_boxes}
 use Rattle.desk_server.specs.Served.{Machine, AreHeard, BeginsToHear, Hears, command_asked, fresh_machine}
 use Rattle.desk_server.specs.Serving.{Seen, ComesTo, Ends, EndsServing, HearsNext, HearsOne, IsAt, IsCutOff, IsGoing, IsNextServing, IsRunIn, IsServed, IsServingTurn, NeedsBox, RunsAlike, Stands, StandsBy, WaitsIn, going, left_in_run, left_seen}
 use Rattle.transcripts.specs.Heard.{Heard, OutOfMemory}
-use Rattle.transcripts.specs.declared.asked.Asked.{Asked}
+use Rattle.transcripts.specs.declared.asked.AskedLine.{AskedLine}
 use Rattle.desk_server.specs.declared.serving.Next.{Next}
 use Rattle.desk_server.specs.declared.serving.Next.TheVariants as next
-use Rattle.desk_client.specs.declared.clients.Stop.{Stop}
-use Rattle.desk_client.specs.declared.clients.Stop.TheVariants as stop
-use Rattle.desk_server.specs.declared.serving.Turn.{Turn}
-use Rattle.desk_server.specs.declared.serving.Turn.TheVariants as turn
+use Rattle.desk_client.specs.declared.clients.ServeEnd.{ServeEnd}
+use Rattle.desk_client.specs.declared.clients.ServeEnd.TheVariants as stop
+use Rattle.desk_server.specs.declared.serving.ServerStep.{ServerStep}
+use Rattle.desk_server.specs.declared.serving.ServerStep.TheVariants as turn
 use Rattle.desk_server.proofs.Alike.{at_alike, waits_alike}
 use Rattle.desk_server.proofs.Hearing.{LeavesNone, heard_more, tells_none}
 use Rattle.desk_server.proofs.Turning.{few_left, supplied_left}
@@ -66,7 +66,7 @@ run_served b s mid limit before after g front asked heard hears at = record {
   heard = rw (asked, heard, g.all) (heard_more b s g.machine mid g.before before.heard front g.last g.heard (rw g.runs hears));
 }
 
-run_goes : (b : Behaviour) (limit : ℕ) (first before after : Seen) (t : Turn) → ((s : Machine) → Stands b s first → IsGoing b s limit before) → left_going before ≤ left_seen first
+run_goes : (b : Behaviour) (limit : ℕ) (first before after : Seen) (t : ServerStep) → ((s : Machine) → Stands b s first → IsGoing b s limit before) → left_going before ≤ left_seen first
     → IsRunIn b limit before after t → IsServingTurn b first after t
 run_goes b limit first before after (turn.Need made) on fits run = record {
   goes_on = λ s stands. still_going b s limit before after run.0 (on s stands);
@@ -90,14 +90,14 @@ run_goes b limit first before after (turn.Over (next.Stop stop.End)) on fits run
 run_goes b limit first before after (turn.Over (next.Stop (stop.Device page written))) on fits run = absurd run
 
 -- a run that goes on
-pub run_turn : (b : Behaviour) (limit : ℕ) (before after : Seen) (t : Turn) → before.running ≡ Some limit → IsRunIn b limit before after t → IsServingTurn b before after t
+pub run_turn : (b : Behaviour) (limit : ℕ) (before after : Seen) (t : ServerStep) → before.running ≡ Some limit → IsRunIn b limit before after t → IsServingTurn b before after t
 run_turn b limit before after t is run =
     run_goes b limit before before after t (λ s stands. subst (λ r. StandsBy r b s before) is stands) (rw is (omega arith)) run
 
 -- ---- something is asked
 
 -- What is seen where this was asked last, and no run went on.
-pub record AsksNow (before mid : Seen) (a : Asked) : Type 0 where
+pub record AsksNow (before mid : Seen) (a : AskedLine) : Type 0 where
   pub idle : before.running ≡ None
   pub asked : mid.asked ≡ before.asked ++ a ∷ []
   pub heard : mid.heard ≡ before.heard
@@ -113,7 +113,7 @@ fewer_going n m x y less few = omega (arith, less, few)
 fewer_left : (n m y : ℕ) → m < n → m * (most_boxes + 4) + 0 < n * (most_boxes + 4) + y
 fewer_left n m y less = omega (arith, less)
 
-now_going : (b : Behaviour) (s : Machine) (a : Asked) (limit : ℕ) (before mid : Seen) → command_asked a ≡ command.Run limit → AsksNow before mid a → IsServed b s before → IsGoing b s limit mid
+now_going : (b : Behaviour) (s : Machine) (a : AskedLine) (limit : ℕ) (before mid : Seen) → command_asked a ≡ command.Run limit → AsksNow before mid a → IsServed b s before → IsGoing b s limit mid
 now_going b s a limit before mid is asks v = record {
   before = before.asked;
   last = a;
@@ -124,11 +124,11 @@ now_going b s a limit before mid is asks v = record {
   heard = subst (λ (h : List Heard). AreHeard b s before.asked h v.machine) (sym asks.heard) v.heard;
 }
 
-now_begins : (b : Behaviour) (a : Asked) (c : Command) (before mid after : Seen) → command_asked a ≡ c → AsksNow before mid a → (cut : IsCutOff b c (IsAt b mid.editing) mid after)
+now_begins : (b : Behaviour) (a : AskedLine) (c : Command) (before mid after : Seen) → command_asked a ≡ c → AsksNow before mid a → (cut : IsCutOff b c (IsAt b mid.editing) mid after)
     → (s : Machine) → IsAt b before.editing s → BeginsToHear b s (command_asked a) cut.more
 now_begins b a c before mid after is asks cut s at = rw is (cut.begins s (subst (λ e. IsAt b e s) (sym asks.editing) at))
 
-now_heard : (b : Behaviour) (s : Machine) (a : Asked) (c : Command) (before mid after : Seen) (n : Next) → command_asked a ≡ c → AsksNow before mid a → HearsNext b c mid after n
+now_heard : (b : Behaviour) (s : Machine) (a : AskedLine) (c : Command) (before mid after : Seen) (n : Next) → command_asked a ≡ c → AsksNow before mid a → HearsNext b c mid after n
     → IsNextServing b before after n
 now_heard b s a c before mid after next.GoOn is asks hears = (
   (λ t stands. let v = served b t before asks.idle stands in
@@ -146,7 +146,7 @@ now_heard b s a c before mid after (next.Stop (stop.Device page written)) is ask
     record { before = before.asked; last = a; all = cut.asked ∙ asks.asked; front = before.heard; more = cut.more; heard_is = cut.heard ∙ ap (λ (h : List Heard). h ++ cut.more) asks.heard; left = v.machine; are = v.heard; begins = now_begins b a c before mid after is asks cut v.machine v.at }
 now_heard b s a c before mid after (next.Stop stop.End) is asks cut = absurd cut
 
-by_command : (b : Behaviour) (s : Machine) (a : Asked) (c : Command) (before mid after : Seen) (t : Turn) → command_asked a ≡ c → AsksNow before mid a → ComesTo b c mid after t
+by_command : (b : Behaviour) (s : Machine) (a : AskedLine) (c : Command) (before mid after : Seen) (t : ServerStep) → command_asked a ≡ c → AsksNow before mid a → ComesTo b c mid after t
     → IsServingTurn b before after t
 by_command b s a (command.Run limit) before mid after t is asks run =
     run_goes b limit before mid after t (λ m stands. now_going b m a limit before mid is asks (served b m before asks.idle stands))
@@ -166,7 +166,7 @@ by_command b s a command.Write before mid after (turn.Need made) is asks hears =
 by_command b s a command.Unknown before mid after (turn.Need made) is asks hears = absurd hears
 by_command b s a command.TooLarge before mid after (turn.Need made) is asks hears = absurd hears
 
-pub asked_turn : (b : Behaviour) (a : Asked) (before mid after : Seen) (t : Turn) → AsksNow before mid a → ComesTo b (command_asked a) mid after t → IsServingTurn b before after t
+pub asked_turn : (b : Behaviour) (a : AskedLine) (before mid after : Seen) (t : ServerStep) → AsksNow before mid a → ComesTo b (command_asked a) mid after t → IsServingTurn b before after t
 asked_turn b a before mid after t asks comes = by_command b (fresh_machine before.editing.model 0) a (command_asked a) before mid after t refl asks comes
 
 -- ---- memory runs out for a box
@@ -241,7 +241,7 @@ went_serving b before mid after made (next.Stop why) needed went = λ s stands. 
 
 -- ---- the end
 
-pub ends_served : (b : Behaviour) (s : Machine) (v : Seen) (why : Stop) → EndsServing b s v why → Ends b s v.asked v.heard why
+pub ends_served : (b : Behaviour) (s : Machine) (v : Seen) (why : ServeEnd) → EndsServing b s v why → Ends b s v.asked v.heard why
 ends_served b s v stop.End is = (is.machine, is.heard)
 ends_served b s v stop.Gone (inl is) = inl (is.machine, is.heard)
 ends_served b s v stop.Gone (inr is) = inr is

@@ -16,8 +16,8 @@ use Rattle.checkpoint_runs.specs.Positions.{cut, last_count, positions_after, Ha
 use Rattle.desk_client.specs.Answers.{held_text, positions_text}
 use Rattle.desk_answers.specs.Turns.{run_answer, IsMade, IsRefused}
 use Rattle.transcripts.specs.Heard.{Answer, Files, Heard, OutOfMemory, Read}
-use Rattle.transcripts.specs.declared.asked.Asked.{Asked}
-use Rattle.transcripts.specs.declared.asked.Asked.TheVariants as asked
+use Rattle.transcripts.specs.declared.asked.AskedLine.{AskedLine}
+use Rattle.transcripts.specs.declared.asked.AskedLine.TheVariants as asked
 
 -- THE PLAIN MACHINE holds a model, the limit of the last run that is done, if there is one, how
 -- many boxes there are, of how many events of a run of the model the questions are known, and after
@@ -34,7 +34,7 @@ abbrev pub events_of : Behaviour → Model → ℕ → ℕ
 events_of b m limit = (fresh_run b (answers_of m) limit).world.count
 
 -- the command that is asked for; a line that is too long to be kept is too large
-abbrev pub command_asked : Asked → Command
+abbrev pub command_asked : AskedLine → Command
 command_asked (asked.Line text) = command_of text
 command_asked asked.TooLong = command.TooLarge
 
@@ -109,7 +109,7 @@ Hears b s command.TooLarge heard s' = (heard ≡ Answer (codes "refused TooLarge
 
 -- WHAT IS HEARD OF ALL that was asked, one after the other: each by the machine that all before it
 -- left
-abbrev pub AreHeard : Behaviour → Machine → List Asked → List Heard → Machine → Type 0
+abbrev pub AreHeard : Behaviour → Machine → List AskedLine → List Heard → Machine → Type 0
 AreHeard b s [] heard s' = (heard ≡ []) × (s' ≡ s)
 AreHeard b s (a ∷ more) heard s' = (front rest : List Heard) × (mid : Machine)
     × (heard ≡ front ++ rest) × Hears b s (command_asked a) front mid × AreHeard b mid more rest s'
@@ -126,9 +126,9 @@ pub record BeginsToHear (b : Behaviour) (s : Machine) (c : Command) (heard : Lis
   pub whole : Hears b s c (heard ++ missed ∷ rest) behind
 
 -- Of the last that was asked not all is heard, and nothing else.
-pub record IsBroken (b : Behaviour) (s : Machine) (asks : List Asked) (heard : List Heard) : Type 0 where
-  pub before : List Asked
-  pub last : Asked
+pub record IsBroken (b : Behaviour) (s : Machine) (asks : List AskedLine) (heard : List Heard) : Type 0 where
+  pub before : List AskedLine
+  pub last : AskedLine
   pub all : asks ≡ before ++ last ∷ []
   pub front : List Heard
   pub more : List Heard

@@ -15,25 +15,25 @@ use Rattle.checkpoint_runs.specs.declared.running.Phase.TheVariants.{Declined}
 use Rattle.desk_server.specs.Boxes.{left_of, most_boxes}
 use Rattle.desk_server.specs.Served.{Machine, AreHeard, BeginsToHear, Hears, HearsRun, IsBroken, command_asked}
 use Rattle.transcripts.specs.Heard.{Heard}
-use Rattle.transcripts.specs.declared.asked.Asked.{Asked}
+use Rattle.transcripts.specs.declared.asked.AskedLine.{AskedLine}
 use Rattle.desk_server.specs.declared.serving.Next.{Next}
 use Rattle.desk_server.specs.declared.serving.Next.TheVariants as next
 use Rattle.desk_server.specs.declared.serving.Server.{Server}
-use Rattle.desk_client.specs.declared.clients.Stop.{Stop}
-use Rattle.desk_client.specs.declared.clients.Stop.TheVariants as stop
-use Rattle.desk_server.specs.declared.serving.Turn.{Turn}
-use Rattle.desk_server.specs.declared.serving.Turn.TheVariants as turn
+use Rattle.desk_client.specs.declared.clients.ServeEnd.{ServeEnd}
+use Rattle.desk_client.specs.declared.clients.ServeEnd.TheVariants as stop
+use Rattle.desk_server.specs.declared.serving.ServerStep.{ServerStep}
+use Rattle.desk_server.specs.declared.serving.ServerStep.TheVariants as turn
 
 -- what is seen of a desk with a client: its session; what the client asked and heard, and how often
 -- it may still ask; and the limit of the run that is going on, if there is one
 pub record Seen : Type 0 where
   pub editing : Editing
-  pub asked : List Asked
+  pub asked : List AskedLine
   pub heard : List Heard
   pub may : ℕ
   pub running : Option ℕ
 
-abbrev pub seen : Editing → List Asked → List Heard → ℕ → Option ℕ → Seen
+abbrev pub seen : Editing → List AskedLine → List Heard → ℕ → Option ℕ → Seen
 seen e asked heard may running = record { editing = e; asked = asked; heard = heard; may = may; running = running }
 
 -- ---- what stays true
@@ -62,8 +62,8 @@ pub record IsServed (b : Behaviour) (s : Machine) (v : Seen) : Type 0 where
 -- A run to that limit was asked last, and goes on; all before is heard. It began with setup, and
 -- where the machine has positions, all after the limit, the session has none any more.
 pub record IsGoing (b : Behaviour) (s : Machine) (limit : ℕ) (v : Seen) : Type 0 where
-  pub before : List Asked
-  pub last : Asked
+  pub before : List AskedLine
+  pub last : AskedLine
   pub all : v.asked ≡ before ++ last ∷ []
   pub runs : command_asked last ≡ command.Run limit
   pub machine : Machine
@@ -99,22 +99,22 @@ left_seen v = v.may * (most_boxes + 4) + going v.running (left_in_run v.editing)
 -- ---- how it ends
 
 -- all that was asked is heard; or not all of the last
-abbrev pub EndsServing : Behaviour → Machine → Seen → Stop → Type 0
+abbrev pub EndsServing : Behaviour → Machine → Seen → ServeEnd → Type 0
 EndsServing b s v stop.End = IsServed b s v
 EndsServing b s v stop.Gone = IsServed b s v ⊎ IsBroken b s v.asked v.heard
 EndsServing b s v (stop.Device page written) = IsBroken b s v.asked v.heard
 
-abbrev pub Ends : Behaviour → Machine → List Asked → List Heard → Stop → Type 0
+abbrev pub Ends : Behaviour → Machine → List AskedLine → List Heard → ServeEnd → Type 0
 Ends b s asked heard stop.End = (s' : Machine) × AreHeard b s asked heard s'
 Ends b s asked heard stop.Gone = ((s' : Machine) × AreHeard b s asked heard s') ⊎ IsBroken b s asked heard
 Ends b s asked heard (stop.Device page written) = IsBroken b s asked heard
 
 -- A client is served no more only where that is true of it which it says of the reason.
-abbrev pub MayStopAt : (Stop → Type 0) → Next → Type 0
+abbrev pub MayStopAt : (ServeEnd → Type 0) → Next → Type 0
 MayStopAt stops next.GoOn = Unit {0}
 MayStopAt stops (next.Stop why) = stops why
 
-abbrev pub MayStopIn : (Stop → Type 0) → Turn → Type 0
+abbrev pub MayStopIn : (ServeEnd → Type 0) → ServerStep → Type 0
 MayStopIn stops (turn.Need made) = Unit {0}
 MayStopIn stops (turn.Over n) = MayStopAt stops n
 
@@ -138,7 +138,7 @@ pub record NeedsBox (b : Behaviour) (before after : Seen) (made : StockModule) :
   pub going : IsSome after.running
   pub left : left_seen after ≤ left_seen before
 
-abbrev pub IsServingTurn : Behaviour → Seen → Seen → Turn → Type 0
+abbrev pub IsServingTurn : Behaviour → Seen → Seen → ServerStep → Type 0
 IsServingTurn b before after (turn.Need made) = NeedsBox b before after made
 IsServingTurn b before after (turn.Over n) = IsNextServing b before after n
 
@@ -177,7 +177,7 @@ AreFilled b m (Some done) scalars vectors = (scalars ≡ scalars_of_run b m done
 
 module _ {O K X : Type 0} {Y : X → Type 0} where
   -- what is seen of a server, by what its client says of itself
-  abbrev pub seen_in : Members X Y → (K → List Asked) → (K → List Heard) → (K → ℕ) → Server O K X Y → Seen
+  abbrev pub seen_in : Members X Y → (K → List AskedLine) → (K → List Heard) → (K → ℕ) → Server O K X Y → Seen
   seen_in members asked heard may server = seen (editing_at members server.desk) (asked server.client) (heard server.client) (may server.client) server.running
 
   -- what it keeps
@@ -194,9 +194,9 @@ module _ {O K X : Type 0} {Y : X → Type 0} where
     pub kept : keeps server.client
 
   -- What each step comes to, by what the client says of itself. The step's own relation, and which
-  -- of its answers end it, are handed over: it answers a `Next` or a `Turn`.
-  pub record Serves {R : Type 0} (b : Behaviour) (members : Members X Y) (asked_of : K → List Asked) (heard_of : K → List Heard) (may_ask : K → ℕ)
-      (keeps : K → Type 0) (label_of : K → ℕ) (stops_of : K → Stop → Type 0) (may_stop : (Stop → Type 0) → R → Type 0) (is_step : Seen → Seen → R → Type 0)
+  -- of its answers end it, are handed over: it answers a `Next` or a `ServerStep`.
+  pub record Serves {R : Type 0} (b : Behaviour) (members : Members X Y) (asked_of : K → List AskedLine) (heard_of : K → List Heard) (may_ask : K → ℕ)
+      (keeps : K → Type 0) (label_of : K → ℕ) (stops_of : K → ServeEnd → Type 0) (may_stop : (ServeEnd → Type 0) → R → Type 0) (is_step : Seen → Seen → R → Type 0)
       (before after : Server O K X Y) (answer : R) : Type 0 where
     -- the client keeps true of itself what it says
     pub kept : keeps after.client
@@ -211,8 +211,8 @@ module _ {O K X : Type 0} {Y : X → Type 0} where
 
   -- The client hears this, an answer or that memory ran out, or is gone, and nothing else changes
   -- but which run goes on.
-  pub record Tells (asked_of : K → List Asked) (heard_of : K → List Heard) (may_ask : K → ℕ) (keeps : K → Type 0) (label_of : K → ℕ)
-      (stops_of : K → Stop → Type 0) (told : Heard) (goes_on : Option ℕ) (before after : Server O K X Y) (answer : Next) : Type 0 where
+  pub record Tells (asked_of : K → List AskedLine) (heard_of : K → List Heard) (may_ask : K → ℕ) (keeps : K → Type 0) (label_of : K → ℕ)
+      (stops_of : K → ServeEnd → Type 0) (told : Heard) (goes_on : Option ℕ) (before after : Server O K X Y) (answer : Next) : Type 0 where
     -- the client keeps true of itself what it says
     pub kept : keeps after.client
     -- its label is that from before
@@ -243,14 +243,14 @@ pub record WaitsIn (before after : Seen) (limit : ℕ) : Type 0 where
   pub positions : after.editing.positions ≡ cut None before.editing.positions
 
 -- a box is made for what the run waits for, or there may be no such box, and the run is told so
-abbrev pub IsMetIn : Behaviour → Editing → Editing → Turn → Type 0
+abbrev pub IsMetIn : Behaviour → Editing → Editing → ServerStep → Type 0
 IsMetIn b before after (turn.Need made) = (after ≡ before) × IsFor b (wanted_of after) (module_of made)
 IsMetIn b before after (turn.Over next.GoOn) = after ≡ record before { phase = Declined }
 IsMetIn b before after (turn.Over (next.Stop why)) = ⊥
 
 -- A run to that limit is done and its answer is heard, or memory ran out; it waits for a box of
 -- what is made, or was told that there is none; or the client is gone.
-abbrev pub IsRunIn : Behaviour → ℕ → Seen → Seen → Turn → Type 0
+abbrev pub IsRunIn : Behaviour → ℕ → Seen → Seen → ServerStep → Type 0
 IsRunIn b limit before after (turn.Need made) =
     WaitsIn before after limit × IsFor b (wanted_of after.editing) (module_of made) × IsSome (wanted_of after.editing)
     × (left_in_run after.editing ≤ left_in_run before.editing)
@@ -262,7 +262,7 @@ IsRunIn b limit before after (turn.Over (next.Stop _)) = ⊥
 
 -- What a command comes to that is asked where no run goes on: a run goes on or is heard; all else
 -- is heard at once.
-abbrev pub ComesTo : Behaviour → Command → Seen → Seen → Turn → Type 0
+abbrev pub ComesTo : Behaviour → Command → Seen → Seen → ServerStep → Type 0
 ComesTo b (command.Run limit) before after t = IsRunIn b limit before after t
 ComesTo b c before after (turn.Over n) = HearsNext b c before after n
 ComesTo b c before after (turn.Need made) = ⊥

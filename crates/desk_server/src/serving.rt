@@ -15,12 +15,12 @@ ghost use Rattle.result_lines.specs.Taken.{untouched};
 ghost use Rattle.transcripts.specs.Heard.{Answer, OutOfMemory};
 ghost use Rattle.desk_client.specs.Answers.{IsTold};
 ghost use Rattle.desk_client.specs.Devices.{HasFailed};
-ghost use Rattle.desk_client.specs.declared.clients.Stop.TheVariants as why;
+ghost use Rattle.desk_client.specs.declared.clients.ServeEnd.TheVariants as why;
 
 use checkpoint_runs::observer::Observer;
 use desk_answers::desk::{Desk, DeskTurn};
-use desk_client::clients::{Client, Gone, Page, Pages, Stop};
-use desk_client::told::Told;
+use desk_client::clients::{Client, Gone, Page, Pages, ServeEnd};
+use desk_client::told::AnswerContent;
 use desk_commands::commands::{Command, command_of};
 use edit_session::session::{FileFault, Session, SupplyReason};
 use kernel::request::Request;
@@ -35,19 +35,19 @@ use sim_values::NoMemory;
 use sim_values::text::Text;
 use std::alloc::Global;
 use std::marker::PhantomData;
-use transcripts::asked::Asked;
+use transcripts::asked::AskedLine;
 
 /// What comes next.
 #[derive(Drop)]
 enum Next {
     /// The next turn.
     GoOn,
-    Stop(Stop),
+    Stop(ServeEnd),
 }
 
 /// What a turn came to.
 #[derive(Drop)]
-enum Turn {
+enum ServerStep {
     /// A run waits for a box, and this goes into it.
     Need(StockModule),
     /// The turn is over, and this comes next.
@@ -68,7 +68,7 @@ struct Server<O, K> {
 
 impl<O: Out + Drop, K: Client<O> + Drop> Server<O, K> {
     /// The client hears an answer to this command, and what it tells.
-    fn hear(&mut self, answer: &[u8], told: &Told) -> Next
+    fn hear(&mut self, answer: &[u8], told: &AnswerContent) -> Next
         requires kept { K.keeps self.old.client }
         requires told { IsTold told.now answer.now }
         ensures { Tells K.asked K.heard K.left K.keeps K.label K.stops
@@ -76,12 +76,12 @@ impl<O: Out + Drop, K: Client<O> + Drop> Server<O, K> {
     {
         match self.client.hear(answer, told) {
             Ok(()) => Next::GoOn,
-            Err(Gone) => Next::Stop(Stop::Gone),
+            Err(Gone) => Next::Stop(ServeEnd::Gone),
         }
     }
 
     /// What a run needs that waits for a box: a module of that kind, or to hear that there is none.
-    fn need_of(&mut self, alloc: Global, request: &Request) -> Turn
+    fn need_of(&mut self, alloc: Global, request: &Request) -> ServerStep
         requires waits { wanted_of (editing_at SimpleModule-box self.old.desk) ≡ Some request.now }
         requires sound { IsServer stock SimpleModule-box self.old }
         ensures sound { IsServer stock SimpleModule-box self.new }
@@ -91,16 +91,16 @@ impl<O: Out + Drop, K: Client<O> + Drop> Server<O, K> {
             IsMetIn stock before (editing_at SimpleModule-box self.new.desk) result }
     {
         match StockModule::of_kind(alloc, request.kind.as_bytes()) {
-            Some(made) => Turn::Need(made),
+            Some(made) => ServerStep::Need(made),
             None => {
                 let _declined = self.desk.decline();
-                Turn::Over(Next::GoOn)
+                ServerStep::Over(Next::GoOn)
             }
         }
     }
 
     /// Begins the run to that limit, or goes on with it.
-    fn run<W: Observer>(&mut self, alloc: Global, limit: u64, observer: &mut W) -> Turn
+    fn run<W: Observer>(&mut self, alloc: Global, limit: u64, observer: &mut W) -> ServerStep
         requires sound { IsServer stock SimpleModule-box self.old }
         requires kept { K.keeps self.old.client }
         ensures { Serves stock SimpleModule-box K.asked K.heard K.left K.keeps K.label K.stops
@@ -109,13 +109,13 @@ impl<O: Out + Drop, K: Client<O> + Drop> Server<O, K> {
         match self.desk.run(limit, observer) {
             Ok(DeskTurn::Text(answer)) => {
                 self.running = None;
-                Turn::Over(self.hear(answer.text.as_bytes(), &answer.told))
+                ServerStep::Over(self.hear(answer.text.as_bytes(), &answer.told))
             }
             Ok(DeskTurn::Want(request)) => {
                 self.running = Some(limit);
                 self.need_of(alloc, &request)
             }
-            Err(error) => Turn::Over(self.out_of_memory(error)),
+            Err(error) => ServerStep::Over(self.out_of_memory(error)),
         }
     }
 
@@ -128,7 +128,7 @@ impl<O: Out + Drop, K: Client<O> + Drop> Server<O, K> {
         self.running = None;
         match self.client.hear_no_memory(error) {
             Ok(()) => Next::GoOn,
-            Err(Gone) => Next::Stop(Stop::Gone),
+            Err(Gone) => Next::Stop(ServeEnd::Gone),
         }
     }
 
@@ -153,7 +153,7 @@ impl<O: Out + Drop, K: Client<O> + Drop> Server<O, K> {
     {
         match self.client.read(path.as_bytes()) {
             Ok(text) => self.edit(Edit::ReplaceNed(number as usize, text)),
-            Err(Gone) => Next::Stop(Stop::Gone),
+            Err(Gone) => Next::Stop(ServeEnd::Gone),
         }
     }
 
@@ -188,11 +188,11 @@ impl<O: Out + Drop, K: Client<O> + Drop> Server<O, K> {
             MayStopAt (HearsNext stock commands.Write) self.old self.new result }
     {
         if self.desk.outcome().is_none() {
-            return self.hear(b"refused NotDone".as_slice(), &Told::NotDone);
+            return self.hear(b"refused NotDone".as_slice(), &AnswerContent::NotDone);
         }
         match self.client.open(self.desk.config()) {
             Ok(pages) => self.fill(pages),
-            Err(Gone) => Next::Stop(Stop::Gone),
+            Err(Gone) => Next::Stop(ServeEnd::Gone),
         }
     }
 
@@ -210,12 +210,12 @@ impl<O: Out + Drop, K: Client<O> + Drop> Server<O, K> {
         let mut pages = pages;
         match self.write_both(&mut pages) {
             Ok(()) => match self.client.keep(pages) {
-                Ok(()) => self.hear(b"written".as_slice(), &Told::Written),
-                Err(Gone) => Next::Stop(Stop::Gone),
+                Ok(()) => self.hear(b"written".as_slice(), &AnswerContent::Written),
+                Err(Gone) => Next::Stop(ServeEnd::Gone),
             },
             Err((page, written)) => {
                 self.client.lose(pages, page, written);
-                Next::Stop(Stop::Device(page, written))
+                Next::Stop(ServeEnd::Device(page, written))
             }
         }
     }
@@ -245,46 +245,56 @@ impl<O: Out + Drop, K: Client<O> + Drop> Server<O, K> {
     }
 
     /// Does what a command asks for.
-    fn command<W: Observer>(&mut self, alloc: Global, command: Command, observer: &mut W) -> Turn
+    fn command<W: Observer>(
+        &mut self,
+        alloc: Global,
+        command: Command,
+        observer: &mut W,
+    ) -> ServerStep
         requires { IsReady stock SimpleModule-box K.keeps self.old }
         ensures { Serves stock SimpleModule-box K.asked K.heard K.left K.keeps K.label K.stops
             MayStopIn (ComesTo stock command) self.old self.new result }
     {
         match command {
             Command::Run(limit) => self.run(alloc, limit, observer),
-            Command::Edit(edit) => Turn::Over(self.edit(edit)),
-            Command::Ned(number, path) => Turn::Over(self.ned(number, path)),
-            Command::Positions => Turn::Over(self.positions()),
-            Command::Held => Turn::Over(self.held()),
-            Command::Write => Turn::Over(self.write()),
-            Command::Unknown => Turn::Over(self.hear(
+            Command::Edit(edit) => ServerStep::Over(self.edit(edit)),
+            Command::Ned(number, path) => ServerStep::Over(self.ned(number, path)),
+            Command::Positions => ServerStep::Over(self.positions()),
+            Command::Held => ServerStep::Over(self.held()),
+            Command::Write => ServerStep::Over(self.write()),
+            Command::Unknown => ServerStep::Over(self.hear(
                 b"refused Command".as_slice(),
-                &Told::NoCommand,
+                &AnswerContent::NoCommand,
             )),
-            Command::TooLarge => Turn::Over(self.hear(
+            Command::TooLarge => ServerStep::Over(self.hear(
                 b"refused TooLarge".as_slice(),
-                &Told::TooLarge,
+                &AnswerContent::TooLarge,
             )),
         }
     }
 
     /// Does what was asked.
-    fn answer<W: Observer>(&mut self, alloc: Global, asked: Asked, observer: &mut W) -> Turn
+    fn answer<W: Observer>(
+        &mut self,
+        alloc: Global,
+        asked: AskedLine,
+        observer: &mut W,
+    ) -> ServerStep
         requires { IsReady stock SimpleModule-box K.keeps self.old }
         ensures { Serves stock SimpleModule-box K.asked K.heard K.left K.keeps K.label K.stops
             MayStopIn (ComesTo stock (command_asked asked)) self.old self.new result }
     {
         match asked {
-            Asked::Line(text) => match command_of(alloc, text.as_bytes()) {
+            AskedLine::Line(text) => match command_of(alloc, text.as_bytes()) {
                 Ok(command) => self.command(alloc, command, observer),
-                Err(error) => Turn::Over(self.out_of_memory(error)),
+                Err(error) => ServerStep::Over(self.out_of_memory(error)),
             },
-            Asked::TooLong => self.command(alloc, Command::TooLarge, observer),
+            AskedLine::TooLong => self.command(alloc, Command::TooLarge, observer),
         }
     }
 
     /// Goes on with the run, or does what the client asks next.
-    fn turn<W: Observer>(&mut self, alloc: Global, observer: &mut W) -> Turn
+    fn turn<W: Observer>(&mut self, alloc: Global, observer: &mut W) -> ServerStep
         requires sound { IsServer stock SimpleModule-box self.old }
         requires kept { K.keeps self.old.client }
         ensures { Serves stock SimpleModule-box K.asked K.heard K.left K.keeps K.label K.stops
@@ -295,8 +305,8 @@ impl<O: Out + Drop, K: Client<O> + Drop> Server<O, K> {
         }
         match self.client.next() {
             Ok(Some(asked)) => self.answer(alloc, asked, observer),
-            Ok(None) => Turn::Over(Next::Stop(Stop::End)),
-            Err(Gone) => Turn::Over(Next::Stop(Stop::Gone)),
+            Ok(None) => ServerStep::Over(Next::Stop(ServeEnd::End)),
+            Err(Gone) => ServerStep::Over(Next::Stop(ServeEnd::Gone)),
         }
     }
 
@@ -348,7 +358,7 @@ pub fn serve<O: Out + Drop, K: Client<O> + Drop, W: Observer>(
     interval: u64,
     client: K,
     observer: &mut W,
-) -> Result<(K, Stop), BeginFault>
+) -> Result<(K, ServeEnd), BeginFault>
     requires interval { 1 ≤ interval }
     requires unasked { K.asked client ≡ [] }
     requires unheard { K.heard client ≡ [] }
@@ -378,14 +388,14 @@ pub fn serve<O: Out + Drop, K: Client<O> + Drop, W: Observer>(
     };
     'turns: loop {
         let next = match server.turn(alloc, observer) {
-            Turn::Need(made) => match Box::new(alloc, made) {
+            ServerStep::Need(made) => match Box::new(alloc, made) {
                 Ok(held) => {
                     let held: Box<dyn SimpleModule> = held;
                     server.supply(held)
                 }
                 Err(failed) => server.out_of_memory(failed.into()),
             },
-            Turn::Over(next) => next,
+            ServerStep::Over(next) => next,
         };
         if let Next::Stop(stop) = next {
             return Ok((server.into_client(), stop));

@@ -11,7 +11,7 @@ use Rattle.run_semantics.specs.Run.{Part, standing}
 use Rattle.checkpoints.specs.Stored.{begun, counts_in, counts_of, IsBegun, Timeline}
 use Rattle.kernel_actions.specs.declared.position.Position.{Position}
 use Rattle.kernel.specs.declared.request.Request.{Request}
-use Rattle.kernel_boxes.specs.Seats.{Seat, AreBelow, AreOfKinds, instance_of}
+use Rattle.kernel_boxes.specs.Seats.{BoxAt, AreBelow, AreOfKinds, instance_of}
 use Rattle.kernel.specs.Seats.{missing_of}
 use Rattle.checkpoint_runs.specs.declared.running.Phase.{Phase}
 use Rattle.checkpoint_runs.specs.declared.running.Phase.TheVariants.{Idle, Waiting, Declined}
@@ -24,28 +24,28 @@ use Rattle.checkpoint_runs.proofs.Filling.{filled_above, filled_declined, filled
 use Rattle.edit_session.specs.Editing.{Completed, Editing, IsFor, IsKept, IsLeft, IsUnknown, waited_for, with_wanted}
 
 -- the boxes of a session, of which those wait
-abbrev pub all_boxes : World → List Seat → List Part
+abbrev pub all_boxes : World → List BoxAt → List Part
 all_boxes w xs = standing w.modules ++ parts_in xs
 
 -- where no module stands they are those that wait
-pub waiting_boxes : (w : World) (xs : List Seat) → w.modules ≡ [] → all_boxes w xs ≡ parts_in xs
+pub waiting_boxes : (w : World) (xs : List BoxAt) → w.modules ≡ [] → all_boxes w xs ≡ parts_in xs
 waiting_boxes w xs e = ap (λ (is : List Instance). standing is ++ parts_in xs) e
 
 -- the request, where the world waits for its box
-waited : (b : Behaviour) (m : Answers) (w : World) (xs : List Seat) (r : Request) → IsFilled b m w xs → wanted_by m (all_boxes w xs) ≡ Some r → missing_of w (parts_in xs) ≡ Some r
+waited : (b : Behaviour) (m : Answers) (w : World) (xs : List BoxAt) (r : Request) → IsFilled b m w xs → wanted_by m (all_boxes w xs) ≡ Some r → missing_of w (parts_in xs) ≡ Some r
 waited b m w xs r filled wanted = filled_wants b m w xs filled ∙ ap (wanted_by m) (sym (waiting_boxes w xs filled.none)) ∙ wanted
 
 request_of : (o : Option Request) (id : ℕ) → option_map (λ (r : Request). r.id) o ≡ Some id → (r : Request) × (o ≡ Some r) × (id ≡ r.id)
 request_of o id e = some_part (λ (r : Request). r.id) o id e
 
 -- what is waited for is what is missing
-pub wanted_missing : (b : Behaviour) (ss xs : List Seat) (w : World) (m : Model) (phase : Phase) (done : Option Completed) (known : Option ℕ) (ps : Timeline Position) → (from : Option ℕ) (at : Point) → phase ≡ Waiting from at → IsKept b ss xs w m phase done known ps
+pub wanted_missing : (b : Behaviour) (ss xs : List BoxAt) (w : World) (m : Model) (phase : Phase) (done : Option Completed) (known : Option ℕ) (ps : Timeline Position) → (from : Option ℕ) (at : Point) → phase ≡ Waiting from at → IsKept b ss xs w m phase done known ps
     → missing_of w (parts_in xs) ≡ waited_for phase m (all_boxes w xs)
 wanted_missing b ss xs w m (Waiting from at) last known ps f a e kept = filled_wants b (answers_of m) w xs kept.live ∙ ap (wanted_by (answers_of m)) (sym (waiting_boxes w xs kept.live.none))
 wanted_missing b ss xs w m Idle last known ps f a e kept = cc
 wanted_missing b ss xs w m Declined last known ps f a e kept = cc
 
-pub kept_declined : (b : Behaviour) (ss xs : List Seat) (w : World) (m : Model) (phase : Phase) (done : Option Completed) (known : Option ℕ) (ps : Timeline Position) (id : ℕ) → IsKept b ss xs w m phase done known ps → option_map (λ (r : Request). r.id) (waited_for phase m (all_boxes w xs)) ≡ Some id → IsUnknown b (waited_for phase m (all_boxes w xs)) → IsKept b ss xs w m Declined done known ps
+pub kept_declined : (b : Behaviour) (ss xs : List BoxAt) (w : World) (m : Model) (phase : Phase) (done : Option Completed) (known : Option ℕ) (ps : Timeline Position) (id : ℕ) → IsKept b ss xs w m phase done known ps → option_map (λ (r : Request). r.id) (waited_for phase m (all_boxes w xs)) ≡ Some id → IsUnknown b (waited_for phase m (all_boxes w xs)) → IsKept b ss xs w m Declined done known ps
 kept_declined b ss xs w m (Waiting from at) last known ps id kept some unknown =
     let q = request_of (wanted_by (answers_of m) (all_boxes w xs)) id some in
     record {
@@ -61,7 +61,7 @@ kept_declined b ss xs w m Idle last known ps id kept some unknown = cc
 kept_declined b ss xs w m Declined last known ps id kept some unknown = cc
 
 -- the box that is supplied is of a greater id than all that wait
-pub supply_above : (b : Behaviour) (ss xs : List Seat) (w : World) (m : Model) (phase : Phase) (done : Option Completed) (known : Option ℕ) (ps : Timeline Position) (id : ℕ) → IsKept b ss xs w m phase done known ps → option_map (λ (r : Request). r.id) (waited_for phase m (all_boxes w xs)) ≡ Some id → AreBelow id (map instance_of xs)
+pub supply_above : (b : Behaviour) (ss xs : List BoxAt) (w : World) (m : Model) (phase : Phase) (done : Option Completed) (known : Option ℕ) (ps : Timeline Position) (id : ℕ) → IsKept b ss xs w m phase done known ps → option_map (λ (r : Request). r.id) (waited_for phase m (all_boxes w xs)) ≡ Some id → AreBelow id (map instance_of xs)
 supply_above b ss xs w m (Waiting from at) last known ps id kept some =
     let q = request_of (wanted_by (answers_of m) (all_boxes w xs)) id some in
     subst (λ i. AreBelow i (map instance_of xs)) (sym q.2) (filled_above b (answers_of m) w xs q.0 kept.live (waited b (answers_of m) w xs q.0 kept.live q.1))
@@ -69,10 +69,10 @@ supply_above b ss xs w m Idle last known ps id kept some = cc
 supply_above b ss xs w m Declined last known ps id kept some = cc
 
 -- a box that waits besides
-abbrev pub with_seat : List Seat → ℕ → Module → List Seat
+abbrev pub with_seat : List BoxAt → ℕ → Module → List BoxAt
 with_seat xs id box = xs ++ record { id = id; box = box } ∷ []
 
-pub kept_supplied : (b : Behaviour) (ss xs ys : List Seat) (w : World) (m : Model) (phase : Phase) (done : Option Completed) (known : Option ℕ) (ps : Timeline Position) (id : ℕ) (box : Module) → IsKept b ss xs w m phase done known ps → option_map (λ (r : Request). r.id) (waited_for phase m (all_boxes w xs)) ≡ Some id → IsFor b (waited_for phase m (all_boxes w xs)) box → ys ≡ with_seat xs id box → IsKept b ss ys w m phase done known ps
+pub kept_supplied : (b : Behaviour) (ss xs ys : List BoxAt) (w : World) (m : Model) (phase : Phase) (done : Option Completed) (known : Option ℕ) (ps : Timeline Position) (id : ℕ) (box : Module) → IsKept b ss xs w m phase done known ps → option_map (λ (r : Request). r.id) (waited_for phase m (all_boxes w xs)) ≡ Some id → IsFor b (waited_for phase m (all_boxes w xs)) box → ys ≡ with_seat xs id box → IsKept b ss ys w m phase done known ps
 kept_supplied b ss xs ys w m (Waiting from at) last known ps id box kept some for_it more =
     let q = request_of (wanted_by (answers_of m) (all_boxes w xs)) id some in
     record {
@@ -88,7 +88,7 @@ kept_supplied b ss xs ys w m Idle last known ps id box kept some for_it more = c
 kept_supplied b ss xs ys w m Declined last known ps id box kept some for_it more = cc
 
 -- and what callers see of it
-pub boxes_supplied : (b : Behaviour) (w : World) (xs ys : List Seat) (o : Option Request) (id : ℕ) (box : Module) → option_map (λ (r : Request). r.id) o ≡ Some id → IsFor b o box → ys ≡ with_seat xs id box → all_boxes w ys ≡ with_wanted o (all_boxes w xs)
+pub boxes_supplied : (b : Behaviour) (w : World) (xs ys : List BoxAt) (o : Option Request) (id : ℕ) (box : Module) → option_map (λ (r : Request). r.id) o ≡ Some id → IsFor b o box → ys ≡ with_seat xs id box → all_boxes w ys ≡ with_wanted o (all_boxes w xs)
 boxes_supplied b w xs ys None id box some for_it more = cc
 boxes_supplied b w xs ys (Some r) id box some for_it more =
     let same : id ≡ r.id = cc in
@@ -109,7 +109,7 @@ begun_counted t i e =
     ∙ ap (λ (ps : List Position). record { first = t.first; interval = t.first; stored = ps }) none
 
 -- a run waits
-pub kept_waiting : (b : Behaviour) (ss xs : List Seat) (w : World) (m : Model) (limit : ℕ) (kept : List Part) (phase : Phase) (old : Timeline ℕ) (ps : Timeline Position) (request : Request) → AreOfKinds b ss → CanBeStored old → IsWaiting b (answers_of m) limit kept phase old w xs (counts_in ps) request → IsKept b ss xs w m (Waiting None Setup) None None ps
+pub kept_waiting : (b : Behaviour) (ss xs : List BoxAt) (w : World) (m : Model) (limit : ℕ) (kept : List Part) (phase : Phase) (old : Timeline ℕ) (ps : Timeline Position) (request : Request) → AreOfKinds b ss → CanBeStored old → IsWaiting b (answers_of m) limit kept phase old w xs (counts_in ps) request → IsKept b ss xs w m (Waiting None Setup) None None ps
 kept_waiting b ss xs w m limit kept phase old ps request kinds stored h =
     let none : IsBegun ps = begun_counted ps old.first h.positions in
     record {
@@ -127,5 +127,5 @@ abbrev waiting_with : Model → List Part → Timeline ℕ → Editing
 waiting_with m boxes positions = record { model = m; done = None; phase = Waiting None Setup; boxes = boxes; known = None; positions = positions }
 
 -- what callers see of it
-pub seen_waiting : (m : Model) (w : World) (xs : List Seat) (kept : List Part) (counts positions : Timeline ℕ) → w.modules ≡ [] → parts_in xs ≡ kept → counts ≡ positions → waiting_with m (all_boxes w xs) counts ≡ waiting_with m kept positions
+pub seen_waiting : (m : Model) (w : World) (xs : List BoxAt) (kept : List Part) (counts positions : Timeline ℕ) → w.modules ≡ [] → parts_in xs ≡ kept → counts ≡ positions → waiting_with m (all_boxes w xs) counts ≡ waiting_with m kept positions
 seen_waiting m w xs kept counts positions none is same = ap (λ boxes. waiting_with m boxes counts) (waiting_boxes w xs none ∙ is) ∙ ap (waiting_with m kept) same

@@ -10,7 +10,7 @@ use Rattle.run_semantics.proofs.Counts.{reached_after}
 use Rattle.checkpoints.specs.Stored.{counts_in, counts_of, last_of, AreRising, Timeline}
 use Rattle.kernel_actions.specs.declared.position.Position.{Position}
 use Rattle.kernel_actions.specs.Positions.{cut_to, lengths_of, IsGrownFrom}
-use Rattle.kernel_boxes.specs.Seats.{Seat, AreOfKinds}
+use Rattle.kernel_boxes.specs.Seats.{BoxAt, AreOfKinds}
 use Rattle.checkpoint_runs.specs.declared.running.Phase.TheVariants.{Idle}
 use Rattle.checkpoint_runs.specs.Kept.{cut_to_last, AreGood, IsGood}
 use Rattle.checkpoint_runs.specs.Positions.{last_count, CanBeStored}
@@ -20,7 +20,7 @@ use Rattle.edit_session.specs.Editing.{IsKept}
 use Rattle.edit_session.specs.Reuse.{IsAskedUpTo}
 use Rattle.edit_session.proofs.Valid.{agrees_itself}
 
-known_cut : (b : Behaviour) (m : Answers) (ss : List Seat) (w u : World) (p : Position) → (h : IsGood b m ss w p) → u ≡ cut_to (lengths_of h.world) w → IsAskedUpTo b m u p.count
+known_cut : (b : Behaviour) (m : Answers) (ss : List BoxAt) (w u : World) (p : Position) → (h : IsGood b m ss w p) → u ≡ cut_to (lengths_of h.world) w → IsAskedUpTo b m u p.count
 known_cut b m ss w u p h e =
     let here : world_at (after b m p.count) ≡ h.world = ap world_at h.stage in
     record {
@@ -33,7 +33,7 @@ known_cut b m ss w u p h e =
       agrees = agrees_itself p.count m u.records u.questions;
     }
 
-cut_kept : (b : Behaviour) (m : Model) (ss xs : List Seat) (w u : World) (ps : Timeline Position) (last : Option Position) → last_of ps.stored ≡ last → AreOfKinds b ss → AreGood b (answers_of m) ss w ps.stored → AreRising ps.stored
+cut_kept : (b : Behaviour) (m : Model) (ss xs : List BoxAt) (w u : World) (ps : Timeline Position) (last : Option Position) → last_of ps.stored ≡ last → AreOfKinds b ss → AreGood b (answers_of m) ss w ps.stored → AreRising ps.stored
     → CanBeStored (counts_in ps) → u ≡ cut_to_last last w → IsKept b ss xs u m Idle None (option_map (λ (p : Position). p.count) last) ps
 cut_kept b m ss xs w u ps None l kinds good rising stored e = record {
   kinds = kinds;
@@ -58,11 +58,11 @@ cut_kept b m ss xs w u ps (Some p) l kinds good rising stored e =
     }
 
 -- WHAT A SESSION KEEPS of a run that is given up
-pub kept_given_up : (b : Behaviour) (m : Model) (ss xs : List Seat) (w u : World) (ps : Timeline Position) → AreOfKinds b ss → AreGood b (answers_of m) ss w ps.stored → AreRising ps.stored → CanBeStored (counts_in ps) → u ≡ cut_to_last (last_of ps.stored) w
+pub kept_given_up : (b : Behaviour) (m : Model) (ss xs : List BoxAt) (w u : World) (ps : Timeline Position) → AreOfKinds b ss → AreGood b (answers_of m) ss w ps.stored → AreRising ps.stored → CanBeStored (counts_in ps) → u ≡ cut_to_last (last_of ps.stored) w
     → IsKept b ss xs u m Idle None (last_count (counts_of ps.stored)) ps
 kept_given_up b m ss xs w u ps kinds good rising stored e =
     subst (λ k. IsKept b ss xs u m Idle None k ps) (sym (last_count_is ps.stored)) (cut_kept b m ss xs w u ps (last_of ps.stored) refl kinds good rising stored e)
 
-pub kept_cut : (b : Behaviour) (m : Model) (ss ts xs : List Seat) (w u : World) (ps qs : Timeline Position) (known : Option ℕ) → ts ≡ ss → qs ≡ ps → known ≡ last_count (counts_of ps.stored)
+pub kept_cut : (b : Behaviour) (m : Model) (ss ts xs : List BoxAt) (w u : World) (ps qs : Timeline Position) (known : Option ℕ) → ts ≡ ss → qs ≡ ps → known ≡ last_count (counts_of ps.stored)
     → AreOfKinds b ss → AreGood b (answers_of m) ss w ps.stored → AreRising ps.stored → CanBeStored (counts_in ps) → u ≡ cut_to_last (last_of ps.stored) w → IsKept b ts xs u m Idle None known qs
 kept_cut b m ss ts xs w u ps qs known t q k kinds good rising stored e = rw (t, q, k) (kept_given_up b m ss xs w u ps kinds good rising stored e)

@@ -3,7 +3,7 @@ use Rattle.std.proofs.Common.{◌≡◌, ◌≤◌, ◌<◌, ℕ, List, [], ◌�
 use Rattle.sim_values.specs.declared.NoMemory.{NoMemory}
 use Rattle.module_api.specs.Behaviour.{Behaviour}
 use Rattle.module_api.specs.Laws.{IsLawful}
-use Rattle.model_questions.specs.declared.answer.Asked.{Asked}
+use Rattle.model_questions.specs.declared.answer.AskedQuestion.{AskedQuestion}
 use Rattle.model_data.specs.declared.model.Model.{Model}
 use Rattle.model_answers.specs.Answering.{answers_of}
 use Rattle.model_questions.specs.Answers.{Answers}
@@ -19,7 +19,7 @@ use Rattle.run_semantics.proofs.Reached.{stands, reached_before}
 use Rattle.run_semantics.proofs.Reuse.{reached_same_up_to}
 use Rattle.result_files.specs.declared.files.ResultFiles.{ResultFiles}
 use Rattle.kernel_actions.specs.declared.position.Position.{Position}
-use Rattle.kernel_boxes.specs.Seats.{Seat, AreOfKinds}
+use Rattle.kernel_boxes.specs.Seats.{BoxAt, AreOfKinds}
 use Rattle.checkpoint_runs.specs.Kept.{kept_up_to, AreGood}
 use Rattle.checkpoint_runs.specs.declared.running.Phase.{Phase}
 use Rattle.checkpoint_runs.specs.declared.running.Phase.TheVariants.{Idle}
@@ -39,7 +39,7 @@ abbrev completed_with : ℕ → Outcome → ResultFiles → Completed
 completed_with limit outcome files = record { limit = limit; outcome = outcome; files = files }
 
 -- each model agrees with itself
-pub agrees_itself : (v : ℕ) (m : Answers) (rs : List Record) (qs : List Asked) → AgreesUpTo v m m rs qs
+pub agrees_itself : (v : ℕ) (m : Answers) (rs : List Record) (qs : List AskedQuestion) → AgreesUpTo v m m rs qs
 agrees_itself v m rs [] = tt
 agrees_itself v m rs (q ∷ qs) = (λ l. refl, agrees_itself v m rs qs)
 
@@ -67,7 +67,7 @@ known_done b m limit w outcome whole =
 
 -- where two lists of questions say the same of the events up to the last one, they have the same
 -- agreement
-same_agreement : (m n : Answers) (k : ℕ) (rs ss : List Record) (qs xs : List Asked)
+same_agreement : (m n : Answers) (k : ℕ) (rs ss : List Record) (qs xs : List AskedQuestion)
     → ((u : ℕ) → u ≤ k → AgreesUpTo u m n rs qs → AgreesUpTo u m n ss xs) → ((u : ℕ) → u ≤ k → AgreesUpTo u m n ss xs → AgreesUpTo u m n rs qs)
     → (found : Option ℕ) → IsAgreement m n rs k qs found → IsAgreement m n ss k xs found
 same_agreement m n k rs ss qs xs to back None h = λ a. h (back 0 (omega arith) a)
@@ -91,7 +91,7 @@ valid_found b law m n w v found h a =
     subst (λ (s : Stage). IsAgreement m n (world_at s).records v (world_at s).questions found) one own
 
 -- one agreement and then another
-pub agrees_then : (u v : ℕ) (o m n : Answers) (rs : List Record) (qs : List Asked) → u ≤ v → AgreesUpTo v o m rs qs → AgreesUpTo u m n rs qs → AgreesUpTo u o n rs qs
+pub agrees_then : (u v : ℕ) (o m n : Answers) (rs : List Record) (qs : List AskedQuestion) → u ≤ v → AgreesUpTo v o m rs qs → AgreesUpTo u m n rs qs → AgreesUpTo u o n rs qs
 agrees_then u v o m n rs [] l f g = tt
 agrees_then u v o m n rs (q ∷ qs) l f g = (λ (e : q.event ≤ u). f.0 (omega (arith, e, l)) ∙ g.0 e, agrees_then u v o m n rs qs l f.1 g.1)
 
@@ -134,7 +134,7 @@ known_of b m n w known last (Err error) e h a = tt
 known_of b m n w known last (Ok found) e h a = known_edited b m n w last found (subst (IsKnown b m w) e h) a
 
 -- what is kept of a run that is done
-pub kept_done : (b : Behaviour) (ss xs : List Seat) (w : World) (m : Model) (limit : ℕ) (outcome : Outcome) (files : ResultFiles) (known : ℕ) (ps : Timeline Position) → AreOfKinds b ss → whole_run b (answers_of m) limit w outcome
+pub kept_done : (b : Behaviour) (ss xs : List BoxAt) (w : World) (m : Model) (limit : ℕ) (outcome : Outcome) (files : ResultFiles) (known : ℕ) (ps : Timeline Position) → AreOfKinds b ss → whole_run b (answers_of m) limit w outcome
     → files ≡ files_in m w → known ≡ w.count → AreGood b (answers_of m) ss w ps.stored → CanBeStored (counts_in ps) → IsKept b ss xs w m Idle (Some (record { limit = limit; outcome = outcome; files = files })) (Some known) ps
 kept_done b ss xs w m limit outcome files known ps kinds whole e n good stored = record {
   kinds = kinds;
@@ -147,7 +147,7 @@ kept_done b ss xs w m limit outcome files known ps kinds whole e n good stored =
 }
 
 -- what it tells, and what callers see of it
-pub fresh_done : (b : Behaviour) (before after : Editing) (limit : ℕ) (report : Report) (w : World) (waiting : List Seat) (new : Timeline ℕ) (start : Option ℕ) (outcome : Outcome) (files : ResultFiles) (count : ℕ)
+pub fresh_done : (b : Behaviour) (before after : Editing) (limit : ℕ) (report : Report) (w : World) (waiting : List BoxAt) (new : Timeline ℕ) (start : Option ℕ) (outcome : Outcome) (files : ResultFiles) (count : ℕ)
     → IsEnded b (answers_of before.model) limit (kept_boxes before.phase before.boxes) before.phase before.positions w waiting new start outcome
     → report ≡ record { outcome = outcome; started_from = start; executed = events_behind start count } → files ≡ files_in before.model w → count ≡ w.count
     → after.done ≡ Some (record { limit = limit; outcome = outcome; files = files }) → after.boxes ≡ standing w.modules ++ parts_in waiting → after.known ≡ Some count → after.positions ≡ new
@@ -172,7 +172,7 @@ fresh_done b before after limit report w waiting new start outcome files count h
     completed_is limit o p f g e d = ap (λ x. completed_with limit x f) e ∙ ap (completed_with limit p) d
 
 -- what is kept without a run
-pub kept_begun : (b : Behaviour) (ss xs : List Seat) (w : World) (m : Model) (interval : ℕ) (ps : Timeline Position) → 1 ≤ interval → AreOfKinds b ss → ps ≡ begun interval → IsKept b ss xs w m Idle None None ps
+pub kept_begun : (b : Behaviour) (ss xs : List BoxAt) (w : World) (m : Model) (interval : ℕ) (ps : Timeline Position) → 1 ≤ interval → AreOfKinds b ss → ps ≡ begun interval → IsKept b ss xs w m Idle None None ps
 kept_begun b ss xs w m interval ps some kinds e = rw e (record {
   kinds = kinds;
   live = tt;
@@ -184,7 +184,7 @@ kept_begun b ss xs w m interval ps some kinds e = rw e (record {
 })
 
 -- what is kept after an accepted edit
-pub kept_edited : (b : Behaviour) (ss ts ws xs : List Seat) (w u : World) (m n : Model) (phase : Phase) (done : Option Completed) (known valid : Option ℕ) (ps qs : Timeline Position) → IsKept b ss ws w m phase done known ps → ts ≡ ss → u ≡ w → qs ≡ kept_up_to valid ps
+pub kept_edited : (b : Behaviour) (ss ts ws xs : List BoxAt) (w u : World) (m n : Model) (phase : Phase) (done : Option Completed) (known valid : Option ℕ) (ps qs : Timeline Position) → IsKept b ss ws w m phase done known ps → ts ≡ ss → u ≡ w → qs ≡ kept_up_to valid ps
     → IsKnown b (answers_of n) w valid → AreGood b (answers_of n) ss w (kept_up_to valid ps).stored → IsKept b ts xs u n Idle None valid qs
 kept_edited b ss ts ws xs w u m n phase last known valid ps qs kept t e q asked good = rw (t, e, q) (record {
   kinds = kept.kinds;

@@ -14,7 +14,7 @@ use Rattle.result_files.specs.Files.{files_of}
 use Rattle.kernel_actions.specs.declared.position.Position.{Position}
 use Rattle.checkpoints.specs.Stored.{begun, counts_in, IsBegun, Timeline}
 use Rattle.kernel.specs.declared.request.Request.{Request}
-use Rattle.kernel_boxes.specs.Seats.{Seat, AreOfKinds}
+use Rattle.kernel_boxes.specs.Seats.{BoxAt, AreOfKinds}
 use Rattle.checkpoint_runs.specs.declared.running.Phase.{Phase}
 use Rattle.checkpoint_runs.specs.declared.running.Phase.TheVariants.{Idle, Waiting, Declined}
 use Rattle.checkpoint_runs.specs.declared.running.Point.TheVariants.{Setup}
@@ -94,7 +94,7 @@ IsUndone (Waiting from at) last known ps = (last ≡ None) × (known ≡ None) �
 IsUndone Declined last known ps = (last ≡ None) × (known ≡ None) × IsBegun ps
 
 -- all that a session keeps
-pub record IsKept (b : Behaviour) (seats waiting : List Seat) (w : World) (m : Model) (phase : Phase) (done : Option Completed) (known : Option ℕ) (ps : Timeline Position) : Type 0 where
+pub record IsKept (b : Behaviour) (seats waiting : List BoxAt) (w : World) (m : Model) (phase : Phase) (done : Option Completed) (known : Option ℕ) (ps : Timeline Position) : Type 0 where
   pub kinds : AreOfKinds b seats
   pub live : IsLive b (answers_of m) w waiting phase
   pub left : IsLeft b m w done

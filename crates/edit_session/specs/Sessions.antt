@@ -4,10 +4,10 @@ use Rattle.module_api.specs.Behaviour.{Behaviour}
 use Rattle.model_answers.specs.Answering.{answers_of}
 use Rattle.model_edits.specs.declared.edit.Edit.{Edit}
 use Rattle.kernel_boxes.specs.Seats.{Members}
-use Rattle.kernel.specs.Kernels.{seats_in, world_in}
+use Rattle.kernel.specs.Kernels.{boxes_in, world_in}
 use Rattle.edit_session.specs.Editing.{Completed, Editing, IsChangeBy, IsKept}
 use Rattle.checkpoints.specs.Stored.{counts_in}
-use Rattle.checkpoint_runs.specs.Kept.{boxes_in, kept_up_to, waiting_in, AreGood}
+use Rattle.checkpoint_runs.specs.Kept.{standing_in, kept_up_to, waiting_in, AreGood}
 use Rattle.checkpoint_runs.specs.declared.running.Stood.{Stood}
 use Rattle.edit_session.specs.Reuse.{IsKnown}
 use Rattle.edit_session.specs.declared.session.Change.{Change}
@@ -24,7 +24,7 @@ module _ {C X : Type 0} {Y : X → Type 0} where
     model = s.model;
     done = option_map completed_of s.done;
     phase = s.phase;
-    boxes = boxes_in members s.runner;
+    boxes = standing_in members s.runner;
     known = s.known;
     positions = counts_in s.runner.positions;
   }
@@ -36,7 +36,7 @@ module _ {C X : Type 0} {Y : X → Type 0} where
   -- what it keeps
   abbrev pub IsSound : Behaviour → Members X Y → Session C X Y → Type 0
   IsSound b members s =
-      IsKept b (seats_in members s.runner.kernel) (waiting_in members s.runner) (world_in members s.runner.kernel) s.model s.phase (option_map completed_of s.done) s.known s.runner.positions
+      IsKept b (boxes_in members s.runner.kernel) (waiting_in members s.runner) (world_in members s.runner.kernel) s.model s.phase (option_map completed_of s.done) s.known s.runner.positions
 
   -- It is sound, and of the same model as before.
   pub record KeepsModel (b : Behaviour) (members : Members X Y) (before after : Session C X Y) : Type 0 where
@@ -48,4 +48,4 @@ module _ {C X : Type 0} {Y : X → Type 0} where
   pub record IsChangeOf (b : Behaviour) (members : Members X Y) (s : Session C X Y) (e : Edit) (change : Change) : Type 0 where
     pub by : IsChangeBy b (editing_of members s) e change
     pub known : IsKnown b (answers_of change.model) (world_in members s.runner.kernel) change.edited.valid_to
-    pub good : AreGood b (answers_of change.model) (seats_in members s.runner.kernel) (world_in members s.runner.kernel) (kept_up_to change.edited.valid_to s.runner.positions).stored
+    pub good : AreGood b (answers_of change.model) (boxes_in members s.runner.kernel) (world_in members s.runner.kernel) (kept_up_to change.edited.valid_to s.runner.positions).stored

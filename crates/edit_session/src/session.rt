@@ -16,7 +16,7 @@ ghost use Rattle.checkpoint_runs.specs.Positions.{events_behind, starts_within, 
 ghost use Rattle.kernel.specs.declared.request.Request.{Request};
 ghost use Rattle.edit_session.specs.Reuse.{IsKnown, IsValidTo};
 ghost use Rattle.edit_session.specs.Sessions.{editing_of, stood_in, IsChangeOf, IsSound, KeepsModel};
-ghost use Rattle.kernel.specs.Kernels.{seats_in, world_in, HasKinds};
+ghost use Rattle.kernel.specs.Kernels.{boxes_in, world_in, HasKinds};
 ghost use Rattle.checkpoints.specs.Stored.{counts_in, most_stored};
 ghost use Rattle.model_edits.specs.declared.edit.Edit.{Edit};
 
@@ -269,7 +269,7 @@ impl<C: Catalogue> Session<C> {
             IsKnown C.behaviour (answers_of change.model)
             (world_in SimpleModule-box self.now.runner.kernel) change.edited.valid_to) }
         ensures good { let kernel = self.now.runner.kernel in
-            IfOk result (λ change. AreGood C.behaviour (answers_of change.model) (seats_in SimpleModule-box kernel)
+            IfOk result (λ change. AreGood C.behaviour (answers_of change.model) (boxes_in SimpleModule-box kernel)
             (world_in SimpleModule-box kernel) (kept_up_to change.edited.valid_to self.now.runner.positions).stored) }
     {
         let injection = last_used(model.last_injection, given);
@@ -293,7 +293,7 @@ impl<C: Catalogue> Session<C> {
             IsKnown C.behaviour (answers_of model.now)
             (world_in SimpleModule-box self.now.runner.kernel) valid) }
         ensures good { let kernel = self.now.runner.kernel in
-            IfOk result (λ valid. AreGood C.behaviour (answers_of model.now) (seats_in SimpleModule-box kernel)
+            IfOk result (λ valid. AreGood C.behaviour (answers_of model.now) (boxes_in SimpleModule-box kernel)
             (world_in SimpleModule-box kernel) (kept_up_to valid self.now.runner.positions).stored) }
     {
         let Some(last) = self.known else {
@@ -421,7 +421,7 @@ impl<C: Catalogue> Session<C> {
         self.give_up();
         match self
             .runner
-            .carry_on(self.alloc, &self.model, phase, limit, observer)?
+            .advance(self.alloc, &self.model, phase, limit, observer)?
         {
             Advance::Waits(request) => {
                 self.phase = Phase::Waiting(None, Point::Setup);

@@ -11,7 +11,7 @@ use Rattle.std.specs.Option.{option_and_then}
 use Rattle.event_set.specs.declared.pending.Happening.{Happening}
 use Rattle.event_set.specs.declared.pending.Happening.TheVariants.{Timer, Arrival, Delivery}
 use Rattle.event_set.specs.declared.pending.Pending.{Pending}
-use Rattle.event_set.specs.declared.entry.Entry.{Entry}
+use Rattle.event_set.specs.declared.entry.EventEntry.{EventEntry}
 use Rattle.event_set.specs.declared.places.Key.{Key}
 use Rattle.event_set.specs.declared.places.TimerKey.{TimerKey}
 use Rattle.event_set.specs.Keys.{key_order, timer_order, pending_of, list_of, id_of, what_of, timer_in, timer_of, at_key, AreSound, noted, forgotten, IsFree}
@@ -21,7 +21,7 @@ use Rattle.event_set.proofs.Order.{each_map}
 use Rattle.event_set.proofs.Keys.{key_total, key_at, key_itself, timer_at, timer_itself, before_is, equal_numbers}
 
 abbrev Held : Type 0
-Held = List (Key × Entry)
+Held = List (Key × EventEntry)
 
 abbrev Where : Type 0
 Where = TimerKey → Option Key
@@ -32,37 +32,37 @@ Where = TimerKey → Option Key
 less_differs : (m n : ℕ) → m < n → n ≡ m → ⊥
 less_differs m n h e = omega (arith, h, e)
 
-by_order : (o : Ordering) (k : Key) (e : Entry) (x : Key × Entry) (xs rest : Held) (list : List Pending) → key_order k x.0 ≡ o → x.0.number < k.number → list_of rest ≡ list
+by_order : (o : Ordering) (k : Key) (e : EventEntry) (x : Key × EventEntry) (xs rest : Held) (list : List Pending) → key_order k x.0 ≡ o → x.0.number < k.number → list_of rest ≡ list
     → list_of (match_ordering o ((k, e) ∷ x ∷ xs) ((x.0, e) ∷ xs) (x ∷ rest)) ≡ (if is_lt o then pending_of (k, e) ∷ list_of (x ∷ xs) else pending_of x ∷ list)
 by_order Less k e x xs rest list h below t = refl
 by_order Equal k e x xs rest list h below t = absurd (less_differs x.0.number k.number below (equal_numbers k x.0 h))
 by_order Greater k e x xs rest list h below t = ap (λ ps. pending_of x ∷ ps) t
 
 -- the entry goes where the list has the event
-pub list_inserted : (k : Key) (e : Entry) (es : Held) → Each (λ (x : Key × Entry). x.0.number < k.number) es → list_of (insert_entry key_order es k e) ≡ inserted (pending_of (k, e)) (list_of es)
+pub list_inserted : (k : Key) (e : EventEntry) (es : Held) → Each (λ (x : Key × EventEntry). x.0.number < k.number) es → list_of (insert_entry key_order es k e) ≡ inserted (pending_of (k, e)) (list_of es)
 list_inserted k e [] h = refl
 list_inserted k e (x ∷ xs) h =
     by_order (key_order k x.0) k e x xs (insert_entry key_order xs k e) (inserted (pending_of (k, e)) (list_of xs)) refl h.0 (list_inserted k e xs h.1)
     ∙ ap (λ b. if b then pending_of (k, e) ∷ list_of (x ∷ xs) else pending_of x ∷ inserted (pending_of (k, e)) (list_of xs)) (sym (before_is k x.0 e x.1))
 
-each_order : (P : Key × Entry → Type 0) (o : Ordering) (k : Key) (e : Entry) (x : Key × Entry) (xs rest : Held) → P (k, e) → P (x.0, e) → P x → Each P xs → Each P rest → Each P (match_ordering o ((k, e) ∷ x ∷ xs) ((x.0, e) ∷ xs) (x ∷ rest))
+each_order : (P : Key × EventEntry → Type 0) (o : Ordering) (k : Key) (e : EventEntry) (x : Key × EventEntry) (xs rest : Held) → P (k, e) → P (x.0, e) → P x → Each P xs → Each P rest → Each P (match_ordering o ((k, e) ∷ x ∷ xs) ((x.0, e) ∷ xs) (x ∷ rest))
 each_order P Less k e x xs rest n s p h r = (n, (p, h))
 each_order P Equal k e x xs rest n s p h r = (s, h)
 each_order P Greater k e x xs rest n s p h r = (p, r)
 
-below_more : (k : Key) (e : Entry) (n : ℕ) (es : Held) → k.number < n → Each (λ (x : Key × Entry). x.0.number < n) es → Each (λ (x : Key × Entry). x.0.number < n) (insert_entry key_order es k e)
+below_more : (k : Key) (e : EventEntry) (n : ℕ) (es : Held) → k.number < n → Each (λ (x : Key × EventEntry). x.0.number < n) es → Each (λ (x : Key × EventEntry). x.0.number < n) (insert_entry key_order es k e)
 below_more k e n [] h b = (h, tt)
-below_more k e n (x ∷ xs) h b = each_order (λ (y : Key × Entry). y.0.number < n) (key_order k x.0) k e x xs (insert_entry key_order xs k e) h b.0 b.0 b.1 (below_more k e n xs h b.1)
+below_more k e n (x ∷ xs) h b = each_order (λ (y : Key × EventEntry). y.0.number < n) (key_order k x.0) k e x xs (insert_entry key_order xs k e) h b.0 b.0 b.1 (below_more k e n xs h b.1)
 
 -- ---- entries stand at their keys
 
-places_more : (x : Key × Entry) (all ys : Held) → AllByRecursion (λ q. key_order x.0 q ≡ Less) (keys_of ys) → Each (λ (y : Key × Entry). at_key all y.0 ≡ Some y.1) ys → Each (λ (y : Key × Entry). at_key (x ∷ all) y.0 ≡ Some y.1) ys
+places_more : (x : Key × EventEntry) (all ys : Held) → AllByRecursion (λ q. key_order x.0 q ≡ Less) (keys_of ys) → Each (λ (y : Key × EventEntry). at_key all y.0 ≡ Some y.1) ys → Each (λ (y : Key × EventEntry). at_key (x ∷ all) y.0 ≡ Some y.1) ys
 places_more x all [] h p = tt
 places_more x all (y ∷ ys) h p =
     let turned : key_order y.0 x.0 ≡ Greater = key_total.antisymm y.0 x.0 ∙ ap ordering_reverse h.0 in
     (rw turned p.0, places_more x all ys h.1 p.1)
 
-own_places : (es : Held) → IsStrictlySortedBy key_order (keys_of es) → Each (λ (y : Key × Entry). at_key es y.0 ≡ Some y.1) es
+own_places : (es : Held) → IsStrictlySortedBy key_order (keys_of es) → Each (λ (y : Key × EventEntry). at_key es y.0 ≡ Some y.1) es
 unfolding IsStrictlySortedBy
 own_places [] h = tt
 own_places (x ∷ xs) h = (rw (key_itself x.0) refl, places_more x xs xs h.0 (own_places xs h.1))
@@ -103,14 +103,14 @@ is_number t other (Arrival kind bits payload) h = cc
 is_number t other (Delivery delivery) h = cc
 
 -- what stands where the place is known
-timer_there : (es : Held) (k : Key) (e : Entry) (t : TimerKey) → at_key es k ≡ Some e → option_and_then timer_of (at_key es k) ≡ Some t → timer_of e ≡ Some t
+timer_there : (es : Held) (k : Key) (e : EventEntry) (t : TimerKey) → at_key es k ≡ Some e → option_and_then timer_of (at_key es k) ≡ Some t → timer_of e ≡ Some t
 timer_there es k e t h s = ap (option_and_then timer_of) (sym h) ∙ s
 
 some_is : {X : Type 0} (a b : X) → Some a ≡ Some b → a ≡ b
 some_is a b h = cc
 
 -- of a timer that stands somewhere: the two tests are the same
-same_by : (es : Held) (ts : Where) (n : ℕ) (t : TimerKey) (k : Key) → AreSound es ts n → ts t ≡ Some k → (x : Key × Entry) → at_key es x.0 ≡ Some x.1
+same_by : (es : Held) (ts : Where) (n : ℕ) (t : TimerKey) (k : Key) → AreSound es ts n → ts t ≡ Some k → (x : Key × EventEntry) → at_key es x.0 ≡ Some x.1
     → (a b : Bool) → is_timer t.id t.timer (pending_of x) ≡ a → is_at (key_order k) x.0 ≡ b → a ≡ b
 same_by es ts n t k s h x at true true p q = refl
 same_by es ts n t k s h x at false false p q = refl
@@ -124,24 +124,24 @@ same_by es ts n t k s h x at false true p q =
     absurd (true≢false (sym (is_number t (id_of x.1) (what_of x.1) here) ∙ p))
 
 abbrev SameTests : TimerKey → Key → Held → Type 0
-SameTests t k es = Each (λ (x : Key × Entry). is_timer t.id t.timer (pending_of x) ≡ is_at (key_order k) x.0) es
+SameTests t k es = Each (λ (x : Key × EventEntry). is_timer t.id t.timer (pending_of x) ≡ is_at (key_order k) x.0) es
 
 same_tests : (es : Held) (ts : Where) (n : ℕ) (t : TimerKey) (k : Key) → AreSound es ts n → ts t ≡ Some k → SameTests t k es
 same_tests es ts n t k s h =
-    each_map (λ (x : Key × Entry). at_key es x.0 ≡ Some x.1) (λ (x : Key × Entry). is_timer t.id t.timer (pending_of x) ≡ is_at (key_order k) x.0) es
+    each_map (λ (x : Key × EventEntry). at_key es x.0 ≡ Some x.1) (λ (x : Key × EventEntry). is_timer t.id t.timer (pending_of x) ≡ is_at (key_order k) x.0) es
     (λ x at. same_by es ts n t k s h x at (is_timer t.id t.timer (pending_of x)) (is_at (key_order k) x.0) refl refl) (own_places es s.ordered)
 
-none_by : (es : Held) (ts : Where) (n : ℕ) (t : TimerKey) → AreSound es ts n → ts t ≡ None → (x : Key × Entry) → at_key es x.0 ≡ Some x.1 → (a : Bool) → is_timer t.id t.timer (pending_of x) ≡ a → a ≡ false
+none_by : (es : Held) (ts : Where) (n : ℕ) (t : TimerKey) → AreSound es ts n → ts t ≡ None → (x : Key × EventEntry) → at_key es x.0 ≡ Some x.1 → (a : Bool) → is_timer t.id t.timer (pending_of x) ≡ a → a ≡ false
 none_by es ts n t s h x at false p = refl
 none_by es ts n t s h x at true p =
     let there : ts t ≡ Some x.0 = s.placed x.0 x.1 t at (number_is t.id t.timer (id_of x.1) (what_of x.1) p) in cc
 
 abbrev NoTests : TimerKey → Held → Type 0
-NoTests t es = Each (λ (x : Key × Entry). is_timer t.id t.timer (pending_of x) ≡ false) es
+NoTests t es = Each (λ (x : Key × EventEntry). is_timer t.id t.timer (pending_of x) ≡ false) es
 
 no_tests : (es : Held) (ts : Where) (n : ℕ) (t : TimerKey) → AreSound es ts n → ts t ≡ None → NoTests t es
 no_tests es ts n t s h =
-    each_map (λ (x : Key × Entry). at_key es x.0 ≡ Some x.1) (λ (x : Key × Entry). is_timer t.id t.timer (pending_of x) ≡ false) es
+    each_map (λ (x : Key × EventEntry). at_key es x.0 ≡ Some x.1) (λ (x : Key × EventEntry). is_timer t.id t.timer (pending_of x) ≡ false) es
     (λ x at. none_by es ts n t s h x at (is_timer t.id t.timer (pending_of x)) refl) (own_places es s.ordered)
 
 -- ---- whether a timer is pending
@@ -150,7 +150,7 @@ any_none : (t : TimerKey) (es : Held) → NoTests t es → has_timer t.id t.time
 any_none t [] h = refl
 any_none t (x ∷ xs) h = rw h.0 (any_none t xs h.1)
 
-any_by : (b : Bool) (t : TimerKey) (k : Key) (e : Entry) (xs : Held) → has_timer t.id t.timer (list_of xs) ≡ is_some (at_key xs k) → b || has_timer t.id t.timer (list_of xs) ≡ is_some (cond b (Some e) (at_key xs k))
+any_by : (b : Bool) (t : TimerKey) (k : Key) (e : EventEntry) (xs : Held) → has_timer t.id t.timer (list_of xs) ≡ is_some (at_key xs k) → b || has_timer t.id t.timer (list_of xs) ≡ is_some (cond b (Some e) (at_key xs k))
 any_by true t k e xs h = refl
 any_by false t k e xs h = h
 
@@ -158,7 +158,7 @@ any_some : (t : TimerKey) (k : Key) (es : Held) → SameTests t k es → has_tim
 any_some t k [] h = refl
 any_some t k (x ∷ xs) h = rw h.0 (any_by (is_at (key_order k) x.0) t k x.1 xs (any_some t k xs h.1))
 
-there_is : (o : Option Entry) (t : TimerKey) → option_and_then timer_of o ≡ Some t → is_some o ≡ true
+there_is : (o : Option EventEntry) (t : TimerKey) → option_and_then timer_of o ≡ Some t → is_some o ≡ true
 there_is None t h = cc
 there_is (Some e) t h = refl
 
@@ -172,7 +172,7 @@ has es ts n t s = has_by (ts t) es ts n t s refl
 
 -- ---- one less
 
-removed_by : (b : Bool) (p : Pending) (x : Key × Entry) (xs rest : Held) (list : List Pending) → list_of rest ≡ list → list_of (cond b xs (x ∷ rest)) ≡ (if b then list_of xs else pending_of x ∷ list)
+removed_by : (b : Bool) (p : Pending) (x : Key × EventEntry) (xs rest : Held) (list : List Pending) → list_of rest ≡ list → list_of (cond b xs (x ∷ rest)) ≡ (if b then list_of xs else pending_of x ∷ list)
 removed_by true p x xs rest list h = refl
 removed_by false p x xs rest list h = ap (λ ps. pending_of x ∷ ps) h
 
@@ -191,22 +191,22 @@ none_removed t (x ∷ xs) h = rw h.0 (ap (λ ps. pending_of x ∷ ps) (none_remo
 pub list_kept : (es : Held) (ts : Where) (n : ℕ) (t : TimerKey) → AreSound es ts n → ts t ≡ None → without_timer t.id t.timer (list_of es) ≡ list_of es
 list_kept es ts n t s h = none_removed t es (no_tests es ts n t s h)
 
-below_by : (b : Bool) (n : ℕ) (x : Key × Entry) (xs rest : Held) → x.0.number < n → Each (λ (y : Key × Entry). y.0.number < n) xs → Each (λ (y : Key × Entry). y.0.number < n) rest → Each (λ (y : Key × Entry). y.0.number < n) (cond b xs (x ∷ rest))
+below_by : (b : Bool) (n : ℕ) (x : Key × EventEntry) (xs rest : Held) → x.0.number < n → Each (λ (y : Key × EventEntry). y.0.number < n) xs → Each (λ (y : Key × EventEntry). y.0.number < n) rest → Each (λ (y : Key × EventEntry). y.0.number < n) (cond b xs (x ∷ rest))
 below_by true n x xs rest p h r = h
 below_by false n x xs rest p h r = (p, r)
 
-below_less : (test : Key → Bool) (n : ℕ) (es : Held) → Each (λ (y : Key × Entry). y.0.number < n) es → Each (λ (y : Key × Entry). y.0.number < n) (remove_entry test es)
+below_less : (test : Key → Bool) (n : ℕ) (es : Held) → Each (λ (y : Key × EventEntry). y.0.number < n) es → Each (λ (y : Key × EventEntry). y.0.number < n) (remove_entry test es)
 below_less test n [] h = tt
 below_less test n (x ∷ xs) h = below_by (test x.0) n x xs (remove_entry test xs) h.0 h.1 (below_less test n xs h.1)
 
 -- ---- all stays sound
 
-fresh_by : (b : Bool) (k : Key) (x : Key × Entry) (rest : Option Entry) → is_at (key_order k) x.0 ≡ b → x.0.number < k.number → rest ≡ None → cond b (Some x.1) rest ≡ None
+fresh_by : (b : Bool) (k : Key) (x : Key × EventEntry) (rest : Option EventEntry) → is_at (key_order k) x.0 ≡ b → x.0.number < k.number → rest ≡ None → cond b (Some x.1) rest ≡ None
 fresh_by true k x rest h below r = absurd (less_differs x.0.number k.number below (ap (λ (q : Key). q.number) (key_at k x.0 h)))
 fresh_by false k x rest h below r = r
 
 -- no entry stands at a key of a greater number
-fresh : (k : Key) (es : Held) → Each (λ (x : Key × Entry). x.0.number < k.number) es → at_key es k ≡ None
+fresh : (k : Key) (es : Held) → Each (λ (x : Key × EventEntry). x.0.number < k.number) es → at_key es k ≡ None
 fresh k [] h = refl
 fresh k (x ∷ xs) h = fresh_by (is_at (key_order k) x.0) k x (at_key xs k) refl h.0 (fresh k xs h.1)
 
@@ -214,7 +214,7 @@ none_some : {X : Type 0} {x : X} → None ≡ Some x → ⊥
 none_some h = cc
 
 -- what stands at a place after one more, by whether it is the new one's
-new_there : (b : Bool) (k q : Key) (e f : Entry) (o : Option Entry) → is_at (key_order k) q ≡ b → cond b (Some e) o ≡ Some f → ((k ≡ q) × (e ≡ f)) ⊎ ((b ≡ false) × (o ≡ Some f))
+new_there : (b : Bool) (k q : Key) (e f : EventEntry) (o : Option EventEntry) → is_at (key_order k) q ≡ b → cond b (Some e) o ≡ Some f → ((k ≡ q) × (e ≡ f)) ⊎ ((b ≡ false) × (o ≡ Some f))
 new_there true k q e f o h p = inl (key_at k q h, some_is e f p)
 new_there false k q e f o h p = inr (refl, p)
 
@@ -241,25 +241,25 @@ noted_there None t k q ts p = inr p
 noted_there (Some u) t k q ts p = noted_by (is_at (timer_order u) t) u t k q ts refl p
 
 -- what stood at a place with a timer stands there still
-still_by : (b : Bool) (k q : Key) (e : Entry) (t : TimerKey) (es : Held) → is_at (key_order k) q ≡ b → at_key es k ≡ None → option_and_then timer_of (at_key es q) ≡ Some t → option_and_then timer_of (cond b (Some e) (at_key es q)) ≡ Some t
+still_by : (b : Bool) (k q : Key) (e : EventEntry) (t : TimerKey) (es : Held) → is_at (key_order k) q ≡ b → at_key es k ≡ None → option_and_then timer_of (at_key es q) ≡ Some t → option_and_then timer_of (cond b (Some e) (at_key es q)) ≡ Some t
 still_by true k q e t es h none s =
     let here : option_and_then timer_of (at_key es k) ≡ Some t = ap (λ x. option_and_then timer_of (at_key es x)) (key_at k q h) ∙ s in
     absurd (none_some (sym (ap (option_and_then timer_of) none) ∙ here))
 still_by false k q e t es h none s = s
 
 -- one more entry, whose timer stands nowhere yet
-pub sound_more : (es fs : Held) (ts us : Where) (n : ℕ) (k : Key) (e : Entry) → AreSound es ts n → k.number ≡ n → IsFree ts (timer_of e) → fs ≡ insert_entry key_order es k e → IsStrictlySortedBy key_order (keys_of fs)
+pub sound_more : (es fs : Held) (ts us : Where) (n : ℕ) (k : Key) (e : EventEntry) → AreSound es ts n → k.number ≡ n → IsFree ts (timer_of e) → fs ≡ insert_entry key_order es k e → IsStrictlySortedBy key_order (keys_of fs)
     → ((q : Key) → at_key fs q ≡ cond (is_at (key_order k) q) (Some e) (at_key es q)) → ((t : TimerKey) → us t ≡ noted (timer_of e) k ts t) → AreSound fs us (n + 1)
 sound_more es fs ts us n k e s number free is ordered looks places = record {
   ordered = ordered;
-  below = subst (Each (λ (x : Key × Entry). x.0.number < n + 1)) (sym is) (below_more k e (n + 1) es (omega (arith, number)) (each_map (λ (x : Key × Entry). x.0.number < n) (λ (x : Key × Entry). x.0.number < n + 1) es (λ x h. omega (arith, h)) s.below));
+  below = subst (Each (λ (x : Key × EventEntry). x.0.number < n + 1)) (sym is) (below_more k e (n + 1) es (omega (arith, number)) (each_map (λ (x : Key × EventEntry). x.0.number < n) (λ (x : Key × EventEntry). x.0.number < n + 1) es (λ x h. omega (arith, h)) s.below));
   placed = λ q f t at timer. places t ∙ ⊎_elim
       (λ (h : (k ≡ q) × (e ≡ f)). noted_new (timer_of e) t k ts (ap timer_of h.1 ∙ timer) ∙ ap Some h.0)
       (λ (h : (is_at (key_order k) q ≡ false) × (at_key es q ≡ Some f)). noted_other (timer_of e) t k q ts free (s.placed q f t h.1 timer))
       (new_there (is_at (key_order k) q) k q e f (at_key es q) refl (sym (looks q) ∙ at));
   standing = λ t q at. ap (option_and_then timer_of) (looks q) ∙ ⊎_elim
       (λ (h : (timer_of e ≡ Some t) × (k ≡ q)). ap (λ b. option_and_then timer_of (cond b (Some e) (at_key es q))) (ap (λ x. is_at (key_order k) x) (sym h.1) ∙ key_itself k) ∙ h.0)
-      (λ (h : ts t ≡ Some q). still_by (is_at (key_order k) q) k q e t es refl (fresh k es (subst (λ m. Each (λ (x : Key × Entry). x.0.number < m) es) (sym number) s.below)) (s.standing t q h))
+      (λ (h : ts t ≡ Some q). still_by (is_at (key_order k) q) k q e t es refl (fresh k es (subst (λ m. Each (λ (x : Key × EventEntry). x.0.number < m) es) (sym number) s.below)) (s.standing t q h))
       (noted_there (timer_of e) t k q ts (sym (places t) ∙ at));
 }
 
@@ -272,7 +272,7 @@ sound_same es ts us n s places = record {
   standing = λ t q at. s.standing t q (sym (places t) ∙ at);
 }
 
-gone_there : (b : Bool) (k q : Key) (f : Entry) (o : Option Entry) → is_at (key_order k) q ≡ b → cond b None o ≡ Some f → (b ≡ false) × (o ≡ Some f)
+gone_there : (b : Bool) (k q : Key) (f : EventEntry) (o : Option EventEntry) → is_at (key_order k) q ≡ b → cond b None o ≡ Some f → (b ≡ false) × (o ≡ Some f)
 gone_there true k q f o h p = absurd (none_some p)
 gone_there false k q f o h p = (refl, p)
 
@@ -295,12 +295,12 @@ left_there (Some u) t q ts p =
     let both = left_by (is_at (timer_order u) t) u t q ts refl p in
     ((λ h. true≢false (sym (timer_itself u) ∙ ap (λ x. is_at (timer_order u) x) (some_is u t h) ∙ both.0)), both.1)
 
-stays_by : (b : Bool) (k q : Key) (e : Entry) (t : TimerKey) (es : Held) → is_at (key_order k) q ≡ b → at_key es k ≡ Some e → (timer_of e ≡ Some t → ⊥) → option_and_then timer_of (at_key es q) ≡ Some t → option_and_then timer_of (cond b None (at_key es q)) ≡ Some t
+stays_by : (b : Bool) (k q : Key) (e : EventEntry) (t : TimerKey) (es : Held) → is_at (key_order k) q ≡ b → at_key es k ≡ Some e → (timer_of e ≡ Some t → ⊥) → option_and_then timer_of (at_key es q) ≡ Some t → option_and_then timer_of (cond b None (at_key es q)) ≡ Some t
 stays_by true k q e t es h at other s = absurd (other (sym (ap (option_and_then timer_of) at) ∙ ap (λ x. option_and_then timer_of (at_key es x)) (key_at k q h) ∙ s))
 stays_by false k q e t es h at other s = s
 
 -- one entry less, and its timer with it
-pub sound_less : (es fs : Held) (ts us : Where) (n : ℕ) (k : Key) (e : Entry) → AreSound es ts n → at_key es k ≡ Some e → Each (λ (x : Key × Entry). x.0.number < n) fs → IsStrictlySortedBy key_order (keys_of fs)
+pub sound_less : (es fs : Held) (ts us : Where) (n : ℕ) (k : Key) (e : EventEntry) → AreSound es ts n → at_key es k ≡ Some e → Each (λ (x : Key × EventEntry). x.0.number < n) fs → IsStrictlySortedBy key_order (keys_of fs)
     → ((q : Key) → at_key fs q ≡ cond (is_at (key_order k) q) None (at_key es q)) → ((t : TimerKey) → us t ≡ forgotten (timer_of e) ts t) → AreSound fs us n
 sound_less es fs ts us n k e s here below ordered looks places = record {
   ordered = ordered;
@@ -313,12 +313,12 @@ sound_less es fs ts us n k e s here below ordered looks places = record {
       ap (option_and_then timer_of) (looks q) ∙ stays_by (is_at (key_order k) q) k q e t es refl here was.0 (s.standing t q was.1);
 }
 
-cancelled_by : (o : Option Entry) (es fs : Held) (ts us : Where) (n : ℕ) (t : TimerKey) (k : Key) → AreSound es ts n → ts t ≡ Some k → fs ≡ remove_entry (is_at (key_order k)) es → IsStrictlySortedBy key_order (keys_of fs)
+cancelled_by : (o : Option EventEntry) (es fs : Held) (ts us : Where) (n : ℕ) (t : TimerKey) (k : Key) → AreSound es ts n → ts t ≡ Some k → fs ≡ remove_entry (is_at (key_order k)) es → IsStrictlySortedBy key_order (keys_of fs)
     → ((q : Key) → at_key fs q ≡ cond (is_at (key_order k) q) None (at_key es q)) → ((q : TimerKey) → us q ≡ cond (is_at (timer_order t) q) None (ts q)) → at_key es k ≡ o → AreSound fs us n
 cancelled_by None es fs ts us n t k s there is ordered looks places at = absurd (none_some (sym (ap (option_and_then timer_of) at) ∙ s.standing t k there))
 cancelled_by (Some e) es fs ts us n t k s there is ordered looks places at =
     let timer : timer_of e ≡ Some t = sym (ap (option_and_then timer_of) at) ∙ s.standing t k there in
-    sound_less es fs ts us n k e s at (subst (Each (λ (x : Key × Entry). x.0.number < n)) (sym is) (below_less (is_at (key_order k)) n es s.below)) ordered looks (λ q. places q ∙ ap (λ o. forgotten o ts q) (sym timer))
+    sound_less es fs ts us n k e s at (subst (Each (λ (x : Key × EventEntry). x.0.number < n)) (sym is) (below_less (is_at (key_order k)) n es s.below)) ordered looks (λ q. places q ∙ ap (λ o. forgotten o ts q) (sym timer))
 
 -- without a timer that stood at a place
 pub sound_cancelled : (es fs : Held) (ts us : Where) (n : ℕ) (t : TimerKey) (k : Key) → AreSound es ts n → ts t ≡ Some k → fs ≡ remove_entry (is_at (key_order k)) es → IsStrictlySortedBy key_order (keys_of fs)
@@ -353,7 +353,7 @@ sound_undone es fs ts mid us n timer k s is free noted forgotten =
 
 -- ---- the list is in order
 
-before_all : (x : Key × Entry) (es : Held) → AllByRecursion (λ q. key_order x.0 q ≡ Less) (keys_of es) → Each (λ p. comes_before (pending_of x) p ≡ true) (list_of es)
+before_all : (x : Key × EventEntry) (es : Held) → AllByRecursion (λ q. key_order x.0 q ≡ Less) (keys_of es) → Each (λ p. comes_before (pending_of x) p ≡ true) (list_of es)
 before_all x [] h = tt
 before_all x (y ∷ ys) h = (before_is x.0 y.0 x.1 y.1 ∙ ap is_lt h.0, before_all x ys h.1)
 
@@ -362,6 +362,6 @@ unfolding IsStrictlySortedBy
 in_order [] h = tt
 in_order (x ∷ xs) h = (before_all x xs h.0, in_order xs h.1)
 
-pub all_below : (n : ℕ) (es : Held) → Each (λ (x : Key × Entry). x.0.number < n) es → Each (λ (p : Pending). p.number < n) (list_of es)
+pub all_below : (n : ℕ) (es : Held) → Each (λ (x : Key × EventEntry). x.0.number < n) es → Each (λ (p : Pending). p.number < n) (list_of es)
 all_below n [] h = tt
 all_below n (x ∷ xs) h = (h.0, all_below n xs h.1)

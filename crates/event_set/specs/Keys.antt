@@ -9,8 +9,8 @@ use Rattle.std.specs.Option.{option_and_then, option_or}
 use Rattle.event_set.specs.declared.pending.Happening.{Happening}
 use Rattle.event_set.specs.declared.pending.Happening.TheVariants.{Timer, Arrival, Delivery}
 use Rattle.event_set.specs.declared.pending.Pending.{Pending}
-use Rattle.event_set.specs.declared.entry.Entry.{Entry}
-use Rattle.event_set.specs.declared.entry.Entry.TheVariants as entry
+use Rattle.event_set.specs.declared.entry.EventEntry.{EventEntry}
+use Rattle.event_set.specs.declared.entry.EventEntry.TheVariants as entry
 use Rattle.event_set.specs.declared.places.Key.{Key}
 use Rattle.event_set.specs.declared.places.TimerKey.{TimerKey}
 use Rattle.event_set.specs.declared.timers.First.{First}
@@ -24,21 +24,21 @@ abbrev pub timer_order : TimerKey → TimerKey → Ordering
 timer_order a b = ordering_then (nat_cmp a.id b.id) (nat_cmp a.timer b.timer)
 
 -- the module of an entry, and what is to happen to it
-abbrev pub id_of : Entry → ℕ
+abbrev pub id_of : EventEntry → ℕ
 id_of (entry.Timer kind id timer) = id
 id_of (entry.Arrival kind id bits payload alloc) = id
 id_of (entry.Delivery id delivery alloc) = id
 
-abbrev pub what_of : Entry → Happening
+abbrev pub what_of : EventEntry → Happening
 what_of (entry.Timer kind id timer) = Timer timer kind
 what_of (entry.Arrival kind id bits payload alloc) = Arrival kind bits payload
 what_of (entry.Delivery id delivery alloc) = Delivery delivery
 
 -- an entry as the event that it is
-abbrev pub pending_of : Key × Entry → Pending
+abbrev pub pending_of : Key × EventEntry → Pending
 pending_of e = record { time = e.0.time; priority = e.0.priority; number = e.0.number; id = id_of e.1; what = what_of e.1 }
 
-abbrev pub list_of : List (Key × Entry) → List Pending
+abbrev pub list_of : List (Key × EventEntry) → List Pending
 list_of es = map pending_of es
 
 -- which timer an entry is, if it is one
@@ -47,11 +47,11 @@ timer_in id (Timer timer kind) = Some (record { id = id; timer = timer })
 timer_in id (Arrival kind bits payload) = None
 timer_in id (Delivery delivery) = None
 
-abbrev pub timer_of : Entry → Option TimerKey
+abbrev pub timer_of : EventEntry → Option TimerKey
 timer_of e = timer_in (id_of e) (what_of e)
 
 -- what stands at a place
-abbrev pub at_key : List (Key × Entry) → Key → Option Entry
+abbrev pub at_key : List (Key × EventEntry) → Key → Option EventEntry
 at_key es k = lookup (is_at (key_order k)) es
 
 -- ---- where timers stand
@@ -82,10 +82,10 @@ place_at s t = option_or (first_at s.firsts t) (other_at s.others t)
 
 -- each timer of the events stands at its place, and nothing else does; and numbers are below the
 -- next
-pub record AreSound (es : List (Key × Entry)) (at : TimerKey → Option Key) (next : ℕ) : Type 0 where
+pub record AreSound (es : List (Key × EventEntry)) (at : TimerKey → Option Key) (next : ℕ) : Type 0 where
   pub ordered : IsStrictlySortedBy key_order (keys_of es)
-  pub below : Each (λ (e : Key × Entry). e.0.number < next) es
-  pub placed : (k : Key) (e : Entry) (t : TimerKey) → at_key es k ≡ Some e → timer_of e ≡ Some t → at t ≡ Some k
+  pub below : Each (λ (e : Key × EventEntry). e.0.number < next) es
+  pub placed : (k : Key) (e : EventEntry) (t : TimerKey) → at_key es k ≡ Some e → timer_of e ≡ Some t → at t ≡ Some k
   pub standing : (t : TimerKey) (k : Key) → at t ≡ Some k → option_and_then timer_of (at_key es k) ≡ Some t
 
 -- which timer an entry may be: none, or one that stands nowhere

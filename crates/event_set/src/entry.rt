@@ -12,7 +12,7 @@ use std::alloc::{AllocError, Global};
 /// stand in an order in which they leave no room between them: so a node of the tree, with fifteen
 /// entries and their places, is a block that is small.
 #[derive(Drop)]
-pub(crate) enum Entry {
+pub(crate) enum EventEntry {
     /// A self-message.
     Timer {
         kind: i16,
@@ -36,37 +36,37 @@ pub(crate) enum Entry {
 }
 
 // An entry has three words.
-const _: () = prove!(size_of::<Entry>() == 24);
+const _: () = prove!(size_of::<EventEntry>() == 24);
 
 // An equal one, so that a whole tree is copied node by node, with no search.
-impl Clone for Entry {
+impl Clone for EventEntry {
     ghost is_clone = { λ entry copy. copy ≡ entry };
 
-    fn clone(&self) -> Result<Entry, AllocError> {
+    fn clone(&self) -> Result<EventEntry, AllocError> {
         Ok(match self {
-            Entry::Timer { kind, id, timer } => Entry::Timer {
+            EventEntry::Timer { kind, id, timer } => EventEntry::Timer {
                 kind: *kind,
                 id: *id,
                 timer: *timer,
             },
-            Entry::Arrival {
+            EventEntry::Arrival {
                 kind,
                 id,
                 bits,
                 payload,
                 alloc,
-            } => Entry::Arrival {
+            } => EventEntry::Arrival {
                 kind: *kind,
                 id: *id,
                 bits: *bits,
                 payload: Boxed::new(*alloc, payload.get().copy(*alloc)?)?,
                 alloc: *alloc,
             },
-            Entry::Delivery {
+            EventEntry::Delivery {
                 id,
                 delivery,
                 alloc,
-            } => Entry::Delivery {
+            } => EventEntry::Delivery {
                 id: *id,
                 delivery: Boxed::new(*alloc, delivery.get().copy(*alloc)?)?,
                 alloc: *alloc,
@@ -75,22 +75,22 @@ impl Clone for Entry {
     }
 }
 
-impl Entry {
+impl EventEntry {
     /// What is to happen to the module of that id.
-    pub(crate) fn new(alloc: Global, id: u32, what: Happening) -> Result<Entry, AllocError>
+    pub(crate) fn new(alloc: Global, id: u32, what: Happening) -> Result<EventEntry, AllocError>
         ensures id { IfOk result (λ entry. id_of entry ≡ id) }
         ensures what { IfOk result (λ entry. what_of entry ≡ what) }
     {
         Ok(match what {
-            Happening::Timer(timer, kind) => Entry::Timer { kind, id, timer },
-            Happening::Arrival(kind, bits, payload) => Entry::Arrival {
+            Happening::Timer(timer, kind) => EventEntry::Timer { kind, id, timer },
+            Happening::Arrival(kind, bits, payload) => EventEntry::Arrival {
                 kind,
                 id,
                 bits,
                 payload: Boxed::new(alloc, payload)?,
                 alloc,
             },
-            Happening::Delivery(delivery) => Entry::Delivery {
+            Happening::Delivery(delivery) => EventEntry::Delivery {
                 id,
                 delivery: Boxed::new(alloc, delivery)?,
                 alloc,
@@ -103,7 +103,9 @@ impl Entry {
         ensures { result ≡ id_of self.now }
     {
         match self {
-            Entry::Timer { id, .. } | Entry::Arrival { id, .. } | Entry::Delivery { id, .. } => *id,
+            EventEntry::Timer { id, .. }
+            | EventEntry::Arrival { id, .. }
+            | EventEntry::Delivery { id, .. } => *id,
         }
     }
 
@@ -112,14 +114,14 @@ impl Entry {
         ensures { result ≡ what_of self }
     {
         match self {
-            Entry::Timer { kind, timer, .. } => Happening::Timer(timer, kind),
-            Entry::Arrival {
+            EventEntry::Timer { kind, timer, .. } => Happening::Timer(timer, kind),
+            EventEntry::Arrival {
                 kind,
                 bits,
                 payload,
                 ..
             } => Happening::Arrival(kind, bits, payload.into_inner()),
-            Entry::Delivery { delivery, .. } => Happening::Delivery(delivery.into_inner()),
+            EventEntry::Delivery { delivery, .. } => Happening::Delivery(delivery.into_inner()),
         }
     }
 }

@@ -12,7 +12,7 @@ ghost use Rattle.std.specs.List.Sorted.{IsStrictlySortedBy};
 ghost use Rattle.std.specs.Map.{keys_of};
 ghost use Rattle.event_set.specs.Events.{coming_of, is_live, begins_stale, struck};
 
-use crate::entry::Entry;
+use crate::entry::EventEntry;
 use crate::pending::{Happening, Pending};
 use crate::places::{Key, TimerKey};
 use crate::timers::Timers;
@@ -33,7 +33,7 @@ pub struct Coming {
 /// The events to come, ordered by time, priority and number of insertion, which contracts see as
 /// their list and the number of the next one.
 pub struct EventSet {
-    events: BTreeMap<Key, Entry>,
+    events: BTreeMap<Key, EventEntry>,
     /// Where the timers stand that are pending.
     timers: Timers,
     /// The number of the next insertion.
@@ -110,7 +110,7 @@ impl EventSet {
     {
         let key = key_of(time, priority, self.next);
         let timer = timer_in(id, &what);
-        let entry = Entry::new(self.alloc, id, what)?;
+        let entry = EventEntry::new(self.alloc, id, what)?;
         note_timer(&mut self.timers, &timer, &key)?;
         if let Err(refused) = put_entry(&mut self.events, key, entry) {
             forget_timer(&mut self.timers, &timer);
@@ -221,14 +221,18 @@ fn key_of(time: SimTime, priority: i16, number: u128) -> Key
 }
 
 /// Equal entries at equal places.
-fn copy_events(events: &BTreeMap<Key, Entry>) -> Result<BTreeMap<Key, Entry>, AllocError>
+fn copy_events(events: &BTreeMap<Key, EventEntry>) -> Result<BTreeMap<Key, EventEntry>, AllocError>
     ensures { IfOk result (λ copy. copy.entries ≡ events.now.entries) }
 {
     events.clone()
 }
 
 /// Puts an entry in its place, or changes nothing.
-fn put_entry(events: &mut BTreeMap<Key, Entry>, key: Key, entry: Entry) -> Result<(), AllocError>
+fn put_entry(
+    events: &mut BTreeMap<Key, EventEntry>,
+    key: Key,
+    entry: EventEntry,
+) -> Result<(), AllocError>
     ensures ordered { IsStrictlySortedBy key_order (keys_of events.new.entries) }
     ensures entries { OnOk result (events.new.entries ≡ insert_entry key_order events.old.entries key entry) }
     ensures places { OnOk result ((q : Key) → at_key events.new.entries q ≡ cond (is_at (key_order key) q) (Some entry) (at_key events.old.entries q)) }

@@ -10,7 +10,7 @@ use explain_types::names::shown;
 use inside_keys::found::Found;
 use inside_keys::key::{Key, Module, What};
 use inside_parts::parts::Part;
-use inside_run::scene::Scene;
+use inside_run::scene::ModuleSource;
 use inside_run::values::{empty_table, value_of};
 use model_data::model::Model;
 use model_settings::setting::ModelSetting;

@@ -2,7 +2,7 @@
 
 use crate::sections::{Numbered, sections_of};
 use ini_trees::entry::EntryMeaning;
-use ini_trees::lines::{Entry, IniLine};
+use ini_trees::lines::{IniEntry, IniLine};
 use ini_trees::speaks::last_name;
 use sim_values::NoMemory;
 use sim_values::text::{Text, spells};
@@ -10,7 +10,7 @@ use std::alloc::Global;
 
 /// Whether an entry gives the parameter of that path a value, or the submodule its type whose path
 /// stands before `typename`, where no entry before it does.
-fn gives(entry: &Entry, path: &str) -> bool {
+fn gives(entry: &IniEntry, path: &str) -> bool {
     let is_type = spells(last_name(path.as_bytes()), b"typename");
     match &entry.meaning {
         EntryMeaning::Parameter(it) => !is_type && it.pattern.matches(path),

@@ -1,67 +1,67 @@
 //! What is wrong where a compound module can't be built.
 
 use explain_types::explanation::Explanation;
-use inside_parts::fault::Fault;
+use inside_parts::fault::InsideFault;
 use run_semantics::outcome;
 
 /// The fault of an inside that ended a run, where it is one that an inside can have.
-pub fn fault_of(fault: &outcome::Fault) -> Option<Fault> {
+pub fn fault_of(fault: &outcome::RunFault) -> Option<InsideFault> {
     Some(match fault {
-        outcome::Fault::UnknownType => Fault::UnknownType,
-        outcome::Fault::Interface => Fault::Interface,
-        outcome::Fault::Unassigned => Fault::Unassigned,
-        outcome::Fault::Circle => Fault::Circle,
-        outcome::Fault::Overflow => Fault::Overflow,
-        outcome::Fault::Inexact => Fault::Inexact,
-        outcome::Fault::Mismatch => Fault::Mismatch,
-        outcome::Fault::GateSize => Fault::GateSize,
-        outcome::Fault::NoGate => Fault::NoGate,
-        outcome::Fault::AlreadyConnected => Fault::AlreadyConnected,
-        outcome::Fault::Unconnected => Fault::Unconnected,
-        outcome::Fault::TooManyTurns => Fault::TooManyTurns,
-        outcome::Fault::TooManyModules => Fault::TooManyModules,
-        outcome::Fault::TooDeep => Fault::TooDeep,
+        outcome::RunFault::UnknownType => InsideFault::UnknownType,
+        outcome::RunFault::Interface => InsideFault::Interface,
+        outcome::RunFault::Unassigned => InsideFault::Unassigned,
+        outcome::RunFault::Circle => InsideFault::Circle,
+        outcome::RunFault::Overflow => InsideFault::Overflow,
+        outcome::RunFault::Inexact => InsideFault::Inexact,
+        outcome::RunFault::Mismatch => InsideFault::Mismatch,
+        outcome::RunFault::GateSize => InsideFault::GateSize,
+        outcome::RunFault::NoGate => InsideFault::NoGate,
+        outcome::RunFault::AlreadyConnected => InsideFault::AlreadyConnected,
+        outcome::RunFault::Unconnected => InsideFault::Unconnected,
+        outcome::RunFault::TooManyTurns => InsideFault::TooManyTurns,
+        outcome::RunFault::TooManyModules => InsideFault::TooManyModules,
+        outcome::RunFault::TooDeep => InsideFault::TooDeep,
         _ => return None,
     })
 }
 
 /// What a fault of an inside says, and what would be right.
-fn words_of(fault: Fault) -> &'static str {
+fn words_of(fault: InsideFault) -> &'static str {
     match fault {
-        Fault::UnknownType =>
+        InsideFault::UnknownType =>
             "no file declares the type that is chosen for this submodule: let it name another one, or add the file",
-        Fault::Interface =>
+        InsideFault::Interface =>
             "the type that is chosen for this submodule isn't declared 'like' the interface that the submodule names, as no channel is, or gives a value of its own to a parameter that the submodule's body sets: choose another type, or leave that value out",
-        Fault::Unassigned =>
+        InsideFault::Unassigned =>
             "a type, a condition, a size, an index, a loop or a channel refers to something that has no value: a name there is a parameter of the module itself, a loop variable, or 'sub.x' of a submodule that is there",
-        Fault::Circle =>
+        InsideFault::Circle =>
             "a type, a condition, a size or a value rests on itself, by what it refers to: let one of them refer to none of the others",
-        Fault::Overflow =>
+        InsideFault::Overflow =>
             "a number in a condition, a size, an index, a loop or a channel is outside -9223372036854775808 to 9223372036854775807, or something is shifted by less than 0 or more than 63",
-        Fault::Inexact =>
+        InsideFault::Inexact =>
             "in a condition, a size, an index, a loop or a channel a division leaves a remainder or is by zero, or an exponent is negative",
-        Fault::Mismatch =>
+        InsideFault::Mismatch =>
             "a value is of another kind than is wanted: a condition is true or false, a size, an index and the numbers of a loop are whole numbers, a size of submodules isn't negative, a channel's delay and datarate aren't either, and its ber and per are 0",
-        Fault::GateSize =>
+        InsideFault::GateSize =>
             "a gate vector would have fewer than 0 or more than 65536 gates, or a connection takes a gate outside of a vector, or by '++' one more than the module's own vector has: declare another size, or connect fewer gates",
-        Fault::NoGate =>
+        InsideFault::NoGate =>
             "a connection names a submodule or a gate that isn't there, a gate of another direction, an index if there is no vector, or none if there is one: name a gate that the submodule's type declares",
-        Fault::AlreadyConnected =>
+        InsideFault::AlreadyConnected =>
             "two connections take the same gate: leave one of them out, or let it take another gate",
-        Fault::Unconnected =>
+        InsideFault::Unconnected =>
             "a gate stands in no connection: connect it, or write 'connections allowunconnected:', or '@loose' after the gate",
-        Fault::TooManyTurns =>
+        InsideFault::TooManyTurns =>
             "the loops of the connections make more than 1000000 turns: let them run over fewer numbers",
-        Fault::TooManyModules =>
+        InsideFault::TooManyModules =>
             "there would be more than 65536 modules: let the vectors of submodules have fewer elements",
-        Fault::TooDeep =>
+        InsideFault::TooDeep =>
             "modules are nested more than 32 deep: let no module be inside of itself, by way of others too",
     }
 }
 
 /// Says what is wrong with the inside of the compound module of that path, or with its submodule,
 /// and what would be right.
-pub fn tell_inside(told: &mut Explanation, path: &str, fault: Fault) {
+pub fn tell_inside(told: &mut Explanation, path: &str, fault: InsideFault) {
     told.say_front(path.as_bytes());
     told.say(": ");
     told.say(words_of(fault));

@@ -1,7 +1,7 @@
 //! Which connection of a compound module has a fault: the first with which the fault comes.
 
 use crate::modules::placed_at;
-use inside_parts::fault::Fault;
+use inside_parts::fault::InsideFault;
 use model_data::model::Model;
 use model_settings::setting::ModelSetting;
 use ned_inheritance::table::{BuildError, flat_types};
@@ -21,7 +21,7 @@ pub struct Faulted<'a> {
     /// The module's type and all that it extends, the root first.
     pub order: &'a [&'a TypeDeclaration],
     pub path: &'a [u8],
-    pub fault: Fault,
+    pub fault: InsideFault,
 }
 
 /// How many items of connections these types have.
@@ -78,7 +78,12 @@ fn table_of(alloc: Global, types: &[TypeDeclaration]) -> Result<Option<TypeTable
 }
 
 /// Whether the inside of the module of that path has the fault, in this model.
-fn has_fault(alloc: Global, model: &Model, path: &[u8], fault: Fault) -> Result<bool, NoMemory> {
+fn has_fault(
+    alloc: Global,
+    model: &Model,
+    path: &[u8],
+    fault: InsideFault,
+) -> Result<bool, NoMemory> {
     let setting = ModelSetting::new(alloc, model)?;
     match placed_at(alloc, &setting, path)? {
         Ok(_) => Ok(false),

@@ -3,7 +3,7 @@
 use crate::modules::{declared_at, module_of, placed_at, record_of};
 use inside_keys::found::Found;
 use inside_keys::unconnected::unconnected;
-use inside_run::scene::Scene;
+use inside_run::scene::ModuleSource;
 use model_answers::plain::PlainAnswers;
 use model_inside::built::name_of_part;
 use model_questions::answer::{Answer, Question};

@@ -17,7 +17,7 @@ use std::alloc::Global;
 
 /// What stands at a path.
 #[derive(Clone, Copy, PartialEq, Eq)]
-enum Standing {
+enum PathEnd {
     Simple,
     Compound,
     Nothing,
@@ -47,16 +47,16 @@ fn has_name(alloc: Global, built: &Built, name: &[u8]) -> Result<bool, NoMemory>
 }
 
 /// What stands among these submodules by that own name.
-fn standing_in(alloc: Global, inside: &[Built], name: &[u8]) -> Result<Standing, NoMemory> {
+fn standing_in(alloc: Global, inside: &[Built], name: &[u8]) -> Result<PathEnd, NoMemory> {
     for built in inside {
         if has_name(alloc, built, name)? {
             return Ok(match built.class {
-                Some(_) => Standing::Simple,
-                None => Standing::Compound,
+                Some(_) => PathEnd::Simple,
+                None => PathEnd::Compound,
             });
         }
     }
-    Ok(Standing::Nothing)
+    Ok(PathEnd::Nothing)
 }
 
 /// What stands by that own name in the compound module of that path.
@@ -65,12 +65,12 @@ fn standing_under(
     answers: &PlainAnswers<'_>,
     above: &[u8],
     name: &[u8],
-) -> Result<Standing, NoMemory> {
+) -> Result<PathEnd, NoMemory> {
     let records = record_of(alloc, above)?;
     match answers.answer(alloc, records.as_slice(), &Question::Build(1))? {
         Answer::Inside(inside) => standing_in(alloc, inside.as_slice(), name),
-        Answer::Fault(_, _) => Ok(Standing::Unknown),
-        _ => Ok(Standing::Nothing),
+        Answer::Fault(_, _) => Ok(PathEnd::Unknown),
+        _ => Ok(PathEnd::Nothing),
     }
 }
 
@@ -91,22 +91,18 @@ fn split_name(path: &str) -> (&str, Option<&str>) {
 }
 
 /// What stands at a path.
-fn standing_at(
-    alloc: Global,
-    answers: &PlainAnswers<'_>,
-    path: &str,
-) -> Result<Standing, NoMemory> {
+fn standing_at(alloc: Global, answers: &PlainAnswers<'_>, path: &str) -> Result<PathEnd, NoMemory> {
     let (network, mut rest) = split_name(path);
     if !is_network(alloc, answers, network.as_bytes())? {
-        return Ok(Standing::Nothing);
+        return Ok(PathEnd::Nothing);
     }
     let mut above = Text::from_str(alloc, network)?;
-    let mut standing = Standing::Compound;
+    let mut standing = PathEnd::Compound;
     for _level in 0..MAX_NESTING {
         let Some(names) = rest else {
             break;
         };
-        if standing != Standing::Compound {
+        if standing != PathEnd::Compound {
             break;
         }
         let (name, others) = split_name(names);
@@ -114,21 +110,21 @@ fn standing_at(
         above = path_under(alloc, above.as_bytes(), name.as_bytes())?;
         rest = others;
     }
-    if standing != Standing::Unknown && rest.is_some() {
-        return Ok(Standing::Nothing);
+    if standing != PathEnd::Unknown && rest.is_some() {
+        return Ok(PathEnd::Nothing);
     }
     Ok(standing)
 }
 
 /// Says that a message to a path is discarded, where it is.
-fn tell_standing(told: &mut Explanation, path: &[u8], standing: Standing) {
+fn tell_standing(told: &mut Explanation, path: &[u8], standing: PathEnd) {
     match standing {
-        Standing::Simple | Standing::Unknown => return,
-        Standing::Nothing => {
+        PathEnd::Simple | PathEnd::Unknown => return,
+        PathEnd::Nothing => {
             told.say("no module has the path ");
             told.say_name(path);
         }
-        Standing::Compound => {
+        PathEnd::Compound => {
             told.say_name(path);
             told.say(" is a compound module, and messages arrive at simple ones");
         }

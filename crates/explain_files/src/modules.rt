@@ -3,7 +3,7 @@
 use ini_trees::speaks::last_name;
 use inside_keys::found::Found;
 use inside_keys::key::Module;
-use inside_parts::fault::Fault;
+use inside_parts::fault::InsideFault;
 use inside_run::placed::placed;
 use inside_run::values::empty_table;
 use model_answers::plain::PlainAnswers;
@@ -22,7 +22,7 @@ use std::alloc::Global;
 #[derive(Clone, Copy)]
 pub struct ToldFault<'a> {
     pub path: &'a str,
-    pub fault: &'a outcome::Fault,
+    pub fault: &'a outcome::RunFault,
 }
 
 /// A submodule as it is declared, with the type that declares it.
@@ -79,7 +79,7 @@ pub fn placed_at(
     alloc: Global,
     setting: &ModelSetting<'_>,
     path: &[u8],
-) -> Result<Result<Found, (Text, Fault)>, NoMemory> {
+) -> Result<Result<Found, (Text, InsideFault)>, NoMemory> {
     let mut table = empty_table(alloc, setting);
     let site = module_of(alloc, path)?;
     let around = around_of(alloc, &site)?;

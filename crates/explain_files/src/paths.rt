@@ -116,7 +116,7 @@ fn add_fixed<'a>(names: &mut Names<'a>, lines: &'a [SectionLine]) -> Result<(), 
 
 /// What there is for an entry for parameters.
 #[derive(Clone, Copy)]
-pub enum Standing<'a> {
+pub enum EntryUse<'a> {
     /// A parameter, perhaps, whose value it gives.
     Open,
     /// Parameters alone that entries before it in its section are for: the path of the first of
@@ -220,21 +220,21 @@ fn first_for(taken: &mut [usize], number: usize, line: usize) -> usize {
 
 /// What there is for an entry, with one more parameter or statistic that it matches, for which the
 /// entry of that line is first, or none where that is 0.
-fn with_match<'a>(standing: Standing<'a>, path: &'a str, first: usize) -> Standing<'a> {
+fn with_match<'a>(standing: EntryUse<'a>, path: &'a str, first: usize) -> EntryUse<'a> {
     if first == 0 {
-        return Standing::Open;
+        return EntryUse::Open;
     }
     match standing {
-        Standing::Nowhere => Standing::Hidden(path, first),
+        EntryUse::Nowhere => EntryUse::Hidden(path, first),
         it => it,
     }
 }
 
 /// What there is, where no parameter without a fixed value is: one that has it, or none.
-fn fixed_or_none(fixed: Option<&str>) -> Standing<'_> {
+fn fixed_or_none(fixed: Option<&str>) -> EntryUse<'_> {
     match fixed {
-        Some(path) => Standing::Fixed(path),
-        None => Standing::Nowhere,
+        Some(path) => EntryUse::Fixed(path),
+        None => EntryUse::Nowhere,
     }
 }
 
@@ -368,8 +368,8 @@ impl Paths {
 
     /// The parameters that a pattern matches, where they are paths: whether the entry of that line
     /// is the first for one of them, of those of its section. It is noted for which it is.
-    fn matched(&self, pattern: &Pattern, line: usize, taken: &mut [usize]) -> Standing<'_> {
-        let mut standing = Standing::Nowhere;
+    fn matched(&self, pattern: &Pattern, line: usize, taken: &mut [usize]) -> EntryUse<'_> {
+        let mut standing = EntryUse::Nowhere;
         let mut number: usize = 0;
         for path in self.parameters.lines() {
             if pattern.matches(path) {
@@ -378,15 +378,15 @@ impl Paths {
             number = number.saturating_add(1);
         }
         match standing {
-            Standing::Nowhere => fixed_or_none(matching(self.fixed.as_str(), pattern)),
+            EntryUse::Nowhere => fixed_or_none(matching(self.fixed.as_str(), pattern)),
             it => it,
         }
     }
 
     /// What there is for an entry for parameters by the last name of its key.
-    fn parameter_named(&self, name: &[u8]) -> Standing<'_> {
+    fn parameter_named(&self, name: &[u8]) -> EntryUse<'_> {
         if is_named(self.parameters.as_str(), name) {
-            return Standing::Open;
+            return EntryUse::Open;
         }
         fixed_or_none(named(self.fixed.as_str(), name))
     }
@@ -400,14 +400,14 @@ impl Paths {
         pattern: &Pattern,
         line: usize,
         taken: &mut [usize],
-    ) -> Standing<'_> {
+    ) -> EntryUse<'_> {
         let name = last_name(key);
         if !self.exact {
             return self.parameter_named(name);
         }
         let standing = self.matched(pattern, line, taken);
         if self.may_be_of_channel(name) {
-            return Standing::Open;
+            return EntryUse::Open;
         }
         standing
     }
@@ -436,8 +436,8 @@ impl Paths {
         alloc: Global,
         entry: OptionEntry<'_>,
         taken: &mut [usize],
-    ) -> Result<Standing<'_>, NoMemory> {
-        let mut standing = Standing::Nowhere;
+    ) -> Result<EntryUse<'_>, NoMemory> {
+        let mut standing = EntryUse::Nowhere;
         let mut number = names_before(entry.option);
         for path in self.statistics.lines() {
             standing = with_names(alloc, standing, path, entry, number, taken)?;
@@ -454,8 +454,8 @@ impl Paths {
         taken: &mut [usize],
     ) -> Result<Recorded<'_>, NoMemory> {
         match self.recorded(alloc, entry, taken)? {
-            Standing::Open => return Ok(Recorded::There),
-            Standing::Hidden(path, first) => return Ok(Recorded::Hidden(path, first)),
+            EntryUse::Open => return Ok(Recorded::There),
+            EntryUse::Hidden(path, first) => return Ok(Recorded::Hidden(path, first)),
             _ => {}
         }
         if self.has_ending(alloc, entry.pattern, entry.option, ENDINGS)? {
@@ -549,12 +549,12 @@ fn is_for_statistic(
 /// that number.
 fn with_names<'a>(
     alloc: Global,
-    before: Standing<'a>,
+    before: EntryUse<'a>,
     path: &'a str,
     entry: OptionEntry<'_>,
     first_number: usize,
     taken: &mut [usize],
-) -> Result<Standing<'a>, NoMemory> {
+) -> Result<EntryUse<'a>, NoMemory> {
     let mut standing = before;
     let mut number = first_number;
     for ending in endings_of(entry.option).split(' ') {

@@ -6,7 +6,7 @@ use crate::sections::{Numbered, Sections, sections_of};
 use crate::warnings::{OPTIONS, type_within};
 use indexmap::IndexSet;
 use ini_trees::entry::{EntryMeaning, ObjectEntry, ObjectOption};
-use ini_trees::lines::{Entry, IniLine};
+use ini_trees::lines::{IniEntry, IniLine};
 use ned_trees::declarations::{SectionLine, Submodule, TypeDeclaration};
 use ned_types::given::{fixes, name_in};
 use sim_values::NoMemory;
@@ -139,7 +139,7 @@ fn records_anywhere(it: Network<'_>, key: &[u8], object: &ObjectEntry) -> bool {
 }
 
 /// Whether a few looks tell that an entry has an effect, where no other of its section has its key.
-fn is_plain(it: Network<'_>, entry: &Entry) -> bool {
+fn is_plain(it: Network<'_>, entry: &IniEntry) -> bool {
     let key = entry.key.as_bytes();
     match &entry.meaning {
         EntryMeaning::Other => is_among(key, OPTIONS.as_slice()),

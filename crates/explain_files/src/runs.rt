@@ -10,11 +10,11 @@ use explain_types::explanation::Explanation;
 use explain_types::names::shown;
 use explain_types::ned_files::Files;
 use explain_types::sources::Sources;
-use explain_types::values::{Parameter, tell_place_of_value};
+use explain_types::values::{GivenParameter, tell_place_of_value};
 use ini_entries::constants::is_constant;
 use ini_trees::entries::value_for;
 use ini_trees::entry::{EntryMeaning, EntryValue};
-use ini_trees::lines::Entry;
+use ini_trees::lines::IniEntry;
 use model_answers::evaluated::EvaluatedModel;
 use model_answers::plain::PlainAnswers;
 use model_data::model::Model;
@@ -26,7 +26,7 @@ use ned_trees::declarations::{
 };
 use ned_trees::expressions::Expression;
 use ned_types::flat::{class_of, last_value};
-use run_semantics::outcome::Fault;
+use run_semantics::outcome::RunFault;
 use sim_values::NoMemory;
 use std::alloc::Global;
 
@@ -110,13 +110,13 @@ fn blamed<'a>(
 }
 
 /// The fault of a parameter that ended a run, where it is one that a parameter can have.
-fn parameter_fault(fault: &Fault) -> Option<ModelFault> {
+fn parameter_fault(fault: &RunFault) -> Option<ModelFault> {
     match fault {
-        Fault::Unassigned => Some(ModelFault::Unassigned),
-        Fault::Overflow => Some(ModelFault::Overflow),
-        Fault::Inexact => Some(ModelFault::Inexact),
-        Fault::Mismatch => Some(ModelFault::Mismatch),
-        Fault::Circle => Some(ModelFault::Circle),
+        RunFault::Unassigned => Some(ModelFault::Unassigned),
+        RunFault::Overflow => Some(ModelFault::Overflow),
+        RunFault::Inexact => Some(ModelFault::Inexact),
+        RunFault::Mismatch => Some(ModelFault::Mismatch),
+        RunFault::Circle => Some(ModelFault::Circle),
         _ => None,
     }
 }
@@ -170,7 +170,7 @@ fn say_of_value(
     told: &mut Explanation,
     before: &str,
     it: Faulty<'_>,
-    entry: Option<&Entry>,
+    entry: Option<&IniEntry>,
     what: &str,
 ) {
     told.say(before);
@@ -192,7 +192,7 @@ const OTHER_KIND: &str = " of another kind, or an operator in it has operands of
 fn say_mismatch(
     told: &mut Explanation,
     it: Faulty<'_>,
-    entry: Option<&Entry>,
+    entry: Option<&IniEntry>,
     value: Option<&Expression>,
 ) {
     told.say("'");
@@ -219,7 +219,7 @@ fn say_mismatch(
 
 /// Says that a parameter has no value, though an entry of the ini text stands for the one in the
 /// NED file, or none does.
-fn say_unassigned(told: &mut Explanation, it: Faulty<'_>, entry: Option<&Entry>) {
+fn say_unassigned(told: &mut Explanation, it: Faulty<'_>, entry: Option<&IniEntry>) {
     told.say("'");
     say_path(told, it);
     told.say("' has no value");
@@ -238,7 +238,7 @@ fn say_unassigned(told: &mut Explanation, it: Faulty<'_>, entry: Option<&Entry>)
 fn tell_wrong(
     told: &mut Explanation,
     it: Faulty<'_>,
-    entry: Option<&Entry>,
+    entry: Option<&IniEntry>,
     value: Option<&Expression>,
 ) {
     match it.fault {
@@ -288,7 +288,7 @@ fn tell_wrong_in_ned(told: &mut Explanation, it: Faulty<'_>, expression: &Expres
 }
 
 /// The expression that an entry gives as a value.
-fn expression_in(entry: &Entry) -> Option<&Expression> {
+fn expression_in(entry: &IniEntry) -> Option<&Expression> {
     match &entry.meaning {
         EntryMeaning::Parameter(it) => match &it.value {
             EntryValue::Given(expression) => Some(expression),
@@ -325,7 +325,7 @@ fn tell_wrong_in_ini(
 
 /// Says where the type of that name, or what it extends, gives a parameter its value: `path:line:
 /// `.
-fn tell_given(told: &mut Explanation, sources: &Sources<'_>, name: &[u8], of: Parameter<'_>) {
+fn tell_given(told: &mut Explanation, sources: &Sources<'_>, name: &[u8], of: GivenParameter<'_>) {
     match read_types(told.alloc(), sources) {
         Ok(types) => {
             let files = Files {
@@ -341,13 +341,13 @@ fn tell_given(told: &mut Explanation, sources: &Sources<'_>, name: &[u8], of: Pa
 /// Says where the NED files give a parameter of that name its value: `path:line: `.
 fn tell_place(told: &mut Explanation, sources: &Sources<'_>, it: &Found<'_>, name: &[u8]) {
     if last_value(name, body_of(it)).is_none() {
-        let of = Parameter {
+        let of = GivenParameter {
             submodule: None,
             name,
         };
         tell_given(told, sources, it.of.name.as_bytes(), of);
     } else if let Some(declared) = it.declared {
-        let of = Parameter {
+        let of = GivenParameter {
             submodule: Some(declared.submodule.name.as_bytes()),
             name,
         };
@@ -432,12 +432,13 @@ fn tell_gates(told: &mut Explanation, of: &TypeDeclaration) {
 }
 
 /// Whether a fault is one of a module of that type when it is called, and not of its inside.
-fn is_of_call(fault: &Fault, of: &TypeDeclaration) -> bool {
+fn is_of_call(fault: &RunFault, of: &TypeDeclaration) -> bool {
     match fault {
-        Fault::NoParameter | Fault::UnknownClass | Fault::TimeOverflow | Fault::ModuleFailed(_) => {
-            true
-        }
-        Fault::NoGate => of.kind == TypeKind::Simple,
+        RunFault::NoParameter
+        | RunFault::UnknownClass
+        | RunFault::TimeOverflow
+        | RunFault::ModuleFailed(_) => { true }
+        RunFault::NoGate => of.kind == TypeKind::Simple,
         _ => false,
     }
 }
@@ -451,19 +452,19 @@ fn tell_classes(told: &mut Explanation, of: &TypeDeclaration, classes: &[&[u8]])
 }
 
 /// What led to a fault, where it is one of a message that a simple module sends.
-fn why_not_sent(fault: &Fault) -> Option<&'static str> {
+fn why_not_sent(fault: &RunFault) -> Option<&'static str> {
     Some(match fault {
-        Fault::NotConnected =>
+        RunFault::NotConnected =>
             "the connections of the gate through which it sends lead to no simple module",
-        Fault::TooManyHops =>
+        RunFault::TooManyHops =>
             "a message would pass more than 1,000 connections: they lead round in a circle",
-        Fault::TwoTransmissionChannels =>
+        RunFault::TwoTransmissionChannels =>
             "more than one channel on the way of its message has a datarate",
-        Fault::Busy =>
+        RunFault::Busy =>
             "its message reaches a channel before the transmission of an earlier one has ended: a higher datarate, shorter messages or longer gaps",
-        Fault::AlreadyConnected => "it sends directly to a gate to which something is connected",
-        Fault::NoModule => "it sends directly to a path at which there is no module",
-        Fault::PayloadTooLarge => "a message that it sends has more than 4,096 bytes",
+        RunFault::AlreadyConnected => "it sends directly to a gate to which something is connected",
+        RunFault::NoModule => "it sends directly to a path at which there is no module",
+        RunFault::PayloadTooLarge => "a message that it sends has more than 4,096 bytes",
         _ => return None,
     })
 }
@@ -478,10 +479,10 @@ fn tell_call(
     told.say_front(fault.path.as_bytes());
     told.say(": ");
     match fault.fault {
-        Fault::NoParameter => tell_declared(told, of),
-        Fault::NoGate => tell_gates(told, of),
-        Fault::UnknownClass => tell_classes(told, of, classes),
-        Fault::TimeOverflow => told.say(
+        RunFault::NoParameter => tell_declared(told, of),
+        RunFault::NoGate => tell_gates(told, of),
+        RunFault::UnknownClass => tell_classes(told, of, classes),
+        RunFault::TimeOverflow => told.say(
             "a time is above 9223372.036854775807s: a shorter delay, or a sim-time-limit, ends the run before",
         ),
         _ => told.say("the module can't take the value of the parameter that its message names"),
@@ -524,8 +525,8 @@ fn tell_own(
 }
 
 /// Whether a fault is that a gate isn't there.
-fn is_no_gate(fault: &Fault) -> bool {
-    matches!(fault, Fault::NoGate)
+fn is_no_gate(fault: &RunFault) -> bool {
+    matches!(fault, RunFault::NoGate)
 }
 
 /// Says what led to a fault of the module that was found at its path, if one was.
@@ -595,7 +596,7 @@ fn tell_run(
 pub fn fault_line(
     alloc: Global,
     path: &[u8],
-    fault: &Fault,
+    fault: &RunFault,
     sources: &Sources<'_>,
     classes: &[&[u8]],
 ) -> Result<String, NoMemory> {

@@ -1,6 +1,6 @@
 //! The entries of an ini text by the sections in which they stand.
 
-use ini_trees::lines::{Entry, IniLine, LineMeaning};
+use ini_trees::lines::{IniEntry, IniLine, LineMeaning};
 use ini_trees::names::{SectionNames, section_names};
 use ini_trees::scan::section_behind;
 use sim_values::NoMemory;
@@ -10,7 +10,7 @@ use std::alloc::{AllocError, Global};
 #[derive(Clone, Copy)]
 pub struct Numbered<'a> {
     pub line: usize,
-    pub entry: &'a Entry,
+    pub entry: &'a IniEntry,
 }
 
 /// The sections of a text.

@@ -4,7 +4,7 @@ use crate::built::{names_in, paths_in};
 use crate::configurations::{chain_of, is_among, lines_of};
 use crate::options::instead_of_option;
 use crate::paths::{
-    MOST_TRIES, NAMES, OptionEntry, Paths, Recorded, Standing, before_option, without_mode,
+    EntryUse, MOST_TRIES, NAMES, OptionEntry, Paths, Recorded, before_option, without_mode,
 };
 use crate::plain::all_have_effect;
 use crate::reading::read_types;
@@ -14,12 +14,12 @@ use explain_types::explanation::Explanation;
 use explain_types::names::shown;
 use explain_types::ned_files::{Files, type_named};
 use explain_types::sources::Sources;
-use explain_types::values::{Parameter, tell_line_of_value};
+use explain_types::values::{GivenParameter, tell_line_of_value};
 use indexmap::IndexMap;
 use ini_pattern::Pattern;
 use ini_trees::entries::network_entry;
 use ini_trees::entry::{EntryMeaning, ObjectEntry, ObjectOption};
-use ini_trees::lines::{Entry, IniLine, IniText};
+use ini_trees::lines::{IniEntry, IniLine, IniText};
 use ini_trees::speaks::last_name;
 use model_reading::begin::{BeginFault, model_of};
 use model_settings::standings::{before_last, name_in as own_name};
@@ -216,7 +216,7 @@ fn tell_value_of(
     told: &mut Explanation,
     it: Case<'_>,
     of: &TypeDeclaration,
-    parameter: Parameter<'_>,
+    parameter: GivenParameter<'_>,
 ) -> bool {
     let files = Files {
         sources: it.sources,
@@ -248,13 +248,13 @@ pub(crate) fn type_within<'a>(
 /// `path:line`. Answers whether one does.
 fn tell_value_within(told: &mut Explanation, it: Case<'_>, site: Site<'_>, name: &[u8]) -> bool {
     if last_value(name, site.submodule.body.lines.as_slice()).is_some() {
-        let parameter = Parameter {
+        let parameter = GivenParameter {
             submodule: Some(site.submodule.name.as_bytes()),
             name,
         };
         return tell_value_of(told, it, site.around, parameter);
     }
-    let parameter = Parameter {
+    let parameter = GivenParameter {
         submodule: None,
         name,
     };
@@ -328,7 +328,7 @@ fn tell_value_at(told: &mut Explanation, it: Case<'_>, path: &[u8]) -> Result<bo
     let name = last_name(path);
     let around = before_last(path).unwrap_or(b"".as_slice());
     if before_last(around).is_none() {
-        let parameter = Parameter {
+        let parameter = GivenParameter {
             submodule: None,
             name,
         };
@@ -355,7 +355,7 @@ fn declares_fixed(lines: &[SectionLine], name: &[u8]) -> bool {
 fn tell_value_named(told: &mut Explanation, it: Case<'_>, name: &[u8]) -> bool {
     for of in it.types {
         if declares_fixed(of.lines.as_slice(), name) {
-            let parameter = Parameter {
+            let parameter = GivenParameter {
                 submodule: None,
                 name,
             };
@@ -427,17 +427,23 @@ fn tell_parameter(
 ) {
     let taken = seen.parameters.as_mut_slice();
     match it.paths.parameter_for(key, pattern, line, taken) {
-        Standing::Open => {}
-        Standing::Hidden(path, first) => {
+        EntryUse::Open => {}
+        EntryUse::Hidden(path, first) => {
             tell_hidden(told, it.sources, line, key, PARAMETER_HIDDEN, path, first)
         }
-        Standing::Fixed(path) => tell_fixed(told, it, line, key, path, &mut seen.places),
-        Standing::Nowhere => tell_nowhere(told, it, line, key),
+        EntryUse::Fixed(path) => tell_fixed(told, it, line, key, path, &mut seen.places),
+        EntryUse::Nowhere => tell_nowhere(told, it, line, key),
     }
 }
 
 /// Says that an entry has no effect, where it has none.
-fn tell_entry(told: &mut Explanation, it: Case<'_>, line: usize, entry: &Entry, seen: &mut Seen) {
+fn tell_entry(
+    told: &mut Explanation,
+    it: Case<'_>,
+    line: usize,
+    entry: &IniEntry,
+    seen: &mut Seen,
+) {
     let key = entry.key.as_bytes();
     match &entry.meaning {
         EntryMeaning::Other if !is_among(key, OPTIONS.as_slice()) => {
@@ -481,7 +487,7 @@ fn widest_key(alloc: Global, key: &[u8]) -> Result<Vec<u8>, NoMemory> {
 
 /// Whether an entry is for parameters, types or statistics by a pattern, and not an option of the
 /// run.
-fn has_pattern(entry: &Entry) -> bool {
+fn has_pattern(entry: &IniEntry) -> bool {
     matches!(
         entry.meaning,
         EntryMeaning::Parameter(_) | EntryMeaning::Type(_) | EntryMeaning::Object(_)
@@ -493,7 +499,7 @@ fn has_pattern(entry: &Entry) -> bool {
 fn line_of_wider(
     alloc: Global,
     lines: &FirstLines<'_>,
-    entry: &Entry,
+    entry: &IniEntry,
 ) -> Result<Option<usize>, NoMemory> {
     if !has_pattern(entry) {
         return Ok(None);

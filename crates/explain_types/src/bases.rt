@@ -43,7 +43,7 @@ fn extended(it: &TypeDeclaration, number: usize) -> Option<&Text> {
 
 /// A type on the way from another to what it extends.
 #[derive(Clone, Copy)]
-struct Step<'a> {
+struct BaseStep<'a> {
     it: &'a TypeDeclaration,
     /// How many of those that it extends are done already.
     done: usize,
@@ -55,7 +55,7 @@ struct Step<'a> {
 struct Way<'a, 'n> {
     types: &'a [TypeDeclaration],
     numbers: &'n Numbers<'a>,
-    steps: Vec<Step<'a>>,
+    steps: Vec<BaseStep<'a>>,
     seen: Vec<bool>,
     behind: Vec<&'a TypeDeclaration>,
 }
@@ -72,7 +72,7 @@ fn go_to(way: &mut Way<'_, '_>, name: &[u8]) -> Result<(), AllocError> {
         return Ok(());
     }
     *seen = true;
-    way.steps.push(Step { it, done: 0 })?;
+    way.steps.push(BaseStep { it, done: 0 })?;
     Ok(())
 }
 
@@ -85,7 +85,7 @@ fn go_on(way: &mut Way<'_, '_>) -> Result<bool, AllocError> {
     match extended(last.it, last.done) {
         Some(name) => {
             let done = last.done.saturating_add(1);
-            way.steps.push(Step { it: last.it, done })?;
+            way.steps.push(BaseStep { it: last.it, done })?;
             go_to(way, name.as_bytes())?;
         }
         None => way.behind.push(last.it)?,

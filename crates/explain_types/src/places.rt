@@ -261,7 +261,7 @@ fn token_at(tokens: &[Token], head: usize, spot: Spot<'_>) -> usize {
 
 /// Where a token stands.
 #[derive(Clone, Copy)]
-struct Place {
+struct TokenPlace {
     /// How many parentheses are open.
     parens: u64,
     /// In an import, after its word.
@@ -270,7 +270,7 @@ struct Place {
     property: bool,
 }
 
-impl Place {
+impl TokenPlace {
     /// Whether a word that begins a type, a package or an import can be such a word there, and none
     /// of an import or a property.
     fn is_outside(self) -> bool {
@@ -278,7 +278,7 @@ impl Place {
     }
 
     /// The place after a mark, outside of imports.
-    fn behind_mark(self, mark: Mark) -> Place {
+    fn behind_mark(self, mark: Mark) -> TokenPlace {
         let mut next = self;
         if mark == Mark::LeftParen {
             next.parens = self.parens.saturating_add(1);
@@ -290,7 +290,7 @@ impl Place {
     }
 
     /// The place after a token.
-    fn behind(self, token: &Token) -> Place {
+    fn behind(self, token: &Token) -> TokenPlace {
         let mut next = self;
         match token {
             Token::Mark(mark) if self.import => next.import = *mark != Mark::Semi,
@@ -320,7 +320,7 @@ fn is_head(token: &Token) -> bool {
 /// The token that begins the type of that number, counted from 0, or else how many types there are.
 fn head_of(tokens: &[Token], number: usize) -> Result<usize, usize> {
     let mut count = 0usize;
-    let mut place = Place {
+    let mut place = TokenPlace {
         parens: 0,
         import: false,
         property: false,

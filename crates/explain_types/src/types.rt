@@ -14,7 +14,7 @@ use crate::members::{
 use crate::ned_files::Files;
 use crate::origins::{Kind, origin_of};
 use crate::twice::tell_twice;
-use ned_inheritance::places::{Member, Place};
+use ned_inheritance::places::{FaultPlace, Member};
 use ned_inheritance::table::TypeFault;
 use ned_trees::declarations::TypeDeclaration;
 
@@ -100,7 +100,7 @@ fn tell_flat(told: &mut Explanation, files: &Files<'_>, it: &TypeDeclaration, me
 }
 
 /// Says why types don't go together, which have that fault at that place.
-pub fn tell_types(told: &mut Explanation, files: &Files<'_>, fault: TypeFault, place: Place) {
+pub fn tell_types(told: &mut Explanation, files: &Files<'_>, fault: TypeFault, place: FaultPlace) {
     let Some(it) = files.types.get(place.number) else {
         return;
     };

@@ -26,7 +26,7 @@ fn behind_value(lines: &[SectionLine], name: &[u8]) -> Option<usize> {
 
 /// A parameter of a module.
 #[derive(Clone, Copy)]
-pub struct Parameter<'a> {
+pub struct GivenParameter<'a> {
     /// The submodule in whose body it is given its value; none where its type gives it.
     pub submodule: Option<&'a [u8]>,
     pub name: &'a [u8],
@@ -42,7 +42,7 @@ fn lines_of<'a>(it: &'a TypeDeclaration, submodule: Option<&[u8]>) -> Option<&'a
 }
 
 /// The place in a type where it gives the parameter its value.
-fn spot_in<'a>(it: &TypeDeclaration, of: Parameter<'a>) -> Option<Spot<'a>> {
+fn spot_in<'a>(it: &TypeDeclaration, of: GivenParameter<'a>) -> Option<Spot<'a>> {
     let lines = lines_of(it, of.submodule)?;
     Some(Spot {
         body: of.submodule,
@@ -58,7 +58,7 @@ fn tell_first(
     told: &mut Explanation,
     files: &Files<'_>,
     along: &[&TypeDeclaration],
-    of: Parameter<'_>,
+    of: GivenParameter<'_>,
 ) -> bool {
     for it in along {
         if let Some(spot) = spot_in(*it, of) {
@@ -75,7 +75,7 @@ pub fn tell_line_of_value(
     told: &mut Explanation,
     files: &Files<'_>,
     name: &[u8],
-    of: Parameter<'_>,
+    of: GivenParameter<'_>,
 ) -> bool {
     let Some(it) = type_named(files.types, name) else {
         return false;
@@ -95,7 +95,7 @@ pub fn tell_place_of_value(
     told: &mut Explanation,
     files: &Files<'_>,
     name: &[u8],
-    of: Parameter<'_>,
+    of: GivenParameter<'_>,
 ) {
     if tell_line_of_value(told, files, name, of) {
         told.say(": ");

@@ -4,7 +4,7 @@ use Rattle.std.specs.Prelude.{position, is_ok}
 use Rattle.std.specs.Str.{IsUtf8, is_utf8}
 use Rattle.std.proofs.lemmas.Str.{IsUtf8-from_is_utf8, is_utf8-from_IsUtf8}
 use Rattle.std.proofs.lemmas.List.{append-nil}
-use Rattle.ini_trees.specs.declared.lines.Entry.{Entry}
+use Rattle.ini_trees.specs.declared.lines.IniEntry.{IniEntry}
 use Rattle.ini_trees.specs.declared.entry.EntryMeaning.{EntryMeaning}
 use Rattle.ini_trees.specs.declared.lines.IniLine.{IniLine}
 use Rattle.ini_trees.specs.declared.lines.LineMeaning.{LineMeaning}
@@ -54,16 +54,16 @@ parted_value bytes key text more other p q = q.behind ∙ ap (λ (n : ℕ). valu
 
 -- ---- entries
 
-pub no_entry : (bytes : Bytes) → ((key text : Bytes) → IsParted bytes key text → ⊥) → (e : Entry) → IsEntry bytes e → ⊥
+pub no_entry : (bytes : Bytes) → ((key text : Bytes) → IsParted bytes key text → ⊥) → (e : IniEntry) → IsEntry bytes e → ⊥
 no_entry bytes none e is = none e.key e.value is.parted
 
-pub no_meaning : (bytes key text : Bytes) → IsParted bytes key text → ((m : EntryMeaning) → IsEntryMeaning key text m → ⊥) → (e : Entry) → IsEntry bytes e → ⊥
+pub no_meaning : (bytes key text : Bytes) → IsParted bytes key text → ((m : EntryMeaning) → IsEntryMeaning key text m → ⊥) → (e : IniEntry) → IsEntry bytes e → ⊥
 no_meaning bytes key text p none e is =
     let key-is : e.key ≡ key = parted_key bytes key text e.key e.value p is.parted in
     let value-is : e.value ≡ text = parted_value bytes key text e.key e.value p is.parted in
     none e.meaning (subst (λ (k : Bytes). IsEntryMeaning k text e.meaning) key-is (subst (λ (v : Bytes). IsEntryMeaning e.key v e.meaning) value-is is.says))
 
-pub one_entry : (bytes : Bytes) (e other : Entry) → IsParted bytes e.key e.value → ((m : EntryMeaning) → IsEntryMeaning e.key e.value m → m ≡ e.meaning) → IsEntry bytes other → other ≡ e
+pub one_entry : (bytes : Bytes) (e other : IniEntry) → IsParted bytes e.key e.value → ((m : EntryMeaning) → IsEntryMeaning e.key e.value m → m ≡ e.meaning) → IsEntry bytes other → other ≡ e
 one_entry bytes e other p only is =
     let key-is : other.key ≡ e.key = parted_key bytes e.key e.value other.key other.value p is.parted in
     let value-is : other.value ≡ e.value = parted_value bytes e.key e.value other.key other.value p is.parted in
@@ -71,7 +71,7 @@ one_entry bytes e other p only is =
     let meaning-is : other.meaning ≡ e.meaning = only other.meaning says in
     made other.key e.key other.value e.value other.meaning e.meaning key-is value-is meaning-is
   where
-    made : (k l v w : Bytes) (m n : EntryMeaning) → k ≡ l → v ≡ w → m ≡ n → ◌≡◌ {A = Entry} (record { key = k; value = v; meaning = m }) (record { key = l; value = w; meaning = n })
+    made : (k l v w : Bytes) (m n : EntryMeaning) → k ≡ l → v ≡ w → m ≡ n → ◌≡◌ {A = IniEntry} (record { key = k; value = v; meaning = m }) (record { key = l; value = w; meaning = n })
     made k l v w m n p q r = cc
 
 -- ---- texts
@@ -140,14 +140,14 @@ comment_begins (b ∷ bs) rest e h = go (is_blank b) (eqb b 35) refl h e
     go false false f h e = let same : b ≡ 35 = cc in let found : eqb b 35 ≡ true = rw same refl in absurd cc
 
 -- a line that begins as an entry, and is neither a section nor an entry
-pub no_line : (bytes : Bytes) → begins_entry bytes ≡ true → ((name : Bytes) → IsSection bytes name → ⊥) → ((e : Entry) → IsEntry bytes e → ⊥) → (m : LineMeaning) → IsLine bytes m → ⊥
+pub no_line : (bytes : Bytes) → begins_entry bytes ≡ true → ((name : Bytes) → IsSection bytes name → ⊥) → ((e : IniEntry) → IsEntry bytes e → ⊥) → (m : LineMeaning) → IsLine bytes m → ⊥
 no_line bytes begins other none line.Blank is = blank_begins bytes is begins
 no_line bytes begins other none line.Comment is = comment_begins bytes is.0 is.1 begins
 no_line bytes begins other none (line.Section name) is = other name is
 no_line bytes begins other none (line.Entry e) is = none e is
 
 -- an entry means nothing else
-pub is_entry : (bytes : Bytes) (e : Entry) → Tells (IsEntry bytes) (Some e) → Tells (IsLine bytes) (Some (line.Entry e))
+pub is_entry : (bytes : Bytes) (e : IniEntry) → Tells (IsEntry bytes) (Some e) → Tells (IsLine bytes) (Some (line.Entry e))
 is_entry bytes e t = (t.0, only)
   where
     only : (m : LineMeaning) → IsLine bytes m → m ≡ line.Entry e

@@ -2,7 +2,7 @@
 use Rattle.std.specs.Prelude.{◌≡◌, ℕ, suc, ◌+◌, ◌-◌, ◌<◌, ◌≤◌, Bool, true, false, ◌&&◌, not, List, [], ◌∷◌, ◌++◌, length, take, drop, Option, Some, None, Result, Ok, Err, ◌==◌, ◌⊎◌, position, codes, nat_lt, slice_index}
 use Rattle.std.specs.Str.{bytes_eq, is_utf8}
 use Rattle.sim_values.specs.Limits.{max_length}
-use Rattle.ini_trees.specs.declared.lines.Entry.{Entry}
+use Rattle.ini_trees.specs.declared.lines.IniEntry.{IniEntry}
 use Rattle.ini_trees.specs.declared.lines.IniLine.{IniLine}
 use Rattle.ini_trees.specs.declared.lines.LineMeaning.{LineMeaning}
 use Rattle.ini_trees.specs.declared.lines.LineMeaning.TheVariants as line
@@ -45,7 +45,7 @@ pub record IsParted (bytes key text : Bytes) : Type 0 where
   pub proper_value : is_value text ≡ true
 
 -- The line is a key and a value that say this. It begins at the first byte.
-pub record IsEntry (bytes : Bytes) (e : Entry) : Type 0 where
+pub record IsEntry (bytes : Bytes) (e : IniEntry) : Type 0 where
   pub begins : begins_entry bytes ≡ true
   pub parted : IsParted bytes e.key e.value
   pub says : IsEntryMeaning e.key e.value e.meaning

@@ -19,7 +19,7 @@ use ini_entries::meaning::entry_meaning;
 use ini_entries::names::is_config_name;
 use ini_entries::reason::{Reason, Unread};
 use ini_trees::entry::EntryMeaning;
-use ini_trees::lines::{Entry, IniLine, IniText, LineMeaning};
+use ini_trees::lines::{IniEntry, IniLine, IniText, LineMeaning};
 use sim_values::text::{MAX_LENGTH, Text};
 use sqlite_items::Items;
 use std::alloc::{AllocError, Global};
@@ -105,7 +105,7 @@ pub fn key_and_value(line: &[u8]) -> Result<(&[u8], &[u8]), Reason>
 }
 
 /// The entry that a line is.
-fn entry(alloc: Global, line: &[u8]) -> Result<Entry, Unread>
+fn entry(alloc: Global, line: &[u8]) -> Result<IniEntry, Unread>
     requires { begins_entry line.now ≡ true }
     ensures { Finds (IsEntry line.now) result }
 {
@@ -116,7 +116,7 @@ fn entry(alloc: Global, line: &[u8]) -> Result<Entry, Unread>
     let key_text = Text::from_bytes(alloc, key)?;
     let value_text = Text::from_bytes(alloc, value)?;
     let meaning = entry_meaning(alloc, key, value)?;
-    Ok(Entry {
+    Ok(IniEntry {
         key: key_text,
         value: value_text,
         meaning,

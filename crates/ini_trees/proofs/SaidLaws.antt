@@ -7,7 +7,7 @@ use Rattle.std.specs.Str.{bytes_eq}
 use Rattle.std.proofs.lemmas.Bool.{cases_eq, false≢true}
 use Rattle.std.proofs.lemmas.List.{get_or-set_same, get_or-set_other, length-set}
 use Rattle.std.proofs.lemmas.Slice.Eq.{bytes_eq-Decides}
-use Rattle.ini_trees.specs.declared.lines.Entry.{Entry}
+use Rattle.ini_trees.specs.declared.lines.IniEntry.{IniEntry}
 use Rattle.ini_trees.specs.declared.lines.IniLine.{IniLine}
 use Rattle.ini_trees.specs.declared.lines.LineMeaning.{LineMeaning}
 use Rattle.ini_trees.specs.declared.lines.LineMeaning.TheVariants as line
@@ -18,7 +18,7 @@ use Rattle.ini_trees.specs.Words.{Bytes}
 use Rattle.ini_trees.proofs.NumberedLaws.{held_at}
 
 -- the bases of a section are those that its first entry says
-pub first_said : (es : List Entry) → or_bases (said_in es) [] ≡ first_bases es
+pub first_said : (es : List IniEntry) → or_bases (said_in es) [] ≡ first_bases es
 first_said [] = refl
 first_said (e ∷ es) = go (bases_said e.meaning) refl (first_said es)
   where
@@ -26,7 +26,7 @@ first_said (e ∷ es) = go (bases_said e.meaning) refl (first_said es)
     go None h rest = rw h rest
     go (Some bases) h rest = rw h (rw h refl)
 
-said_cons : (o : Option Entry) (es : List Entry) → said_in (cons_option o es) ≡ option_or (option_and_then (λ (e : Entry). bases_said e.meaning) o) (said_in es)
+said_cons : (o : Option IniEntry) (es : List IniEntry) → said_in (cons_option o es) ≡ option_or (option_and_then (λ (e : IniEntry). bases_said e.meaning) o) (said_in es)
 said_cons None es = refl
 said_cons (Some e) es = refl
 
@@ -43,14 +43,14 @@ or_more (Some x) b c d e h k = ap (λ (o : Option (List Bytes)). option_or o c) 
 says_elsewhere : (name : Bytes) (section : Option Bytes) (m : LineMeaning) → is_in name section ≡ false → line_says name section m ≡ None
 says_elsewhere name section m h = rw h refl
 
-here_says : (m : LineMeaning) → option_and_then (λ (e : Entry). bases_said e.meaning) (entry_here true m) ≡ bases_in m
+here_says : (m : LineMeaning) → option_and_then (λ (e : IniEntry). bases_said e.meaning) (entry_here true m) ≡ bases_in m
 here_says line.Blank = refl
 here_says line.Comment = refl
 here_says (line.Section name) = refl
 here_says (line.Entry e) = refl
 
 says_here : (name : Bytes) (section : Option Bytes) (m : LineMeaning) → is_in name section ≡ true → line_says name section m ≡ bases_in m
-says_here name section m h = ap (λ (b : Bool). option_and_then (λ (e : Entry). bases_said e.meaning) (entry_here b m)) h ∙ here_says m
+says_here name section m h = ap (λ (b : Bool). option_and_then (λ (e : IniEntry). bases_said e.meaning) (entry_here b m)) h ∙ here_says m
 
 -- a line that says nothing says nothing anywhere
 pub says_nothing : (name : Bytes) (section : Option Bytes) (m : LineMeaning) → bases_in m ≡ None → line_says name section m ≡ None

@@ -4,7 +4,7 @@ use Rattle.std.specs.List.{after_last, find, list_any}
 use Rattle.std.specs.Option.{option_and_then}
 use Rattle.std.specs.Str.{bytes_eq, chars, is_utf8}
 use Rattle.ini_pattern.specs.Matched.{is_matched}
-use Rattle.ini_trees.specs.declared.lines.Entry.{Entry}
+use Rattle.ini_trees.specs.declared.lines.IniEntry.{IniEntry}
 use Rattle.ini_trees.specs.declared.entry.EntryMeaning.{EntryMeaning}
 use Rattle.ini_trees.specs.declared.entry.EntryMeaning.TheVariants as meaning
 use Rattle.ini_trees.specs.declared.entry.EntryValue.{EntryValue}
@@ -18,23 +18,23 @@ abbrev pub network_said : EntryMeaning → Option Bytes
 network_said (meaning.Network name) = Some name
 network_said _ = None
 
-abbrev pub names_network : Entry → Bool
+abbrev pub names_network : IniEntry → Bool
 names_network e = is_some (network_said e.meaning)
 
 -- the network that the first entry of the option `network` names
-abbrev pub network_entry : List Entry → Option Bytes
-network_entry entries = option_and_then (λ (e : Entry). network_said e.meaning) (find names_network entries)
+abbrev pub network_entry : List IniEntry → Option Bytes
+network_entry entries = option_and_then (λ (e : IniEntry). network_said e.meaning) (find names_network entries)
 
 abbrev pub limit_said : EntryMeaning → Option ℕ
 limit_said (meaning.TimeLimit ps) = Some ps
 limit_said _ = None
 
-abbrev pub names_limit : Entry → Bool
+abbrev pub names_limit : IniEntry → Bool
 names_limit e = is_some (limit_said e.meaning)
 
 -- the time of the first entry of the option `sim-time-limit`, in picoseconds
-abbrev pub time_limit_entry : List Entry → Option ℕ
-time_limit_entry entries = option_and_then (λ (e : Entry). limit_said e.meaning) (find names_limit entries)
+abbrev pub time_limit_entry : List IniEntry → Option ℕ
+time_limit_entry entries = option_and_then (λ (e : IniEntry). limit_said e.meaning) (find names_limit entries)
 
 -- ---- the first match
 
@@ -55,12 +55,12 @@ speaks path (meaning.Type p) = bytes_eq (last_name path) word_typename && is_mat
 speaks path (meaning.Object o) = bytes_eq o.option (last_name path) && is_matched o.pattern (chars path)
 speaks path _ = false
 
-abbrev pub speaks_of : Bytes → Entry → Bool
+abbrev pub speaks_of : Bytes → IniEntry → Bool
 speaks_of path e = speaks path e.meaning
 
 -- THE FIRST MATCH for a path: of the entries in their order the first that counts for it and
 -- matches it
-abbrev pub first_match : Bytes → List Entry → Option Entry
+abbrev pub first_match : Bytes → List IniEntry → Option IniEntry
 first_match path entries = find (speaks_of path) entries
 
 -- the value that an entry of a parameter or a type gives
@@ -70,9 +70,9 @@ value_said (meaning.Type p) = Some p.value
 value_said _ = None
 
 -- the value of the first match, where the path is a text
-abbrev pub value_for : Bytes → List Entry → Option EntryValue
+abbrev pub value_for : Bytes → List IniEntry → Option EntryValue
 value_for path entries =
-    if is_utf8 path then option_and_then (λ (e : Entry). value_said e.meaning) (first_match path entries) else None
+    if is_utf8 path then option_and_then (λ (e : IniEntry). value_said e.meaning) (first_match path entries) else None
 
 -- what an entry of a per-object option says
 abbrev pub object_said : EntryMeaning → Option ObjectOption
@@ -81,6 +81,6 @@ object_said _ = None
 
 -- what the first match says of a per-object option, whose name ends the path, where the path is a
 -- text
-abbrev pub object_for : Bytes → List Entry → Option ObjectOption
+abbrev pub object_for : Bytes → List IniEntry → Option ObjectOption
 object_for path entries =
-    if is_utf8 path then option_and_then (λ (e : Entry). object_said e.meaning) (first_match path entries) else None
+    if is_utf8 path then option_and_then (λ (e : IniEntry). object_said e.meaning) (first_match path entries) else None

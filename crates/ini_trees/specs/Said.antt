@@ -2,7 +2,7 @@
 use Rattle.std.specs.Prelude.{◌≡◌, ℕ, ◌<◌, List, [], ◌∷◌, length, slice_index_or, Option, None}
 use Rattle.std.specs.Borrow.{Bor}
 use Rattle.std.specs.Option.{option_and_then, option_copied, option_or}
-use Rattle.ini_trees.specs.declared.lines.Entry.{Entry}
+use Rattle.ini_trees.specs.declared.lines.IniEntry.{IniEntry}
 use Rattle.ini_trees.specs.declared.lines.IniLine.{IniLine}
 use Rattle.ini_trees.specs.declared.lines.LineMeaning.{LineMeaning}
 use Rattle.ini_trees.specs.declared.lines.LineMeaning.TheVariants as line
@@ -11,7 +11,7 @@ use Rattle.ini_trees.specs.Sections.{bases_said, entries_under, entry_here, is_i
 use Rattle.ini_trees.specs.Words.{Bytes}
 
 -- what the first of these entries says that says what its section extends
-abbrev pub said_in : List Entry → Option (List Bytes)
+abbrev pub said_in : List IniEntry → Option (List Bytes)
 said_in [] = None
 said_in (e ∷ es) = option_or (bases_said e.meaning) (said_in es)
 
@@ -22,7 +22,7 @@ bases_in _ = None
 
 -- what a line says that the section of that name extends, where it stands in this one
 abbrev pub line_says : Bytes → Option Bytes → LineMeaning → Option (List Bytes)
-line_says name section m = option_and_then (λ (e : Entry). bases_said e.meaning) (entry_here (is_in name section) m)
+line_says name section m = option_and_then (λ (e : IniEntry). bases_said e.meaning) (entry_here (is_in name section) m)
 
 -- what was said of the section of that number
 abbrev pub said_at : List (Option (Bor (List Bytes))) → ℕ → Option (List Bytes)

@@ -4,7 +4,7 @@ use Rattle.std.specs.Borrow.{Bor}
 use Rattle.std.specs.List.{find, flat_map}
 use Rattle.std.specs.Option.{option_and_then}
 use Rattle.ini_trees.specs.declared.entry.EntryMeaning.{EntryMeaning}
-use Rattle.ini_trees.specs.declared.lines.Entry.{Entry}
+use Rattle.ini_trees.specs.declared.lines.IniEntry.{IniEntry}
 use Rattle.ini_trees.specs.declared.lines.IniLine.{IniLine}
 use Rattle.ini_trees.specs.declared.lines.LineMeaning.{LineMeaning}
 use Rattle.ini_trees.specs.declared.lines.LineMeaning.TheVariants as line
@@ -22,12 +22,12 @@ is_wanted want.TimeLimit m = is_some (limit_said m)
 is_wanted (want.Path path) m = speaks path.now m
 
 -- the entry itself, where it is looked for
-abbrev pub wanted_of : Wanted → Entry → Option Entry
+abbrev pub wanted_of : Wanted → IniEntry → Option IniEntry
 wanted_of wanted e = if is_wanted wanted e.meaning then Some e else None
 
 -- the first entry that is looked for
-abbrev pub first_wanted : Wanted → List Entry → Option Entry
-first_wanted wanted entries = find (λ (e : Entry). is_wanted wanted e.meaning) entries
+abbrev pub first_wanted : Wanted → List IniEntry → Option IniEntry
+first_wanted wanted entries = find (λ (e : IniEntry). is_wanted wanted e.meaning) entries
 
 -- ---- along many sections
 
@@ -39,7 +39,7 @@ IsPlace names name None = (k : ℕ) → k < length names → slice_index_or name
 
 -- the entry of the line in that section is looked for, and the section is the first of these that
 -- has its name; or it is not looked for, or stands in none of these
-abbrev pub IsWantedAmong : Wanted → List Bytes → Option Bytes → LineMeaning → Option (ℕ × Bor Entry) → Type 0
+abbrev pub IsWantedAmong : Wanted → List Bytes → Option Bytes → LineMeaning → Option (ℕ × Bor IniEntry) → Type 0
 IsWantedAmong wanted names section m (Some (at, entry)) =
     (name : Bytes) × IsPlace names name (Some at) × (section ≡ Some name) × (m ≡ line.Entry entry.now) × (is_wanted wanted entry.now.meaning ≡ true)
 IsWantedAmong wanted names section m None =
@@ -47,5 +47,5 @@ IsWantedAmong wanted names section m None =
 
 -- the first that is looked for in these sections, of lines of which the first stands in this
 -- section
-abbrev pub first_among : Wanted → List Bytes → Option Bytes → List IniLine → Option Entry
+abbrev pub first_among : Wanted → List Bytes → Option Bytes → List IniLine → Option IniEntry
 first_among wanted names section lines = first_wanted wanted (flat_map (λ name. entries_from name section lines) names)

@@ -6,7 +6,7 @@ use Rattle.std.specs.Option.{option_and_then}
 use Rattle.std.specs.Str.{bytes_eq}
 use Rattle.ini_trees.specs.declared.error.ChainError.{ChainError}
 use Rattle.ini_trees.specs.declared.error.ChainError.TheVariants as errors
-use Rattle.ini_trees.specs.declared.lines.Entry.{Entry}
+use Rattle.ini_trees.specs.declared.lines.IniEntry.{IniEntry}
 use Rattle.ini_trees.specs.declared.entry.EntryMeaning.{EntryMeaning}
 use Rattle.ini_trees.specs.declared.entry.EntryMeaning.TheVariants as meaning
 use Rattle.ini_trees.specs.declared.lines.IniLine.{IniLine}
@@ -31,20 +31,20 @@ is_in name None = false
 is_in name (Some section) = bytes_eq section name
 
 -- the entry of a line, where it stands in the section
-abbrev pub entry_here : Bool → LineMeaning → Option Entry
+abbrev pub entry_here : Bool → LineMeaning → Option IniEntry
 entry_here true (line.Entry entry) = Some entry
 entry_here true _ = None
 entry_here false _ = None
 
 -- the entries that lines have in the section of that name, where the first line stands in this
 -- section
-abbrev pub entries_from : Bytes → Option Bytes → List IniLine → List Entry
+abbrev pub entries_from : Bytes → Option Bytes → List IniLine → List IniEntry
 entries_from name section [] = []
 entries_from name section (l ∷ ls) =
     cons_option (entry_here (is_in name section) l.meaning) (entries_from name (section_behind section l.meaning) ls)
 
 -- the entries of the section of that name, in the order of lines: all sections of one name are one
-abbrev pub entries_under : Bytes → List IniLine → List Entry
+abbrev pub entries_under : Bytes → List IniLine → List IniEntry
 entries_under name lines = entries_from name None lines
 
 abbrev pub is_section_line : Bytes → LineMeaning → Bool
@@ -71,12 +71,12 @@ abbrev pub or_bases : Option (List Bytes) → List Bytes → List Bytes
 or_bases (Some names) others = names
 or_bases None others = others
 
-abbrev pub names_bases : Entry → Bool
+abbrev pub names_bases : IniEntry → Bool
 names_bases e = is_some (bases_said e.meaning)
 
 -- the bases that the first entry of the option `extends` names, none where there is no such entry
-abbrev pub first_bases : List Entry → List Bytes
-first_bases entries = or_bases (option_and_then (λ (e : Entry). bases_said e.meaning) (find names_bases entries)) []
+abbrev pub first_bases : List IniEntry → List Bytes
+first_bases entries = or_bases (option_and_then (λ (e : IniEntry). bases_said e.meaning) (find names_bases entries)) []
 
 -- the bases of a section
 abbrev pub bases_of : Bytes → List IniLine → List Bytes
@@ -115,7 +115,7 @@ abbrev pub HasOneChain : List IniLine → Bytes → Type 0
 HasOneChain lines config = (first second : List Bytes) → IsChain lines config first → IsChain lines config second → first ≡ second
 
 -- the entries of a configuration: section by section along its chain, each in the order of lines
-abbrev pub entries_along : List Bytes → List IniLine → List Entry
+abbrev pub entries_along : List Bytes → List IniLine → List IniEntry
 entries_along chain lines = flat_map (λ name. entries_under name lines) chain
 
 -- ---- refusals

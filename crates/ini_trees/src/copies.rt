@@ -3,7 +3,7 @@
 ghost use Rattle.std.specs.Prelude.{◌≡◌, IfOk};
 
 use crate::entry::{EntryMeaning, EntryValue, ModeItem, ObjectEntry, ObjectOption, ParameterEntry};
-use crate::lines::{Entry, IniLine, IniText, LineMeaning};
+use crate::lines::{IniEntry, IniLine, IniText, LineMeaning};
 use sim_values::text::Text;
 use sqlite_items::Items;
 use std::alloc::{AllocError, Global};
@@ -94,10 +94,10 @@ impl EntryMeaning {
 }
 
 /// An equal entry.
-fn copy_entry(alloc: Global, entry: &Entry) -> Result<Entry, AllocError>
+fn copy_entry(alloc: Global, entry: &IniEntry) -> Result<IniEntry, AllocError>
     ensures { IfOk result (λ copy. copy ≡ entry.now) }
 {
-    Ok(Entry {
+    Ok(IniEntry {
         key: entry.key.copy(alloc)?,
         value: entry.value.copy(alloc)?,
         meaning: entry.meaning.copy(alloc)?,

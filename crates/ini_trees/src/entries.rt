@@ -2,12 +2,12 @@
 
 ghost use Rattle.std.specs.Prelude.{◌≡◌};
 ghost use Rattle.std.specs.Option.{option_copied, option_and_then};
-ghost use Rattle.ini_trees.specs.declared.lines.Entry.{Entry as EntrySaid};
+ghost use Rattle.ini_trees.specs.declared.lines.IniEntry.{IniEntry as EntrySaid};
 ghost use Rattle.ini_trees.specs.Entries.{network_entry, network_said, time_limit_entry, limit_said, first_match, value_said, value_for, object_said, object_for};
 ghost use Rattle.ini_trees.specs.Sections.{entries_along};
 
 use crate::entry::{EntryMeaning, EntryValue, ObjectOption};
-use crate::lines::{Entry, IniLine};
+use crate::lines::{IniEntry, IniLine};
 use crate::scan::{Wanted, first_along};
 use sim_values::text::Text;
 
@@ -56,7 +56,7 @@ pub fn time_limit_entry(lines: &[IniLine], chain: &[Text]) -> Option<u64>
 // ---- the first match
 
 /// The first match for a path along a chain: the first entry that counts for it and matches it.
-pub fn first_match<'a>(lines: &'a [IniLine], chain: &[Text], path: &str) -> Option<&'a Entry>
+pub fn first_match<'a>(lines: &'a [IniLine], chain: &[Text], path: &str) -> Option<&'a IniEntry>
     ensures { option_copied result ≡ first_match path.now (entries_along chain.now lines.now) }
 {
     first_along(lines, chain, Wanted::Path(path))

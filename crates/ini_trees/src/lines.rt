@@ -7,7 +7,7 @@ use std::marker::Model;
 
 /// An entry, with its key and its value as they are written.
 #[derive(Drop)]
-pub struct Entry {
+pub struct IniEntry {
     pub key: Text,
     pub value: Text,
     pub meaning: EntryMeaning,
@@ -20,7 +20,7 @@ pub enum LineMeaning {
     Comment,
     /// A section, by its name.
     Section(Text),
-    Entry(Entry),
+    Entry(IniEntry),
 }
 
 /// A line, without its end.

@@ -6,7 +6,7 @@ ghost use Rattle.ini_trees.specs.Scans.{is_wanted, wanted_of, first_wanted, IsPl
 ghost use Rattle.ini_trees.specs.Sections.{is_in, entry_here, section_behind, entries_under, entries_along};
 
 use crate::entry::EntryMeaning;
-use crate::lines::{Entry, IniLine, LineMeaning};
+use crate::lines::{IniEntry, IniLine, LineMeaning};
 use crate::speaks::speaks;
 use sim_values::text::Text;
 
@@ -33,7 +33,7 @@ fn is_in(name: &[u8], section: Option<&[u8]>) -> bool
 }
 
 /// The entry of a line that stands in `section`, where this is the section of that name.
-pub fn entry_in<'a>(name: &[u8], section: Option<&[u8]>, line: &'a IniLine) -> Option<&'a Entry>
+pub fn entry_in<'a>(name: &[u8], section: Option<&[u8]>, line: &'a IniLine) -> Option<&'a IniEntry>
     ensures { option_copied result ≡ entry_here (is_in name.now (option_copied section.entry)) line.now.meaning }
 {
     if !is_in(name, section) {
@@ -83,7 +83,7 @@ fn wanted_in<'a>(
     section: Option<&[u8]>,
     line: &'a IniLine,
     wanted: Wanted<'_>,
-) -> Option<&'a Entry>
+) -> Option<&'a IniEntry>
     ensures { option_copied result ≡ option_and_then (wanted_of wanted.entry) (entry_here (is_in name.now (option_copied section.entry)) line.now.meaning) }
 {
     match entry_in(name, section, line) {
@@ -97,7 +97,7 @@ pub(crate) fn first_under<'a>(
     lines: &'a [IniLine],
     name: &[u8],
     wanted: Wanted<'_>,
-) -> Option<&'a Entry>
+) -> Option<&'a IniEntry>
     ensures { option_copied result ≡ first_wanted wanted.entry (entries_under name.now lines.now) }
 {
     let mut section = None;
@@ -116,7 +116,7 @@ fn first_along_few<'a>(
     lines: &'a [IniLine],
     chain: &[Text],
     wanted: Wanted<'_>,
-) -> Option<&'a Entry>
+) -> Option<&'a IniEntry>
     ensures { option_copied result ≡ first_wanted wanted.entry (entries_along chain.now lines.now) }
 {
     for name in chain {
@@ -148,7 +148,7 @@ fn wanted_among<'a>(
     section: Option<&[u8]>,
     line: &'a IniLine,
     wanted: Wanted<'_>,
-) -> Option<(usize, &'a Entry)>
+) -> Option<(usize, &'a IniEntry)>
     ensures { IsWantedAmong wanted.entry names.now (option_copied section.entry) line.now.meaning result }
 {
     let LineMeaning::Entry(entry) = &line.meaning else {
@@ -172,7 +172,7 @@ fn first_along_many<'a>(
     lines: &'a [IniLine],
     chain: &[Text],
     wanted: Wanted<'_>,
-) -> Option<&'a Entry>
+) -> Option<&'a IniEntry>
     ensures { option_copied result ≡ first_wanted wanted.entry (entries_along chain.now lines.now) }
 {
     let mut found = None;
@@ -193,7 +193,7 @@ pub(crate) fn first_along<'a>(
     lines: &'a [IniLine],
     chain: &[Text],
     wanted: Wanted<'_>,
-) -> Option<&'a Entry>
+) -> Option<&'a IniEntry>
     ensures { option_copied result ≡ first_wanted wanted.entry (entries_along chain.now lines.now) }
 {
     if chain.len() <= FEW {

@@ -11,7 +11,7 @@ ghost use Rattle.input_texts.specs.Whole.{Explains};
 
 use crate::line::{LONGEST, MOST_LINES, NextLine};
 use crate::part::{first_feed, read_part};
-use input_texts::noted::Noted;
+use input_texts::noted::GhostBytes;
 use input_texts::reading::ReadFault;
 use input_texts::source::Source;
 use sim_values::text::Text;
@@ -22,7 +22,7 @@ use std::marker::Model;
 #[derive(Drop)]
 pub struct LineBuffer {
     alloc: Global,
-    thrown: Noted,
+    thrown: GhostBytes,
     thrown_length: usize,
     held: Vec<u8>,
     counted: u64,
@@ -46,7 +46,7 @@ impl LineBuffer {
     {
         LineBuffer {
             alloc,
-            thrown: Noted::new(),
+            thrown: GhostBytes::new(),
             thrown_length: 0,
             held: Vec::new(alloc),
             counted: 0,
@@ -138,7 +138,7 @@ impl LineBuffer {
     {
         let front = end - self.thrown_length + behind;
         self.held.drain(..front);
-        self.thrown = Noted::new();
+        self.thrown = GhostBytes::new();
         self.thrown_length = 0;
     }
 

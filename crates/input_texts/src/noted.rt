@@ -9,21 +9,21 @@ use std::marker::{Model, PhantomData};
 /// them: so a reader or a writer of the system, of which no clause says what is in its file, can
 /// say what it was given or gave.
 #[derive(Drop)]
-pub struct Noted {
+pub struct GhostBytes {
     marker: PhantomData<u8>,
     pub ghost bytes: { List ℕ },
 }
 
-impl Model for Noted {
+impl Model for GhostBytes {
     ghost also_owns = { λ _. ftrue };
 }
 
-impl Noted {
+impl GhostBytes {
     /// No bytes.
-    pub fn new() -> Noted
+    pub fn new() -> GhostBytes
         ensures { result.bytes ≡ [] }
     {
-        Noted {
+        GhostBytes {
             marker: PhantomData,
         }
     }

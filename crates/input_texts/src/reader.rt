@@ -2,7 +2,7 @@
 
 ghost use Rattle.std.specs.Prelude.{◌≡◌, []};
 
-use crate::noted::Noted;
+use crate::noted::GhostBytes;
 use crate::source::Source;
 use std::io;
 use std::io::Read;
@@ -11,7 +11,7 @@ use std::io::Read;
 #[derive(Drop)]
 pub struct NotedReader<R> {
     reader: R,
-    given: Noted,
+    given: GhostBytes,
     ends: u64,
     failures: u64,
 }
@@ -23,7 +23,7 @@ impl<R> NotedReader<R> {
     {
         NotedReader {
             reader,
-            given: Noted::new(),
+            given: GhostBytes::new(),
             ends: 0,
             failures: 0,
         }

@@ -1,13 +1,13 @@
 -- The path with which the fault of an inside is told.
 use Rattle.std.specs.Prelude.{ℕ, ◌==◌, ◌++◌, ◌||◌, ◌&&◌, not, Bool, true, false, List, ◌∷◌, Option, Some, None, Result, Ok, Err, bytes_eq}
 use Rattle.param_following.specs.Asking.{Done, Ask}
-use Rattle.inside_parts.specs.declared.fault.Fault.{Fault}
+use Rattle.inside_parts.specs.declared.fault.InsideFault.{InsideFault}
 use Rattle.inside_keys.specs.declared.found.Found.{Found}
 use Rattle.inside_keys.specs.declared.key.Key.{Key}
 use Rattle.inside_keys.specs.declared.key.Module.{Module}
 use Rattle.inside_keys.specs.declared.key.What.{What}
 use Rattle.inside_keys.specs.declared.key.What.TheVariants as what
-use Rattle.inside_keys.specs.Asked.{Asked}
+use Rattle.inside_keys.specs.Asked.{KeyAsking}
 
 -- whose path the fault of a key has that the building of the inside of m asked for: that of the
 -- submodule for its type, its gate sizes, its condition and vector size, where it has no index; of
@@ -36,12 +36,12 @@ blamed_by m false k = k.site.path
 abbrev pub blamed : Module → Option Module → Key → List ℕ
 blamed m around k = blamed_by m (not (is_param k.what) || (is_at (Some m) k.site || is_at around k.site)) k
 
-abbrev pub placed_by : List ℕ → Result Found Fault → (Found → Result Found (List ℕ × Fault)) → Result Found (List ℕ × Fault)
+abbrev pub placed_by : List ℕ → Result Found InsideFault → (Found → Result Found (List ℕ × InsideFault)) → Result Found (List ℕ × InsideFault)
 placed_by path (Ok v) next = next v
 placed_by path (Err f) next = Err (path, f)
 
 -- WHAT COMES OF AN INSIDE where keys have these values, or the first fault with its path
-abbrev pub placed : (Key → Result Found Fault) → Module → Option Module → Asked → Result Found (List ℕ × Fault)
+abbrev pub placed : (Key → Result Found InsideFault) → Module → Option Module → KeyAsking → Result Found (List ℕ × InsideFault)
 placed values m around (Done (Ok f)) = Ok f
 placed values m around (Done (Err f)) = Err (m.path, f)
 placed values m around (Ask k rest) = placed_by (blamed m around k) (values k) (λ v. placed values m around (rest v))

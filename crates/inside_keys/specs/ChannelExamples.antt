@@ -7,8 +7,8 @@ use Rattle.ned_trees.specs.declared.connections.ConnectionItem.TheVariants as it
 use Rattle.ned_trees.specs.declared.declarations.SubmoduleType.TheVariants.{Like}
 use Rattle.ned_trees.specs.declared.declarations.TypeDeclaration.{TypeDeclaration}
 use Rattle.ned_trees.specs.declared.declarations.TypeKind.TheVariants as kinds
-use Rattle.inside_parts.specs.declared.fault.Fault.{Fault}
-use Rattle.inside_parts.specs.declared.fault.Fault.TheVariants as fault
+use Rattle.inside_parts.specs.declared.fault.InsideFault.{InsideFault}
+use Rattle.inside_parts.specs.declared.fault.InsideFault.TheVariants as fault
 use Rattle.inside_wiring.specs.declared.wiring.Carrier.{Carrier}
 use Rattle.inside_wiring.specs.declared.wiring.Link.{Link}
 use Rattle.inside_keys.specs.declared.found.Found.{Found}
@@ -17,7 +17,7 @@ use Rattle.inside_keys.specs.declared.key.What.TheVariants as what
 use Rattle.inside_keys.specs.Channels.{ideal}
 use Rattle.inside_keys.specs.Examples.{network, plug, port, standing, the_network}
 use Rattle.inside_keys.specs.Keys.{key}
-use Rattle.inside_keys.specs.Settings.{Setting, type_gates}
+use Rattle.inside_keys.specs.Settings.{ModuleRules, type_gates}
 use Rattle.inside_keys.specs.Unconnected.{unconnected}
 use Rattle.inside_keys.specs.Values.{rules_of}
 
@@ -41,18 +41,18 @@ chosen_network = record {
   connections = record { allow_unconnected = false; items = [] };
 }
 
-abbrev pub setting_of : List TypeDeclaration → Setting
+abbrev pub setting_of : List TypeDeclaration → ModuleRules
 setting_of types = record { stands = λ m. standing m.path; root = λ m. Some 0; is_too_deep = λ m. false; entry = λ path. None; types = types }
 
 -- a network of three plugs with these connections
-abbrev pub plugs : List ConnectionItem → Setting
+abbrev pub plugs : List ConnectionItem → ModuleRules
 plugs items = setting_of (network (codes "Plug") items ∷ plug ∷ [])
 
-abbrev pub inside_by : Setting → Option (Result Found Fault)
+abbrev pub inside_by : ModuleRules → Option (Result Found InsideFault)
 inside_by s = followed (rules_of s) 6 (key the_network what.Inside)
 
 -- what the links do, the last one first
-abbrev pub carriers_in : Option (Result Found Fault) → Option (Result (List Carrier) Fault)
+abbrev pub carriers_in : Option (Result Found InsideFault) → Option (Result (List Carrier) InsideFault)
 carriers_in None = None
 carriers_in (Some (Ok (found.Inside i))) = Some (Ok (map (λ (l : Link). l.carrier) i.wiring.links))
 carriers_in (Some (Ok (found.Value v))) = None
@@ -60,7 +60,7 @@ carriers_in (Some (Ok (found.Carrier c))) = None
 carriers_in (Some (Err f)) = Some (Err f)
 
 -- the first part that lacks a connection
-abbrev pub lacking_by : List ConnectionItem → Option (Result Found Fault) → Option ℕ
+abbrev pub lacking_by : List ConnectionItem → Option (Result Found InsideFault) → Option ℕ
 lacking_by items (Some (Ok (found.Inside i))) = unconnected (network (codes "Plug") items) (type_gates (plugs items)) i
 lacking_by items _ = None
 

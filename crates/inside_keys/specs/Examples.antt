@@ -17,15 +17,15 @@ use Rattle.ned_trees.specs.declared.declarations.Submodule.{Submodule}
 use Rattle.ned_trees.specs.declared.declarations.SubmoduleType.TheVariants.{Named}
 use Rattle.ned_trees.specs.declared.declarations.TypeDeclaration.{TypeDeclaration}
 use Rattle.ned_trees.specs.declared.declarations.TypeKind.TheVariants.{Simple, Network}
-use Rattle.inside_parts.specs.declared.fault.Fault.{Fault}
-use Rattle.inside_parts.specs.declared.fault.Fault.TheVariants as fault
+use Rattle.inside_parts.specs.declared.fault.InsideFault.{InsideFault}
+use Rattle.inside_parts.specs.declared.fault.InsideFault.TheVariants as fault
 use Rattle.inside_wiring.specs.declared.wiring.Link.{Link}
 use Rattle.inside_keys.specs.declared.found.Found.{Found}
 use Rattle.inside_keys.specs.declared.found.Found.TheVariants as found
 use Rattle.inside_keys.specs.declared.key.Module.{Module}
 use Rattle.inside_keys.specs.declared.key.What.TheVariants as what
 use Rattle.inside_keys.specs.Keys.{key}
-use Rattle.inside_keys.specs.Settings.{Setting, Standing}
+use Rattle.inside_keys.specs.Settings.{ModuleRules, Whereabouts}
 use Rattle.inside_keys.specs.Values.{rules_of}
 
 -- `simple Router { gates: inout port[]; }`
@@ -99,11 +99,11 @@ abbrev pub the_network : Module
 the_network = record { created = 0; path = codes "R" }
 
 -- the network stands alone, and all else is in it
-abbrev pub standing : List ℕ → Standing
+abbrev pub standing : List ℕ → Whereabouts
 standing (c ∷ dot ∷ name) = record { around = Some the_network; name = name; index = None; is_declared = true }
 standing _ = record { around = None; name = codes "R"; index = None; is_declared = false }
 
-abbrev pub setting : List ℕ → List ConnectionItem → Setting
+abbrev pub setting : List ℕ → List ConnectionItem → ModuleRules
 setting type items = record {
   stands = λ m. standing m.path;
   root = λ m. Some 2;
@@ -113,11 +113,11 @@ setting type items = record {
 }
 
 -- what is found inside of the network by following what is asked for
-abbrev pub found_in : List ℕ → List ConnectionItem → Option (Result Found Fault)
+abbrev pub found_in : List ℕ → List ConnectionItem → Option (Result Found InsideFault)
 found_in type items = followed (rules_of (setting type items)) 4 (key the_network what.Inside)
 
 -- the sizes of its gate vectors
-abbrev pub sizes_in : Option (Result Found Fault) → Option (Result (List ℕ) Fault)
+abbrev pub sizes_in : Option (Result Found InsideFault) → Option (Result (List ℕ) InsideFault)
 sizes_in None = None
 sizes_in (Some (Ok (found.Inside i))) = Some (Ok i.wiring.sizes)
 sizes_in (Some (Ok (found.Value v))) = None
@@ -125,18 +125,18 @@ sizes_in (Some (Ok (found.Carrier c))) = None
 sizes_in (Some (Err f)) = Some (Err f)
 
 -- of a network of three routers
-abbrev pub sizes : List ConnectionItem → Option (Result (List ℕ) Fault)
+abbrev pub sizes : List ConnectionItem → Option (Result (List ℕ) InsideFault)
 sizes items = sizes_in (found_in (codes "Router") items)
 
 -- of a network of three plugs
-abbrev pub plugged : List ConnectionItem → Option (Result (List ℕ) Fault)
+abbrev pub plugged : List ConnectionItem → Option (Result (List ℕ) InsideFault)
 plugged items = sizes_in (found_in (codes "Plug") items)
 
 abbrev pub ends_of : Link → (ℕ × ℕ) × (ℕ × ℕ)
 ends_of l = ((l.from.vector, l.from.index), (l.to.vector, l.to.index))
 
 -- the links, the last one first, by the numbers of vectors and indexes
-abbrev pub links_in : Option (Result Found Fault) → List ((ℕ × ℕ) × (ℕ × ℕ))
+abbrev pub links_in : Option (Result Found InsideFault) → List ((ℕ × ℕ) × (ℕ × ℕ))
 links_in (Some (Ok (found.Inside i))) = map ends_of i.wiring.links
 links_in _ = []
 

@@ -39,7 +39,7 @@ use Rattle.inside_keys.specs.declared.place.Section.TheVariants as section
 use Rattle.inside_keys.specs.Channels.{channel_check, channel_kind, lines_of}
 use Rattle.inside_keys.specs.Kinds.{kind_of}
 use Rattle.inside_keys.specs.Places.{Scope, bind}
-use Rattle.inside_keys.specs.Settings.{Setting, Posed, channel_place, place_in, type_names}
+use Rattle.inside_keys.specs.Settings.{ModuleRules, Posed, channel_place, place_in, type_names}
 
 -- ---- parameters
 
@@ -62,7 +62,7 @@ section_of written.OfBody = section.OfBody
 abbrev pub parameter_path : Module → List ℕ → List ℕ
 parameter_path m x = m.path ++ 46 ∷ x
 
-module _ (s : Setting) (m : Module) where
+module _ (s : ModuleRules) (m : Module) where
   -- an expression that stands there, outside of loops
   abbrev pub posed_in : Section → Check → Expression → Posed
   posed_in at c e = record { expression = e; place = place_in s m at; variables = []; check = c }
@@ -158,7 +158,7 @@ given_to_channel lines block x = or_else (given_in written.OfBody (last_value x 
 abbrev pub channel_parameter_path : ChannelAt → List ℕ → List ℕ
 channel_parameter_path c x = c.path ++ 46 ∷ x
 
-module _ (s : Setting) (m : Module) (c : ChannelAt) where
+module _ (s : ModuleRules) (m : Module) (c : ChannelAt) where
   abbrev pub channel_posed_as : Check → Scope → Option Written → Option Posed
   channel_posed_as k scope None = None
   channel_posed_as k scope (Some w) = Some (record {
@@ -191,11 +191,11 @@ module _ (s : Setting) (m : Module) (c : ChannelAt) where
   channel_posed t x = channel_posed_at (connection_at c.written t.connections.items) x
 
 -- the lines of a channel's type
-abbrev pub lines_at : Setting → Option FoundLine → Option (List SectionLine)
+abbrev pub lines_at : ModuleRules → Option FoundLine → Option (List SectionLine)
 lines_at s None = None
 lines_at s (Some f) = option_and_then (lines_of (type_names s) s.types) f.connection.channel
 
-abbrev pub channel_lines : Setting → TypeDeclaration → ChannelAt → Option (List SectionLine)
+abbrev pub channel_lines : ModuleRules → TypeDeclaration → ChannelAt → Option (List SectionLine)
 channel_lines s t c = lines_at s (connection_at c.written t.connections.items)
 
 -- ---- gates
@@ -216,7 +216,7 @@ last_size name [] = None
 last_size name (l ∷ ls) = or_else (last_size name ls) (size_given name l)
 
 -- what gives a gate vector its size: the body of the submodule goes before the lines of its type
-abbrev pub gate_size_posed : Setting → Module → TypeDeclaration → SubmoduleBody → List ℕ → Option Posed
+abbrev pub gate_size_posed : ModuleRules → Module → TypeDeclaration → SubmoduleBody → List ℕ → Option Posed
 gate_size_posed s m t body g =
     or_else (maybe_posed s m section.OfBody check.GateSize (last_size g body.gates)) (maybe_posed s m section.OfInside check.GateSize (last_size g t.gates))
 

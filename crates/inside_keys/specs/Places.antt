@@ -10,7 +10,7 @@ use Rattle.inside_keys.specs.declared.key.What.TheVariants as what
 use Rattle.inside_keys.specs.declared.place.Meaning.{Meaning}
 use Rattle.inside_keys.specs.declared.place.Meaning.TheVariants as meaning
 use Rattle.inside_keys.specs.declared.place.Binding.{Binding}
-use Rattle.inside_keys.specs.declared.place.Place.{Place}
+use Rattle.inside_keys.specs.declared.place.ExpressionPlace.{ExpressionPlace}
 use Rattle.inside_keys.specs.declared.place.Section.{Section}
 use Rattle.inside_keys.specs.declared.place.Section.TheVariants as section
 use Rattle.inside_keys.specs.Keys.{key}
@@ -24,7 +24,7 @@ heard_in section.OfBody own around = around
 heard_in section.OfBlock own around = Some own
 heard_in section.OfChannel own around = None
 
-abbrev pub hearer : Place → Option Module
+abbrev pub hearer : ExpressionPlace → Option Module
 hearer p = heard_in p.section p.own p.around
 
 -- of whose gates and vectors `sizeof` tells; it means nothing in a type's own parameter section
@@ -35,7 +35,7 @@ sized_in section.OfBody own around = around
 sized_in section.OfBlock own around = Some own
 sized_in section.OfChannel own around = None
 
-abbrev pub sizer : Place → Option Module
+abbrev pub sizer : ExpressionPlace → Option Module
 sizer p = sized_in p.section p.own p.around
 
 -- something of a module, where there is one
@@ -53,41 +53,41 @@ of_channel own None x = meaning.Nothing
 of_channel own (Some c) x = meaning.Of (key own (what.Channel c x))
 
 -- a bare name: in a channel type's own section it is the channel's
-abbrev pub bare_in : Section → Place → List ℕ → Meaning
+abbrev pub bare_in : Section → ExpressionPlace → List ℕ → Meaning
 bare_in section.OfParameters p x = of (hearer p) (what.Param x)
 bare_in section.OfInside p x = of (hearer p) (what.Param x)
 bare_in section.OfBody p x = of (hearer p) (what.Param x)
 bare_in section.OfBlock p x = of (hearer p) (what.Param x)
 bare_in section.OfChannel p x = of_channel p.own p.channel x
 
-abbrev pub bare : Place → List ℕ → Meaning
+abbrev pub bare : ExpressionPlace → List ℕ → Meaning
 bare p x = bare_in p.section p x
 
 -- `this.x`: of the module itself, or of the channel
-abbrev pub this_in : Section → Place → List ℕ → Meaning
+abbrev pub this_in : Section → ExpressionPlace → List ℕ → Meaning
 this_in section.OfParameters p x = of (Some p.own) (what.Param x)
 this_in section.OfInside p x = of (Some p.own) (what.Param x)
 this_in section.OfBody p x = of (Some p.own) (what.Param x)
 this_in section.OfBlock p x = of_channel p.own p.channel x
 this_in section.OfChannel p x = of_channel p.own p.channel x
 
-abbrev pub this : Place → List ℕ → Meaning
+abbrev pub this : ExpressionPlace → List ℕ → Meaning
 this p x = this_in p.section p x
 
 -- `parent.x`: of the module around, or of the module that the channel is in
-abbrev pub parent_in : Section → Place → List ℕ → Meaning
+abbrev pub parent_in : Section → ExpressionPlace → List ℕ → Meaning
 parent_in section.OfParameters p x = of p.around (what.Param x)
 parent_in section.OfInside p x = of p.around (what.Param x)
 parent_in section.OfBody p x = of p.around (what.Param x)
 parent_in section.OfBlock p x = of (Some p.own) (what.Param x)
 parent_in section.OfChannel p x = of (Some p.own) (what.Param x)
 
-abbrev pub parent : Place → List ℕ → Meaning
+abbrev pub parent : ExpressionPlace → List ℕ → Meaning
 parent p x = parent_in p.section p x
 
 -- WHAT A REFERENCE MEANS in an expression that stands there. Each means one value, or one key, or
 -- nothing.
-abbrev pub meant : Place → Reference → Meaning
+abbrev pub meant : ExpressionPlace → Reference → Meaning
 meant p (Own x) = bare p x
 meant p (Scoped scope.This x) = this p x
 meant p (Scoped scope.Parent x) = parent p x
@@ -117,6 +117,6 @@ bound_or None other = other
 bound_or (Some z) other = meaning.Is (value.Whole z)
 
 -- WHAT A REFERENCE MEANS UNDER LOOP VARIABLES: these hide parameters
-abbrev pub meant_under : Scope → Place → Reference → Meaning
+abbrev pub meant_under : Scope → ExpressionPlace → Reference → Meaning
 meant_under scope p (Own x) = bound_or (variable_in scope x) (meant p (Own x))
 meant_under scope p r = meant p r

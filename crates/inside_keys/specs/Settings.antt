@@ -8,14 +8,14 @@ use Rattle.inside_parts.specs.Gates as gates
 use Rattle.inside_keys.specs.declared.check.Check.{Check}
 use Rattle.inside_keys.specs.declared.key.ChannelAt.{ChannelAt}
 use Rattle.inside_keys.specs.declared.key.Module.{Module}
-use Rattle.inside_keys.specs.declared.place.Place.{Place}
+use Rattle.inside_keys.specs.declared.place.ExpressionPlace.{ExpressionPlace}
 use Rattle.inside_keys.specs.declared.place.Section.{Section}
 use Rattle.inside_keys.specs.Places.{Scope}
 
 -- where a module stands: the module around it, none around the network; its name, and its index
 -- where it is an element of a vector; and whether it is what the type of that module declares under
 -- that name, or was created while the model ran
-pub record Standing : Type 0 where
+pub record Whereabouts : Type 0 where
   pub around : Option Module
   pub name : List ℕ
   pub index : Option ℤ
@@ -24,34 +24,34 @@ pub record Standing : Type 0 where
 -- ALL THAT VALUES REST ON: where each module stands; the number of the type of the network, and of
 -- what was created; whether a module is nested too deep; what the first entry of the ini text says
 -- that matches the full path of a parameter; and the flat types
-pub record Setting : Type 0 where
-  pub stands : Module → Standing
+pub record ModuleRules : Type 0 where
+  pub stands : Module → Whereabouts
   pub root : Module → Option ℕ
   pub is_too_deep : Module → Bool
   pub entry : List ℕ → Option EntryValue
   pub types : List TypeDeclaration
 
 -- the names of the types
-abbrev pub type_names : Setting → List (List ℕ)
+abbrev pub type_names : ModuleRules → List (List ℕ)
 type_names s = map (λ (t : TypeDeclaration). t.name) s.types
 
 -- the gates of each type
-abbrev pub type_gates : Setting → List TypeGates
+abbrev pub type_gates : ModuleRules → List TypeGates
 type_gates s = map (λ (t : TypeDeclaration). gates.gates_of t.gates) s.types
 
 -- the module whose type declares that one
-abbrev pub declarer_of : Standing → Option Module
+abbrev pub declarer_of : Whereabouts → Option Module
 declarer_of t = if t.is_declared then t.around else None
 
-abbrev pub declarer : Setting → Module → Option Module
+abbrev pub declarer : ModuleRules → Module → Option Module
 declarer s m = declarer_of (s.stands m)
 
-abbrev pub index_at : Setting → Option Module → Option ℤ
+abbrev pub index_at : ModuleRules → Option Module → Option ℤ
 index_at s None = None
 index_at s (Some m) = (s.stands m).index
 
 -- where an expression stands that says something of a module in that section
-abbrev pub place_in : Setting → Module → Section → Place
+abbrev pub place_in : ModuleRules → Module → Section → ExpressionPlace
 place_in s m section = record {
   own = m;
   around = (s.stands m).around;
@@ -62,7 +62,7 @@ place_in s m section = record {
 }
 
 -- and one that says something of a channel in a module
-abbrev pub channel_place : Setting → Module → ChannelAt → Section → Place
+abbrev pub channel_place : ModuleRules → Module → ChannelAt → Section → ExpressionPlace
 channel_place s m c section = record {
   own = m;
   around = (s.stands m).around;
@@ -76,6 +76,6 @@ channel_place s m c section = record {
 -- has to be
 pub record Posed : Type 0 where
   pub expression : Expression
-  pub place : Place
+  pub place : ExpressionPlace
   pub variables : Scope
   pub check : Check

@@ -21,8 +21,8 @@ use Rattle.param_values.specs.Values.{first_given}
 use Rattle.sim_values.specs.declared.value.Value.{Value}
 use Rattle.sim_values.specs.declared.value.Value.TheVariants as value
 use Rattle.param_eval.specs.Values.{valued}
-use Rattle.inside_parts.specs.declared.fault.Fault.{Fault}
-use Rattle.inside_parts.specs.declared.fault.Fault.TheVariants.{UnknownType, Interface, Unassigned, Mismatch, Circle, NoGate, TooDeep}
+use Rattle.inside_parts.specs.declared.fault.InsideFault.{InsideFault}
+use Rattle.inside_parts.specs.declared.fault.InsideFault.TheVariants.{UnknownType, Interface, Unassigned, Mismatch, Circle, NoGate, TooDeep}
 use Rattle.inside_parts.specs.Gates as type_gates
 use Rattle.inside_parts.specs.Names.{is_one, position_of}
 use Rattle.inside_wiring.specs.declared.wiring.Carrier.{Carrier}
@@ -36,25 +36,25 @@ use Rattle.inside_keys.specs.declared.key.Module.{Module}
 use Rattle.inside_keys.specs.declared.key.What.{What}
 use Rattle.inside_keys.specs.declared.key.What.TheVariants as what
 use Rattle.inside_keys.specs.declared.place.Section.TheVariants as section
-use Rattle.inside_keys.specs.Asked.{Asked, ask_then, known_then, number_then, result_then, valued_then}
+use Rattle.inside_keys.specs.Asked.{KeyAsking, ask_then, known_then, number_then, result_then, valued_then}
 use Rattle.inside_keys.specs.Channels.{carrier_begun, channel_kind, with_value}
 use Rattle.inside_keys.specs.Checks.{checked}
 use Rattle.inside_keys.specs.Given.{channel_lines, channel_posed, given_in, parameter_posed, condition_posed, vector_size_posed, gate_size_posed, has_vector}
 use Rattle.inside_keys.specs.Inside.{conditioned, inside, is_vector, sized, submodule_names}
 use Rattle.inside_keys.specs.Keys.{child, key, same_key}
 use Rattle.inside_keys.specs.Places.{meant_under}
-use Rattle.inside_keys.specs.Settings.{Setting, Standing, Posed, declarer, place_in, type_gates, type_names}
+use Rattle.inside_keys.specs.Settings.{ModuleRules, Whereabouts, Posed, declarer, place_in, type_gates, type_names}
 
 -- done with this value
-abbrev pub is : Value → Asked
+abbrev pub is : Value → KeyAsking
 is v = Done (Ok (found.Value v))
 
-abbrev pub kept : Result Value Fault → Asked
+abbrev pub kept : Result Value InsideFault → KeyAsking
 kept (Ok v) = is v
 kept (Err f) = Done (Err f)
 
 -- an expression that gives a value: what it asks, and what its value has to be
-abbrev pub posed_asking : Option Posed → Asked
+abbrev pub posed_asking : Option Posed → KeyAsking
 posed_asking None = Done (Err Unassigned)
 posed_asking (Some p) = valued_then (meant_under p.variables p.place) (valued p.expression) (λ v. kept (checked p.check v))
 
@@ -62,11 +62,11 @@ posed_asking (Some p) = valued_then (meant_under p.variables p.place) (valued p.
 
 module _ (m : Module) where
   -- a parameter of a submodule, which is there
-  abbrev pub of_child : List ℕ → Option ℕ → List ℕ → Asked
+  abbrev pub of_child : List ℕ → Option ℕ → List ℕ → KeyAsking
   of_child name index x = ask_then (key (child m name index) (what.Param x)) is
 
   -- `sub.x`: of no vector
-  abbrev pub member : List ℕ → Option Submodule → Asked
+  abbrev pub member : List ℕ → Option Submodule → KeyAsking
   member x None = Done (Err Unassigned)
   member x (Some l) = if is_vector l then Done (Err Unassigned) else conditioned m l (of_child l.name None x) (Done (Err Unassigned))
 
@@ -75,18 +75,18 @@ module _ (m : Module) where
   among n None = None
   among n (Some k) = if nat_lt k n then Some k else None
 
-  abbrev pub at_index : List ℕ → List ℕ → Option ℕ → Asked
+  abbrev pub at_index : List ℕ → List ℕ → Option ℕ → KeyAsking
   at_index name x None = Done (Err Unassigned)
   at_index name x (Some k) = of_child name (Some k) x
 
   -- `sub[k].x`: of a vector
-  abbrev pub element_of : ℤ → List ℕ → Option Submodule → Asked
+  abbrev pub element_of : ℤ → List ℕ → Option Submodule → KeyAsking
   element_of k x None = Done (Err Unassigned)
   element_of k x (Some l) =
       if is_vector l then conditioned m l (sized m l (λ n. at_index l.name x (among n (natural k)))) (Done (Err Unassigned)) else Done (Err Unassigned)
 
   -- `exists(sub)`
-  abbrev pub exists : Option Submodule → Asked
+  abbrev pub exists : Option Submodule → KeyAsking
   exists None = is (value.Truth false)
   exists (Some l) = if is_vector l then is (value.Truth false) else conditioned m l (is (value.Truth true)) (is (value.Truth false))
 
@@ -95,13 +95,13 @@ module _ (m : Module) where
   is_there (Some k) = true
 
   -- `exists(sub[k])`
-  abbrev pub exists_at : ℤ → Option Submodule → Asked
+  abbrev pub exists_at : ℤ → Option Submodule → KeyAsking
   exists_at k None = is (value.Truth false)
   exists_at k (Some l) =
       if is_vector l then conditioned m l (sized m l (λ n. is (value.Truth (is_there (among n (natural k)))))) (is (value.Truth false)) else is (value.Truth false)
 
   -- `sizeof(sub)`: a vector whose condition doesn't hold has no elements
-  abbrev pub vector_size : Option Submodule → Asked
+  abbrev pub vector_size : Option Submodule → KeyAsking
   vector_size None = Done (Err Unassigned)
   vector_size (Some l) = if is_vector l then conditioned m l (sized m l (λ n. is (value.Whole (pos n)))) (is (value.Whole (pos 0))) else Done (Err Unassigned)
 
@@ -116,35 +116,35 @@ body_by (Some l) = l.body
 -- ---- channels
 
 -- what a channel does, by the values of the parameters that these lines declare, in their order
-abbrev pub carrier : Module → ChannelAt → List SectionLine → Carrier → Asked
+abbrev pub carrier : Module → ChannelAt → List SectionLine → Carrier → KeyAsking
 carrier m c [] k = Done (Ok (found.Carrier k))
 carrier m c (line.Declaration d ∷ ls) k = ask_then (key m (what.Channel c d.name)) (λ v. carrier m c ls (with_value d.name v k k.kind))
 carrier m c (_ ∷ ls) k = carrier m c ls k
 
-abbrev pub carrier_by : Module → ChannelAt → List SectionLine → Asked
+abbrev pub carrier_by : Module → ChannelAt → List SectionLine → KeyAsking
 carrier_by m c lines = carrier m c lines (carrier_begun (channel_kind lines))
 
 -- ---- sizes of gates
 
 -- the size of an own gate vector of a part, as the inside of the module around has it
-abbrev pub size_of_gate : Setting → Standing → List ℕ → Inside → ℕ → Asked
+abbrev pub size_of_gate : ModuleRules → Whereabouts → List ℕ → Inside → ℕ → KeyAsking
 size_of_gate s t g i part =
     result_then (gate_named (type_gates s) i.parts (length i.wiring.sizes) part g) (λ gate. is (value.Whole (pos (slice_index i.wiring.sizes gate.vector))))
 
 -- the same of the submodule of that name and index, where the module around is of that type
-abbrev pub size_in : Setting → TypeDeclaration → Standing → List ℕ → Inside → Asked
+abbrev pub size_in : ModuleRules → TypeDeclaration → Whereabouts → List ℕ → Inside → KeyAsking
 size_in s around t g i = result_then (part_named (submodule_names around) i.parts t.name t.index) (size_of_gate s t g i)
 
-abbrev pub size_read : Setting → TypeDeclaration → Standing → List ℕ → Found → Asked
+abbrev pub size_read : ModuleRules → TypeDeclaration → Whereabouts → List ℕ → Found → KeyAsking
 size_read s around t g (found.Inside i) = size_in s around t g i
 size_read s around t g (found.Carrier c) = Done (Err NoGate)
 size_read s around t g (found.Value v) = Done (Err NoGate)
 
-module _ (s : Setting) where
+module _ (s : ModuleRules) where
   -- ---- types
 
   -- the number of a type
-  abbrev pub numbered : Option ℕ → Asked
+  abbrev pub numbered : Option ℕ → KeyAsking
   numbered None = Done (Err UnknownType)
   numbered (Some n) = is (value.Whole (pos n))
 
@@ -177,20 +177,20 @@ module _ (s : Setting) where
   abbrev pub keeps : ParametricType → SubmoduleBody → TypeDeclaration → Bool
   keeps p body u = is_kind_of_modules u.kind && (is_one p.interface u.interfaces && not (sets_fixed u.lines body))
 
-  abbrev pub kept_type : ParametricType → SubmoduleBody → ℕ → Option TypeDeclaration → Asked
+  abbrev pub kept_type : ParametricType → SubmoduleBody → ℕ → Option TypeDeclaration → KeyAsking
   kept_type p body n None = Done (Err UnknownType)
   kept_type p body n (Some u) = if keeps p body u then is (value.Whole (pos n)) else Done (Err Interface)
 
   -- a built-in channel is no type of modules
-  abbrev pub no_type : List ℕ → Fault
+  abbrev pub no_type : List ℕ → InsideFault
   no_type name = if is_built_in (last_name name) then Interface else UnknownType
 
-  abbrev pub type_found : ParametricType → SubmoduleBody → List ℕ → Option ℕ → Asked
+  abbrev pub type_found : ParametricType → SubmoduleBody → List ℕ → Option ℕ → KeyAsking
   type_found p body name None = Done (Err (no_type name))
   type_found p body name (Some n) = kept_type p body n (slice_get s.types n)
 
   -- the type that a value names
-  abbrev pub type_told : TypeDeclaration → ParametricType → SubmoduleBody → Value → Asked
+  abbrev pub type_told : TypeDeclaration → ParametricType → SubmoduleBody → Value → KeyAsking
   type_told t p body (value.Text name) = type_found p body name (type_meant t name)
   type_told t p body _ = Done (Err Mismatch)
 
@@ -199,7 +199,7 @@ module _ (s : Setting) where
   type_path m = m.path ++ codes ".typename"
 
   -- an expression that stands in the type of the module around
-  abbrev pub type_asking_by : Module → TypeDeclaration → ParametricType → SubmoduleBody → Option Written → Asked
+  abbrev pub type_asking_by : Module → TypeDeclaration → ParametricType → SubmoduleBody → Option Written → KeyAsking
   type_asking_by around t p body None = Done (Err Unassigned)
   type_asking_by around t p body (Some w) = valued_then (meant_under [] (place_in s around section.OfInside)) (valued w.expression) (type_told t p body)
 
@@ -208,64 +208,64 @@ module _ (s : Setting) where
   abbrev pub type_written : Module → ParametricType → Option Written
   type_written m p = first_given (given_in written.OfType p.given) (s.entry (type_path m))
 
-  abbrev pub type_chosen : Module → Module → TypeDeclaration → ParametricType → SubmoduleBody → Asked
+  abbrev pub type_chosen : Module → Module → TypeDeclaration → ParametricType → SubmoduleBody → KeyAsking
   type_chosen m around t p body = type_asking_by around t p body (type_written m p)
 
   -- the type of a declared submodule, in a module of that type
-  abbrev pub type_by : Module → Module → TypeDeclaration → SubmoduleBody → SubmoduleType → Asked
+  abbrev pub type_by : Module → Module → TypeDeclaration → SubmoduleBody → SubmoduleType → KeyAsking
   type_by m around t body (Named name) = numbered (position_of name (type_names s))
   type_by m around t body (Like p) = type_chosen m around t p body
 
-  abbrev pub type_in : Module → Module → TypeDeclaration → Option Submodule → Asked
+  abbrev pub type_in : Module → Module → TypeDeclaration → Option Submodule → KeyAsking
   type_in m around t None = Done (Err UnknownType)
   type_in m around t (Some l) = type_by m around t l.body l.submodule_type
 
   -- with the type of a module, and its number
-  abbrev pub typed_then : Module → (ℕ → TypeDeclaration → Asked) → Asked
+  abbrev pub typed_then : Module → (ℕ → TypeDeclaration → KeyAsking) → KeyAsking
   typed_then m next = ask_then (key m what.Type) (λ v. number_then v (λ n. known_then (slice_get s.types n) (next n)))
 
   -- with the body of what declares a module
-  abbrev pub body_of_declarer : Module → Option Module → (SubmoduleBody → Asked) → Asked
+  abbrev pub body_of_declarer : Module → Option Module → (SubmoduleBody → KeyAsking) → KeyAsking
   body_of_declarer m None next = next no_body
   body_of_declarer m (Some around) next = typed_then around (λ n t. next (body_by (submodule_named (s.stands m).name t.submodules)))
 
-  abbrev pub body_then : Module → (SubmoduleBody → Asked) → Asked
+  abbrev pub body_then : Module → (SubmoduleBody → KeyAsking) → KeyAsking
   body_then m next = body_of_declarer m (declarer s m) next
 
-  abbrev pub type_declared : Module → Option Module → Asked
+  abbrev pub type_declared : Module → Option Module → KeyAsking
   type_declared m None = numbered (s.root m)
   type_declared m (Some around) = if s.is_too_deep m then Done (Err TooDeep) else typed_then around (λ n t. type_in m around t (submodule_named (s.stands m).name t.submodules))
 
   -- THE TYPE OF A MODULE: its nesting comes first
-  abbrev pub type_asking : Module → Asked
+  abbrev pub type_asking : Module → KeyAsking
   type_asking m = type_declared m (declarer s m)
 
   -- ---- gates
 
-  abbrev pub sized_or_open : Option Posed → Asked
+  abbrev pub sized_or_open : Option Posed → KeyAsking
   sized_or_open None = is (value.Whole (pos 0))
   sized_or_open (Some p) = posed_asking (Some p)
 
   -- A DECLARED SIZE: a vector whose size is given nowhere has none
-  abbrev pub declared_asking : Module → TypeDeclaration → List ℕ → SubmoduleBody → Asked
+  abbrev pub declared_asking : Module → TypeDeclaration → List ℕ → SubmoduleBody → KeyAsking
   declared_asking m t g body = if has_vector (type_gates.gates_of t.gates) g then sized_or_open (gate_size_posed s m t body g) else Done (Err NoGate)
 
   -- A FINISHED SIZE is read off the inside of the module around; nothing is connected around the
   -- network and around what was created
-  abbrev pub gate_size : Module → List ℕ → Option Module → Asked
+  abbrev pub gate_size : Module → List ℕ → Option Module → KeyAsking
   gate_size m g None = ask_then (key m (what.Declared g)) is
   gate_size m g (Some around) = typed_then around (λ n t. Ask (key around what.Joined) (size_read s t (s.stands m) g))
 
   -- `sizeof(g)`: a gate vector of the module goes before a submodule vector
-  abbrev pub size_of : Module → List ℕ → TypeDeclaration → Asked
+  abbrev pub size_of : Module → List ℕ → TypeDeclaration → KeyAsking
   size_of m g t =
       if has_vector (type_gates.gates_of t.gates) g then ask_then (key m (what.GateSize g)) is else vector_size m (submodule_named g t.submodules)
 
-  abbrev pub inside_of : Module → Bool → ℕ → TypeDeclaration → Asked
+  abbrev pub inside_of : Module → Bool → ℕ → TypeDeclaration → KeyAsking
   inside_of m is_whole n t = inside m s.types (type_gates s) is_whole (place_in s m section.OfInside) n t
 
   -- what a key asks of a module of that type
-  abbrev pub asking_in : Module → What → ℕ → TypeDeclaration → Asked
+  abbrev pub asking_in : Module → What → ℕ → TypeDeclaration → KeyAsking
   asking_in m (what.Param x) n t = body_then m (λ body. posed_asking (parameter_posed s m t body x))
   asking_in m (what.Condition sub) n t = posed_asking (condition_posed s m t sub)
   asking_in m (what.VectorSize sub) n t = posed_asking (vector_size_posed s m t sub)
@@ -283,16 +283,16 @@ module _ (s : Setting) where
   asking_in m what.Type n t = numbered (Some n)
 
   -- WHAT A KEY ASKS: the type of its module first
-  abbrev pub asking_by : Module → What → Asked
+  abbrev pub asking_by : Module → What → KeyAsking
   asking_by m what.Type = type_asking m
   asking_by m w = typed_then m (asking_in m w)
 
-  abbrev pub asking_of : Key → Asked
+  abbrev pub asking_of : Key → KeyAsking
   asking_of k = asking_by k.site k.what
 
-  abbrev pub rules_of : Rules Key Found Fault
+  abbrev pub rules_of : Rules Key Found InsideFault
   rules_of = record { same = same_key; asking = asking_of; circle = Circle }
 
   -- THE VALUE OF A KEY, or why it has none: Circle where it rests on itself
-  abbrev pub value_at : Key → Result Found Fault
+  abbrev pub value_at : Key → Result Found InsideFault
   value_at k = value_of rules_of k

@@ -4,7 +4,7 @@ ghost use Rattle.std.specs.Prelude.{◌≡◌};
 ghost use Rattle.inside_keys.specs.Checks.{amount, checked, not_negative, told};
 ghost use Rattle.param_values.specs.Kinds.{of_kind};
 
-use inside_parts::fault::{Fault, of_value};
+use inside_parts::fault::{InsideFault, of_value};
 use param_values::kind::{Kind, of_kind};
 use sim_values::value::Value;
 
@@ -26,23 +26,23 @@ pub enum Check {
 }
 
 /// The value, where it isn't a negative amount.
-fn not_negative(value: Value) -> Result<Value, Fault>
+fn not_negative(value: Value) -> Result<Value, InsideFault>
     ensures { result ≡ not_negative value }
 {
     match value {
         Value::Quantity(dimension, amount) => {
             if amount < 0 {
-                Err(Fault::Mismatch)
+                Err(InsideFault::Mismatch)
             } else {
                 Ok(Value::Quantity(dimension, amount))
             }
         }
-        _ => Err(Fault::Mismatch),
+        _ => Err(InsideFault::Mismatch),
     }
 }
 
 /// The value of a parameter of that kind.
-fn parameter(kind: Kind, value: Value) -> Result<Value, Fault>
+fn parameter(kind: Kind, value: Value) -> Result<Value, InsideFault>
     ensures { result ≡ told (of_kind kind value) }
 {
     match of_kind(kind, value) {
@@ -52,7 +52,7 @@ fn parameter(kind: Kind, value: Value) -> Result<Value, Fault>
 }
 
 /// The value of a parameter of that kind, which isn't negative.
-fn amount(kind: Kind, value: Value) -> Result<Value, Fault>
+fn amount(kind: Kind, value: Value) -> Result<Value, InsideFault>
     ensures { result ≡ amount kind value }
 {
     match parameter(kind, value) {
@@ -62,7 +62,7 @@ fn amount(kind: Kind, value: Value) -> Result<Value, Fault>
 }
 
 /// The value, where it is what it has to be.
-pub fn checked(check: Check, value: Value) -> Result<Value, Fault>
+pub fn checked(check: Check, value: Value) -> Result<Value, InsideFault>
     ensures { result ≡ checked check value }
 {
     match (check, value) {
@@ -72,20 +72,20 @@ pub fn checked(check: Check, value: Value) -> Result<Value, Fault>
         (Check::Condition, Value::Truth(holds)) => Ok(Value::Truth(holds)),
         (Check::VectorSize, Value::Whole(size)) => {
             if size < 0 {
-                Err(Fault::Mismatch)
+                Err(InsideFault::Mismatch)
             } else if size > 65536 {
-                Err(Fault::TooManyModules)
+                Err(InsideFault::TooManyModules)
             } else {
                 Ok(Value::Whole(size))
             }
         }
         (Check::GateSize, Value::Whole(size)) => {
             if size < 0 || size > 65536 {
-                Err(Fault::GateSize)
+                Err(InsideFault::GateSize)
             } else {
                 Ok(Value::Whole(size))
             }
         }
-        _ => Err(Fault::Mismatch),
+        _ => Err(InsideFault::Mismatch),
     }
 }

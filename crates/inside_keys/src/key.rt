@@ -3,7 +3,7 @@
 ghost use Rattle.std.specs.Prelude.{◌≡◌, ◌++◌, IfOk, OnOk};
 ghost use Rattle.inside_keys.specs.Keys as keys;
 
-use crate::turn::Turn;
+use crate::turn::LoopTurn;
 use itoa::Buffer;
 use sim_values::NoMemory;
 use sim_values::text::Text;
@@ -35,7 +35,7 @@ pub struct ChannelAt {
     pub path: Text,
     pub written: WrittenAt,
     /// The values of the loop variables in scope, the innermost first.
-    pub turn: Turn,
+    pub turn: LoopTurn,
 }
 
 /// What of a module has a value. Submodules, gates and parameters go by their names.

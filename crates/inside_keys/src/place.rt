@@ -38,7 +38,7 @@ pub struct Binding {
 
 /// Where an expression stands.
 #[derive(Drop)]
-pub struct Place {
+pub struct ExpressionPlace {
     /// The module of which it says something.
     pub own: Module,
     /// The module around that one; there is none around the network.
@@ -95,7 +95,7 @@ pub fn variable_in(scope: &[Binding], name: &Text) -> Option<i64>
     None
 }
 
-impl Place {
+impl ExpressionPlace {
     /// The module whose names bare names are.
     fn hearer(&self) -> Option<&Module>
         ensures { option_copied result ≡ places.hearer self.now }

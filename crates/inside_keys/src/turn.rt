@@ -15,17 +15,17 @@ use std::marker::Model;
 
 /// The values of the loop variables in scope, the innermost first, which contracts see as their
 /// list.
-pub struct Turn {
+pub struct LoopTurn {
     numbers: Vec<i64>,
 }
 
-impl Drop for Turn {
+impl Drop for LoopTurn {
     fn drop(self) {
-        let Turn { numbers: _ } = self;
+        let LoopTurn { numbers: _ } = self;
     }
 }
 
-impl Model for Turn {
+impl Model for LoopTurn {
     ghost use Rattle.std.specs.Prelude.{List, ℤ};
 
     ghost Value = { List ℤ };
@@ -33,21 +33,21 @@ impl Model for Turn {
     ghost view = { λ t. t.numbers.items };
 }
 
-impl PartialEq for Turn {
+impl PartialEq for LoopTurn {
     ghost eq = { λ a b. pointwise int_eq a b };
 
     ghost laws = { partial_equiv_from_equiv (lists_equiv int_eq_equiv) };
 
-    fn eq(&self, other: &Turn) -> bool {
+    fn eq(&self, other: &LoopTurn) -> bool {
         self.as_slice() == other.as_slice()
     }
 }
 
-impl Eq for Turn {
+impl Eq for LoopTurn {
     ghost laws = { lists_equiv int_eq_equiv };
 }
 
-impl Hash for Turn {
+impl Hash for LoopTurn {
     ghost hash_input = { λ t. fed.slice fed.i64 t };
 
     ghost respects_eq = { Prim.search (hashing, rules) };
@@ -57,12 +57,12 @@ impl Hash for Turn {
     }
 }
 
-impl Turn {
+impl LoopTurn {
     /// No loop variables.
-    pub fn new(alloc: Global) -> Turn
+    pub fn new(alloc: Global) -> LoopTurn
         ensures { result ≡ [] }
     {
-        Turn {
+        LoopTurn {
             numbers: Vec::new(alloc),
         }
     }
@@ -83,10 +83,10 @@ impl Turn {
     }
 
     /// The same.
-    pub fn copy(&self, alloc: Global) -> Result<Turn, AllocError>
+    pub fn copy(&self, alloc: Global) -> Result<LoopTurn, AllocError>
         ensures { IfOk result (λ t. t ≡ self.now) }
     {
-        Ok(Turn {
+        Ok(LoopTurn {
             numbers: Vec::from_slice(alloc, self.as_slice())?,
         })
     }

@@ -1,13 +1,13 @@
 -- Faults of a model.
 use Rattle.std.specs.Prelude.{◌≡◌, Result, Ok, Err}
-use Rattle.param_eval.specs.declared.fault.Fault as value_type
-use Rattle.param_eval.specs.declared.fault.Fault.TheVariants as value
-use Rattle.inside_parts.specs.declared.fault.Fault.{Fault}
-use Rattle.inside_parts.specs.declared.fault.Fault.TheVariants as fault
-use Rattle.inside_parts.specs.declared.fault.Stop.{Stop}
-use Rattle.inside_parts.specs.declared.fault.Stop.TheVariants as stop
+use Rattle.param_eval.specs.declared.fault.ValueFault as value_type
+use Rattle.param_eval.specs.declared.fault.ValueFault.TheVariants as value
+use Rattle.inside_parts.specs.declared.fault.InsideFault.{InsideFault}
+use Rattle.inside_parts.specs.declared.fault.InsideFault.TheVariants as fault
+use Rattle.inside_parts.specs.declared.fault.InsideError.{InsideError}
+use Rattle.inside_parts.specs.declared.fault.InsideError.TheVariants as stop
 
-abbrev pub of_value : value_type.Fault → Fault
+abbrev pub of_value : value_type.ValueFault → InsideFault
 of_value value.Overflow = fault.Overflow
 of_value value.Inexact = fault.Inexact
 of_value value.Mismatch = fault.Mismatch
@@ -16,17 +16,17 @@ of_value value.Circle = fault.Circle
 of_value value.TooDeep = fault.TooDeep
 
 -- lack of memory
-abbrev pub IsOfMemory : Stop → Type 0
+abbrev pub IsOfMemory : InsideError → Type 0
 IsOfMemory (stop.Memory e) = Unit {0}
 IsOfMemory (stop.Fault f) = ⊥
 
 -- what code answers is what the definition gives, fault for fault; lack of memory says nothing
-abbrev pub Tells : {A : Type 0} → Result A Stop → Result A Fault → Type 0
+abbrev pub Tells : {A : Type 0} → Result A InsideError → Result A InsideFault → Type 0
 Tells (Ok x) given = given ≡ Ok x
 Tells (Err (stop.Fault f)) given = given ≡ Err f
 Tells (Err (stop.Memory e)) given = Unit {0}
 
 -- the first fault, or what follows from the value
-abbrev pub thence : {A B : Type 0} → Result A Fault → (A → Result B Fault) → Result B Fault
+abbrev pub thence : {A B : Type 0} → Result A InsideFault → (A → Result B InsideFault) → Result B InsideFault
 thence (Ok x) next = next x
 thence (Err f) next = Err f

@@ -3,13 +3,13 @@
 ghost use Rattle.std.specs.Prelude.{◌≡◌};
 ghost use Rattle.inside_parts.specs.Faults as faults;
 
-use param_eval::fault::Fault as ValueFault;
+use param_eval::fault::ValueFault;
 use sim_values::NoMemory;
 use std::alloc::{AllocError, AllocFailed};
 
 /// Why a value can't be found, or the inside of a compound module can't be built.
 #[derive(Clone, Copy, Debug, PartialEq, Eq)]
-pub enum Fault {
+pub enum InsideFault {
     /// The type of a submodule isn't declared.
     UnknownType,
     /// The type of a submodule doesn't keep the interface that it has to keep.
@@ -44,53 +44,53 @@ pub enum Fault {
 }
 
 /// The fault of a value, as one of a model.
-pub fn of_value(fault: ValueFault) -> Fault
+pub fn of_value(fault: ValueFault) -> InsideFault
     ensures { result ≡ faults.of_value fault }
 {
     match fault {
-        ValueFault::Overflow => Fault::Overflow,
-        ValueFault::Inexact => Fault::Inexact,
-        ValueFault::Mismatch => Fault::Mismatch,
-        ValueFault::Unassigned => Fault::Unassigned,
-        ValueFault::Circle => Fault::Circle,
-        ValueFault::TooDeep => Fault::TooDeep,
+        ValueFault::Overflow => InsideFault::Overflow,
+        ValueFault::Inexact => InsideFault::Inexact,
+        ValueFault::Mismatch => InsideFault::Mismatch,
+        ValueFault::Unassigned => InsideFault::Unassigned,
+        ValueFault::Circle => InsideFault::Circle,
+        ValueFault::TooDeep => InsideFault::TooDeep,
     }
 }
 
 /// Why building stopped: a fault of the model, or lack of memory, which says nothing of the model.
 #[derive(Clone, Copy)]
-pub enum Stop {
-    Fault(Fault),
+pub enum InsideError {
+    Fault(InsideFault),
     Memory(NoMemory),
 }
 
-impl From<NoMemory> for Stop {
+impl From<NoMemory> for InsideError {
     ghost use Rattle.std.specs.Prelude.{◌≡◌};
     ghost use Rattle.inside_parts.specs.Faults.{IsOfMemory};
 
     ghost from_gives = { λ _ e. IsOfMemory e };
 
-    fn from(e: NoMemory) -> Stop {
-        Stop::Memory(e)
+    fn from(e: NoMemory) -> InsideError {
+        InsideError::Memory(e)
     }
 }
 
-impl From<AllocError> for Stop {
+impl From<AllocError> for InsideError {
     ghost use Rattle.inside_parts.specs.Faults.{IsOfMemory};
 
     ghost from_gives = { λ _ e. IsOfMemory e };
 
-    fn from(e: AllocError) -> Stop {
-        Stop::Memory(e.into())
+    fn from(e: AllocError) -> InsideError {
+        InsideError::Memory(e.into())
     }
 }
 
-impl<T: Drop> From<AllocFailed<T>> for Stop {
+impl<T: Drop> From<AllocFailed<T>> for InsideError {
     ghost use Rattle.inside_parts.specs.Faults.{IsOfMemory};
 
     ghost from_gives = { λ _ e. IsOfMemory e };
 
-    fn from(e: AllocFailed<T>) -> Stop {
-        Stop::Memory(e.into())
+    fn from(e: AllocFailed<T>) -> InsideError {
+        InsideError::Memory(e.into())
     }
 }

@@ -12,7 +12,7 @@ use Rattle.inside_keys.specs.declared.key.Module.{Module}
 use Rattle.inside_keys.specs.declared.key.What.{What}
 use Rattle.inside_keys.specs.declared.key.What.TheVariants as what
 use Rattle.inside_keys.specs.Keys.{same_channel, same_key, same_module, same_what, same_written}
-use Rattle.inside_keys.specs.Settings.{Setting}
+use Rattle.inside_keys.specs.Settings.{ModuleRules}
 use Rattle.inside_keys.specs.Values.{rules_of}
 use Rattle.inside_run.specs.Same.{same_are_one}
 
@@ -56,5 +56,5 @@ whats what.Inside = refl
 same_self : (a : Key) → same_key a a ≡ true
 same_self a = and (same_module a.site a.site) (same_what a.what a.what) (modules a.site) (whats a.what)
 
-pub exact : (s : Setting) → IsExact (rules_of s)
+pub exact : (s : ModuleRules) → IsExact (rules_of s)
 exact s = record { same = same_are_one; self = same_self }

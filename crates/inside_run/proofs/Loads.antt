@@ -5,10 +5,10 @@ use Rattle.std.proofs.Math.Nat.{mul-le-mul_left}
 use Rattle.inside_keys.specs.declared.found.State.{State}
 use Rattle.inside_keys.specs.declared.key.Key.{Key}
 use Rattle.inside_keys.specs.Places.{meant_under}
-use Rattle.inside_parts.specs.declared.fault.Stop.{Stop}
-use Rattle.inside_parts.specs.declared.fault.Stop.TheVariants as stop
+use Rattle.inside_parts.specs.declared.fault.InsideError.{InsideError}
+use Rattle.inside_parts.specs.declared.fault.InsideError.TheVariants as stop
 use Rattle.param_eval.specs.declared.evaluation.Evaluation.{Evaluation}
-use Rattle.param_eval.specs.declared.evaluation.Turn.{Turn}
+use Rattle.param_eval.specs.declared.evaluation.EvaluationStep.{EvaluationStep}
 use Rattle.param_eval.specs.Evaluating.{came_to, asks, left}
 use Rattle.sim_values.specs.declared.value.Value.{Value}
 use Rattle.inside_walk.specs.declared.task.Doing.{Doing}
@@ -19,7 +19,7 @@ use Rattle.inside_walk.specs.declared.task.Halt.TheVariants as halt
 use Rattle.inside_walk.specs.declared.task.Sort.TheVariants as sort
 use Rattle.inside_walk.specs.declared.task.Task.TheVariants as task
 use Rattle.inside_keys.specs.declared.key.Module.{Module}
-use Rattle.inside_keys.specs.Asked.{Asked}
+use Rattle.inside_keys.specs.Asked.{KeyAsking}
 use Rattle.inside_keys.specs.Inside.{gates, gates_in, inside, items, joined, made_of, own_part, submodule_names, submodules}
 use Rattle.inside_keys.specs.declared.key.What.TheVariants as what
 use Rattle.inside_parts.specs.declared.gates.TypeGate.{TypeGate}
@@ -40,19 +40,19 @@ use Rattle.inside_run.specs.Runs.{Reaches, AsksWithin, Comes, begun_load, load, 
 
 module _ (g : Ground) where
   -- the expression has its value, and something is done with it
-  pub value_leads : (ts us : List Task) (e f : Evaluation) (t : Turn) (w : Want) (s : State) (x : Reached) (v : Value) (r : Result Next Stop) → x ≡ reached.Value v
+  pub value_leads : (ts us : List Task) (e f : Evaluation) (t : EvaluationStep) (w : Want) (s : State) (x : Reached) (v : Value) (r : Result Next InsideError) → x ≡ reached.Value v
       → Reaches (meant_under (scope_of ts) g.place) (Ok x) f (came_to e t) → Leads g r us (wanted g w v (scope_of ts) s (continued g ts)) → Leads g r us (next_of g ts (next.At e t w s))
   value_leads ts us e f t w s x v r is h l =
       subst (Leads g r us) (ap (λ z. reached_of (meant_under (scope_of ts) g.place) z f (λ u. wanted g w u (scope_of ts) s (continued g ts))) (sym is) ∙ h (λ u. wanted g w u (scope_of ts) s (continued g ts))) l
 
   -- it needs the value of a key
-  pub stops_at : (ts : List Task) (e f : Evaluation) (t : Turn) (w : Want) (s : State) (x : Reached) (k : Key) → x ≡ reached.Key k
+  pub stops_at : (ts : List Task) (e f : Evaluation) (t : EvaluationStep) (w : Want) (s : State) (x : Reached) (k : Key) → x ≡ reached.Key k
       → Reaches (meant_under (scope_of ts) g.place) (Ok x) f (came_to e t) → halted g ts (halt.Asks k (doing.Expression f w) s) ≡ next_of g ts (next.At e t w s)
   stops_at ts e f t w s x k is r =
       ap (λ z. reached_of (meant_under (scope_of ts) g.place) z f (λ u. wanted g w u (scope_of ts) s (continued g ts))) (sym is) ∙ r (λ u. wanted g w u (scope_of ts) s (continued g ts))
 
   -- a fault comes of it
-  pub stopped_by : (ts us : List Task) (e f : Evaluation) (t : Turn) (w : Want) (s : State) (why : Stop)
+  pub stopped_by : (ts us : List Task) (e f : Evaluation) (t : EvaluationStep) (w : Want) (s : State) (why : InsideError)
       → Reaches (meant_under (scope_of ts) g.place) (Err why) f (came_to e t) → Comes g (Err why) us (next_of g ts (next.At e t w s))
   stopped_by ts us e f t w s (stop.Fault x) r = r (λ u. wanted g w u (scope_of ts) s (continued g ts))
   stopped_by ts us e f t w s (stop.Memory m) r = tt
@@ -73,13 +73,13 @@ module _ (g : Ground) where
   more a w d t p h = omega arith
 
   -- after an expression
-  value_load : (ts us : List Task) (e : Evaluation) (t : Turn) (w : Want) (s : State) (n : Next) → Spends g (of_want g w) (cost_of_want w) ts s.turns (Ok n) us → load g n us < load g (next.At e t w s) ts
+  value_load : (ts us : List Task) (e : Evaluation) (t : EvaluationStep) (w : Want) (s : State) (n : Next) → Spends g (of_want g w) (cost_of_want w) ts s.turns (Ok n) us → load g n us < load g (next.At e t w s) ts
   value_load ts us e t w s n h =
       let most : ℕ = max (cost_of_want w) (cost_of_tasks ts) in
       more (load g n us) (of_want g w) (asks t + left e) (of_tasks g ts) (s.turns * most)
       (spent_load most (of_want g w) ts s.turns n us (h most (omega arith) (omega arith)))
 
-  pub value_within : (ts us : List Task) (e : Evaluation) (t : Turn) (w : Want) (s : State) (r : Result Next Stop) → Spends g (of_want g w) (cost_of_want w) ts s.turns r us
+  pub value_within : (ts us : List Task) (e : Evaluation) (t : EvaluationStep) (w : Want) (s : State) (r : Result Next InsideError) → Spends g (of_want g w) (cost_of_want w) ts s.turns r us
       → IfOk r (λ n. load g n us < load g (next.At e t w s) ts)
   value_within ts us e t w s (Ok n) h = value_load ts us e t w s n h
   value_within ts us e t w s (Err why) h = tt
@@ -87,7 +87,7 @@ module _ (g : Ground) where
   less_to_ask : (a b w t p q : ℕ) → 1 + a ≤ b → 1 + (a + w + t + p) ≤ b + w + t + p
   less_to_ask a b w t p q h = omega arith
 
-  pub key_load : (ts : List Task) (e f : Evaluation) (t : Turn) (w : Want) (s : State) (x : Reached) (k : Key) → x ≡ reached.Key k → needs x + left f ≤ asks t + left e
+  pub key_load : (ts : List Task) (e f : Evaluation) (t : EvaluationStep) (w : Want) (s : State) (x : Reached) (k : Key) → x ≡ reached.Key k → needs x + left f ≤ asks t + left e
       → AsksWithin g (load g (next.At e t w s) ts) ts (halt.Asks k (doing.Expression f w) s)
   key_load ts e f t w s x k is h = let one : needs x ≡ 1 = ap needs is in less_to_ask (left f) (asks t + left e) (of_want g w) (of_tasks g ts) (s.turns * max (cost_of_want w) (cost_of_tasks ts)) 0 (omega (arith, one, h))
 
@@ -115,7 +115,7 @@ module _ (g : Ground) where
       subst_load : (a b : List Task) → a ≡ b → load g n us < load g (next.Go s) b → load g n us < load g (next.Go s) a
       subst_load a b e h = let same : load g (next.Go s) a ≡ load g (next.Go s) b = ap (load g (next.Go s)) e in omega (arith, same, h)
 
-  pub task_within : (all ts us : List Task) (t : Task) (s : State) (r : Result Next Stop) → all ≡ t ∷ ts → Spends g (of_task g t) (cost_of_task t) ts s.turns r us
+  pub task_within : (all ts us : List Task) (t : Task) (s : State) (r : Result Next InsideError) → all ≡ t ∷ ts → Spends g (of_task g t) (cost_of_task t) ts s.turns r us
       → IfOk r (λ n. load g n us < load g (next.Go s) all)
   task_within all ts us t s (Ok n) is h = task_load all ts us t s n is h
   task_within all ts us t s (Err why) is h = tt
@@ -131,18 +131,18 @@ module _ (g : Ground) where
       let less : load g n us < of_carry y + of_tasks g ts + s.turns * most = spent_load most (of_carry y) ts s.turns n us (h most (omega arith) (omega arith)) in
       omega (arith, less)
 
-  resumed_all : (ts us : List Task) (y : Carry) (s : State) (r : Result Next Stop) → Spends g (of_carry y) 0 ts s.turns r us → IfOk r (λ n. load g n us ≤ load_of g (doing.Carrier y) ts s)
+  resumed_all : (ts us : List Task) (y : Carry) (s : State) (r : Result Next InsideError) → Spends g (of_carry y) 0 ts s.turns r us → IfOk r (λ n. load g n us ≤ load_of g (doing.Carrier y) ts s)
   resumed_all ts us y s (Ok n) h = resumed_by ts us y s n h
   resumed_all ts us y s (Err why) h = tt
 
-  pub resumed_within : (ts us vs : List Task) (d : Doing) (y : Carry) (s : State) (r q : Result Next Stop) → d ≡ doing.Carrier y → q ≡ r → vs ≡ us
+  pub resumed_within : (ts us vs : List Task) (d : Doing) (y : Carry) (s : State) (r q : Result Next InsideError) → d ≡ doing.Carrier y → q ≡ r → vs ≡ us
       → Spends g (of_carry y) 0 ts s.turns r us → IfOk q (λ n. load g n vs ≤ load_of g d ts s)
   resumed_within ts us vs d y s r q is same at h =
       subst (λ x. IfOk x (λ n. load g n vs ≤ load_of g d ts s)) (sym same)
       (subst (λ l. IfOk r (λ n. load g n l ≤ load_of g d ts s)) (sym at)
       (subst (λ z. IfOk r (λ n. load g n us ≤ load_of g z ts s)) (sym is) (resumed_all ts us y s r h)))
 
-  pub stopped_within : (vs : List Task) (m : ℕ) (q : Result Next Stop) (why : Stop) → q ≡ Err why → IfOk q (λ n. load g n vs ≤ m)
+  pub stopped_within : (vs : List Task) (m : ℕ) (q : Result Next InsideError) (why : InsideError) → q ≡ Err why → IfOk q (λ n. load g n vs ≤ m)
   stopped_within vs m q why same = subst (λ x. IfOk x (λ n. load g n vs ≤ m)) (sym same) tt
 
   -- the tasks of an inside that has begun come to it
@@ -158,7 +158,7 @@ module _ (g : Ground) where
       ∙ ap (λ x. by g.site (gates_in (slice_get g.gates.now n)) t.submodules x g.submodules.now) c
       ∙ ap (λ x. by g.site (gates_in (slice_get g.gates.now n)) t.submodules t.connections.items x) i
     where
-      by : Module → List TypeGate → List Submodule → List ConnectionItem → List (List ℕ) → Asked
+      by : Module → List TypeGate → List Submodule → List ConnectionItem → List (List ℕ) → KeyAsking
       by site gates_there lines items_there names =
           gates site what.GateSize gates_there (own_part n) (λ u.
           submodules g.site g.types.now g.gates.now g.is_whole lines u (λ v.

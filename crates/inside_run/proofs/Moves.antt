@@ -4,8 +4,8 @@ use mathlib.Core.Path.{fun_ext}
 use Rattle.ned_trees.specs.declared.declarations.Submodule.{Submodule}
 use Rattle.ned_trees.specs.declared.declarations.TypeDeclaration.{TypeDeclaration}
 use Rattle.sim_values.specs.declared.value.Value.{Value}
-use Rattle.inside_parts.specs.declared.fault.Stop.{Stop}
-use Rattle.inside_parts.specs.declared.fault.Stop.TheVariants as stop
+use Rattle.inside_parts.specs.declared.fault.InsideError.{InsideError}
+use Rattle.inside_parts.specs.declared.fault.InsideError.TheVariants as stop
 use Rattle.inside_wiring.specs.Ends.{part_named}
 use Rattle.inside_keys.specs.declared.found.Found.{Found}
 use Rattle.inside_keys.specs.declared.found.Found.TheVariants as found
@@ -15,7 +15,7 @@ use Rattle.inside_keys.specs.declared.key.What.{What}
 use Rattle.inside_keys.specs.declared.key.What.TheVariants as what
 use Rattle.inside_keys.specs.Keys.{key}
 use Rattle.param_following.specs.Asking.{Ask}
-use Rattle.inside_keys.specs.Asked.{Asked, result_then, valued_then}
+use Rattle.inside_keys.specs.Asked.{KeyAsking, result_then, valued_then}
 use Rattle.inside_keys.specs.declared.place.Meaning.{Meaning}
 use Rattle.param_eval.specs.declared.evaluation.Evaluation.{Evaluation}
 use Rattle.param_eval.specs.Evaluating.{weight_of}
@@ -27,7 +27,7 @@ use Rattle.inside_run.specs.declared.reach.Reached.TheVariants as reached
 use Rattle.inside_run.specs.Posing.{maybe_posed}
 use Rattle.inside_run.specs.Runs.{Reaches, reached_of}
 use Rattle.inside_keys.specs.Inside.{submodule_names}
-use Rattle.inside_keys.specs.Settings.{Setting, Standing}
+use Rattle.inside_keys.specs.Settings.{ModuleRules, Whereabouts}
 use Rattle.inside_keys.specs.Values.{asking_by, asking_in, asking_of, element_of, exists, exists_at, is_there, member, size_of_gate, size_read, vector_size}
 use Rattle.inside_run.specs.declared.progress.Moved.{Moved}
 use Rattle.inside_run.specs.declared.progress.Reading.TheVariants as reading
@@ -36,7 +36,7 @@ use Rattle.inside_run.specs.Weights.{Costs, moved_weight, most, posed_weight}
 
 -- ---- what is read of submodules
 
-swapped : (b : Bool) (t u : Asked) → (if not b then t else u) ≡ (if b then u else t)
+swapped : (b : Bool) (t u : KeyAsking) → (if not b then t else u) ≡ (if b then u else t)
 swapped true t u = refl
 swapped false t u = refl
 
@@ -65,9 +65,9 @@ pub some_is_there : (m : Module) (o : Option ℕ) → is_some o ≡ is_there m o
 some_is_there m None = refl
 some_is_there m (Some k) = refl
 
-module _ (s : Setting) where
+module _ (s : ModuleRules) where
   -- the names that are held are those of the type
-  pub size_from_is : (names : List (List ℕ)) (u : TypeDeclaration) (t : Standing) (g : List ℕ) → names ≡ submodule_names u → size_from s names t g ≡ size_read s u t g
+  pub size_from_is : (names : List (List ℕ)) (u : TypeDeclaration) (t : Whereabouts) (g : List ℕ) → names ≡ submodule_names u → size_from s names t g ≡ size_read s u t g
   size_from_is names u t g e = fun_ext by
     where
       by : (f : Found) → size_from s names t g f ≡ size_read s u t g f
@@ -76,21 +76,21 @@ module _ (s : Setting) where
       by (found.Carrier c) = refl
 
   -- a type that was found
-  pub moves_typed : (r : Result Moved Stop) (v : Value) (n : ℕ) (t : TypeDeclaration) (next : ℕ → TypeDeclaration → Asked) → IsFound s v n t → Moves s r (next n t) → Moves s r (typed s next (found.Value v))
+  pub moves_typed : (r : Result Moved InsideError) (v : Value) (n : ℕ) (t : TypeDeclaration) (next : ℕ → TypeDeclaration → KeyAsking) → IsFound s v n t → Moves s r (next n t) → Moves s r (typed s next (found.Value v))
   moves_typed r v n t next f h = subst (Moves s r) (sym (f.leads next)) h
 
-  pub moves_as : (r : Result Moved Stop) (t u : Asked) → t ≡ u → Moves s r t → Moves s r u
+  pub moves_as : (r : Result Moved InsideError) (t u : KeyAsking) → t ≡ u → Moves s r t → Moves s r u
   moves_as r t u e h = subst (Moves s r) e h
 
-  pub costs_more : (r : Result Moved Stop) (a b : ℕ) → a ≤ b → Costs s a r → Costs s b r
+  pub costs_more : (r : Result Moved InsideError) (a b : ℕ) → a ≤ b → Costs s a r → Costs s b r
   costs_more (Ok m) a b h c = let k : moved_weight s m ≤ a = c in omega (arith, h, k)
   costs_more (Err e) a b h c = tt
 
-  pub costs_as : (r : Result Moved Stop) (a b : ℕ) → a ≡ b → Costs s a r → Costs s b r
+  pub costs_as : (r : Result Moved InsideError) (a b : ℕ) → a ≡ b → Costs s a r → Costs s b r
   costs_as r a b e h = subst (λ n. Costs s n r) e h
 
   -- an expression has come to a fault
-  pub reached_fault : (why : Stop) (means : Reference → Meaning) (e : Evaluation) (t : Valued) (next : Value → Asked) → Reaches means (Err why) e t → Moves s (Err why) (valued_then means t next)
+  pub reached_fault : (why : InsideError) (means : Reference → Meaning) (e : Evaluation) (t : Valued) (next : Value → KeyAsking) → Reaches means (Err why) e t → Moves s (Err why) (valued_then means t next)
   reached_fault (stop.Fault f) means e t next h = h next
   reached_fault (stop.Memory m) means e t next h = tt
 
@@ -105,13 +105,13 @@ module _ (s : Setting) where
       ∙ ap (λ x. Ask (key k.site what.Type) (typed s (asking_in s k.site x))) ew ∙ typed_by k.site k.what h
 
   -- an expression has its value, and something is done with it
-  pub reached_value : (r : Result Moved Stop) (means : Reference → Meaning) (x : Reached) (e : Evaluation) (t : Valued) (next : Value → Asked) (v : Value)
-      → x ≡ reached.Value v → ((n : Value → Asked) → reached_of means x e n ≡ valued_then means t n) → Moves s r (next v) → Moves s r (valued_then means t next)
+  pub reached_value : (r : Result Moved InsideError) (means : Reference → Meaning) (x : Reached) (e : Evaluation) (t : Valued) (next : Value → KeyAsking) (v : Value)
+      → x ≡ reached.Value v → ((n : Value → KeyAsking) → reached_of means x e n ≡ valued_then means t n) → Moves s r (next v) → Moves s r (valued_then means t next)
   reached_value r means x e t next v is h m = subst (Moves s r) (sym (ap (λ y. reached_of means y e next) is) ∙ h next) m
 
 -- it needs the value of a key
-pub reached_key : (means : Reference → Meaning) (x : Reached) (e : Evaluation) (t : Valued) (next : Value → Asked) (k : Key)
-    → x ≡ reached.Key k → ((n : Value → Asked) → reached_of means x e n ≡ valued_then means t n) → reached_of means (reached.Key k) e next ≡ valued_then means t next
+pub reached_key : (means : Reference → Meaning) (x : Reached) (e : Evaluation) (t : Valued) (next : Value → KeyAsking) (k : Key)
+    → x ≡ reached.Key k → ((n : Value → KeyAsking) → reached_of means x e n ≡ valued_then means t n) → reached_of means (reached.Key k) e next ≡ valued_then means t next
 reached_key means x e t next k is h = ap (λ y. reached_of means y e next) (sym is) ∙ h next
 
 -- an expression that is begun asks no more often than it weighs

@@ -3,9 +3,9 @@ use Rattle.std.specs.Prelude.{◌≡◌, ℕ, ◌+◌, ◌*◌, ◌<◌, ◌≤�
 use Rattle.param_following.specs.Asking.{Done}
 use Rattle.inside_keys.specs.declared.found.State.{State}
 use Rattle.inside_keys.specs.declared.place.Meaning.{Meaning}
-use Rattle.inside_keys.specs.Asked.{Asked, ask_then, valued_then}
-use Rattle.inside_parts.specs.declared.fault.Stop.{Stop}
-use Rattle.inside_parts.specs.declared.fault.Stop.TheVariants as stop
+use Rattle.inside_keys.specs.Asked.{KeyAsking, ask_then, valued_then}
+use Rattle.inside_parts.specs.declared.fault.InsideError.{InsideError}
+use Rattle.inside_parts.specs.declared.fault.InsideError.TheVariants as stop
 use Rattle.ned_trees.specs.declared.declarations.TypeDeclaration.{TypeDeclaration}
 use Rattle.param_eval.specs.declared.evaluation.Evaluation.{Evaluation}
 use Rattle.param_eval.specs.Evaluating.{resumed}
@@ -31,13 +31,13 @@ or_else (Some x) other = Some x
 or_else None other = other
 
 -- an expression has come to its value, or needs one
-abbrev pub reached_of : (Reference → Meaning) → Reached → Evaluation → (Value → Asked) → Asked
+abbrev pub reached_of : (Reference → Meaning) → Reached → Evaluation → (Value → KeyAsking) → KeyAsking
 reached_of means (reached.Value v) e next = next v
 reached_of means (reached.Key k) e next = ask_then k (λ v. valued_then means (resumed e v) next)
 
-abbrev pub Reaches : (Reference → Meaning) → Result Reached Stop → Evaluation → Valued → Type 0
-Reaches means (Ok r) e t = (next : Value → Asked) → reached_of means r e next ≡ valued_then means t next
-Reaches means (Err (stop.Fault f)) e t = (next : Value → Asked) → valued_then means t next ≡ Done (Err f)
+abbrev pub Reaches : (Reference → Meaning) → Result Reached InsideError → Evaluation → Valued → Type 0
+Reaches means (Ok r) e t = (next : Value → KeyAsking) → reached_of means r e next ≡ valued_then means t next
+Reaches means (Err (stop.Fault f)) e t = (next : Value → KeyAsking) → valued_then means t next ≡ Done (Err f)
 Reaches means (Err (stop.Memory m)) e t = Unit {0}
 
 -- one where it needs a value
@@ -59,11 +59,11 @@ module _ (g : Ground) where
   AsksWithin n ts (halt.Done f) = Unit {0}
 
   -- where one step has come to
-  abbrev pub came_of : List Task → Came → Asked
+  abbrev pub came_of : List Task → Came → KeyAsking
   came_of ts (came.Next n) = next_of g ts n
   came_of ts (came.Halt h) = halted g ts h
 
-  abbrev pub Comes : Result Came Stop → List Task → Asked → Type 0
+  abbrev pub Comes : Result Came InsideError → List Task → KeyAsking → Type 0
   Comes (Ok c) ts t = came_of ts c ≡ t
   Comes (Err (stop.Fault f)) ts t = t ≡ Done (Err f)
   Comes (Err (stop.Memory e)) ts t = Unit {0}

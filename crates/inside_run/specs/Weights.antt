@@ -9,17 +9,17 @@ use Rattle.param_values.specs.Settings.{Written}
 use Rattle.ned_trees.specs.declared.declarations.TypeDeclaration.{TypeDeclaration}
 use Rattle.ned_types.specs.Flat.{submodule_named}
 use Rattle.param_eval.specs.Evaluating.{left, weight_of}
-use Rattle.inside_parts.specs.declared.fault.Stop.{Stop}
+use Rattle.inside_parts.specs.declared.fault.InsideError.{InsideError}
 use Rattle.inside_keys.specs.declared.key.Module.{Module}
 use Rattle.inside_keys.specs.declared.key.What.{What}
 use Rattle.inside_keys.specs.declared.key.What.TheVariants as what
 use Rattle.inside_keys.specs.Given.{channel_lines, channel_posed, condition_posed, gate_size_posed, parameter_posed, vector_size_posed}
-use Rattle.inside_keys.specs.Settings.{Posed, Setting, type_gates}
+use Rattle.inside_keys.specs.Settings.{Posed, ModuleRules, type_gates}
 use Rattle.inside_keys.specs.Values.{body_by, no_body, type_written}
 use Rattle.inside_run.specs.declared.progress.Moved.{Moved}
 use Rattle.inside_run.specs.declared.progress.Moved.TheVariants as moved
-use Rattle.inside_run.specs.declared.progress.Progress.{Progress}
-use Rattle.inside_run.specs.declared.progress.Progress.TheVariants as progress
+use Rattle.inside_run.specs.declared.progress.KeyProgress.{KeyProgress}
+use Rattle.inside_run.specs.declared.progress.KeyProgress.TheVariants as progress
 use Rattle.inside_run.specs.Runs.{load_of}
 use Rattle.inside_walk.specs.Weights.{of_items, of_type_gates, of_types}
 
@@ -46,7 +46,7 @@ abbrev pub submodules_weight : ℕ → List Submodule → ℕ
 submodules_weight typed [] = 1
 submodules_weight typed (l ∷ ls) = (65536 * (typed + 2) + (typed + 2) + 8) + submodules_weight typed ls + 2
 
-module _ (s : Setting) where
+module _ (s : ModuleRules) where
   abbrev pub body_weight : Module → What → TypeDeclaration → SubmoduleBody → ℕ
   body_weight m (what.Param x) t body = posed_weight (parameter_posed s m t body x)
   body_weight m (what.Declared g) t body = posed_weight (gate_size_posed s m t body g)
@@ -86,7 +86,7 @@ module _ (s : Setting) where
   typed_weight m _ t = 3
 
   -- HOW OFTEN A KEY ASKS AT MOST
-  abbrev pub weight : Progress → ℕ
+  abbrev pub weight : KeyProgress → ℕ
   weight (progress.OwnType m w) = most (typed_weight m w) s.types
   weight (progress.TypeAround m around name) = type_weight m name
   weight (progress.BodyAround m w t name) = around_weight m w t.now name
@@ -106,6 +106,6 @@ module _ (s : Setting) where
   moved_weight (moved.Done f) = 0
 
   -- it asks no more often than that
-  abbrev pub Costs : ℕ → Result Moved Stop → Type 0
+  abbrev pub Costs : ℕ → Result Moved InsideError → Type 0
   Costs n (Ok m) = moved_weight m ≤ n
   Costs n (Err e) = Unit {0}

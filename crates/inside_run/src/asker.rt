@@ -2,14 +2,14 @@
 
 ghost use Rattle.std.specs.Prelude.{◌≡◌, ◌+◌, ◌≤◌, ℕ, IfOk};
 ghost use Rattle.param_engine.specs.Turns.{came_to, asks};
-ghost use Rattle.inside_parts.specs.declared.fault.Fault.TheVariants.{Circle};
-ghost use Rattle.inside_keys.specs.Asked.{Asked as asked_type};
-ghost use Rattle.inside_keys.specs.Settings.{Setting};
+ghost use Rattle.inside_parts.specs.declared.fault.InsideFault.TheVariants.{Circle};
+ghost use Rattle.inside_keys.specs.Asked.{KeyAsking as asked_type};
+ghost use Rattle.inside_keys.specs.Settings.{ModuleRules};
 ghost use Rattle.inside_keys.specs.Values.{asking_of};
 ghost use Rattle.inside_keys.specs.declared.found.Found.TheVariants as found_as;
 ghost use Rattle.inside_run.specs.Going as going;
 ghost use Rattle.inside_run.specs.Going.{Finds, Moves, goes_on};
-ghost use Rattle.inside_run.specs.declared.progress.Progress.TheVariants as waits;
+ghost use Rattle.inside_run.specs.declared.progress.KeyProgress.TheVariants as waits;
 ghost use Rattle.inside_run.specs.Same.{same_is};
 ghost use Rattle.inside_run.specs.Weights.{Costs, around_weight, type_weight, weight};
 
@@ -17,18 +17,18 @@ use crate::channels::go_on_carrier;
 use crate::inside::{carried_inside, go_on_inside, size_from};
 use crate::keys::{asked_in, begin_type, with_body};
 use crate::posed::go_on_posed;
-use crate::progress::{Moved, Progress};
+use crate::progress::{KeyProgress, Moved};
 use crate::reading::{held, sized};
-use crate::scene::{Scene, Stands, submodule_in};
+use crate::scene::{ModuleSource, Stands, submodule_in};
 use crate::types::{go_on_chosen, type_in};
 use inside_keys::found::{Found, Inside};
 use inside_keys::key::{Key, Module, What};
-use inside_parts::fault::{Fault, Stop};
+use inside_parts::fault::{InsideError, InsideFault};
 use inside_walk::submodules::number;
 use inside_wiring::wiring::Carrier;
 use ned_trees::declarations::TypeDeclaration;
 use param_engine::asker::Asker;
-use param_engine::turn::Turn;
+use param_engine::turn::EngineStep;
 use sim_values::NoMemory;
 use sim_values::text::Text;
 use sim_values::value::Value;
@@ -45,7 +45,7 @@ pub struct Keys<'m, S> {
 #[derive(Drop)]
 pub struct Going<'m, S> {
     pub scene: &'m S,
-    pub progress: Progress<'m>,
+    pub progress: KeyProgress<'m>,
 }
 
 /// The same.
@@ -72,27 +72,27 @@ fn copied(alloc: Global, what: &What) -> Result<What, NoMemory>
 }
 
 /// The type of that number.
-fn type_found<'m, S: Scene>(
+fn type_found<'m, S: ModuleSource>(
     scene: &'m S,
     value: &Value,
-) -> Result<(usize, &'m TypeDeclaration), Stop>
+) -> Result<(usize, &'m TypeDeclaration), InsideError>
     ensures { Finds (S.setting scene.now) result value.now }
 {
     let number = number(value)?;
     match scene.types().get(number) {
         Some(declared) => Ok((number, declared)),
-        None => Err(Stop::Fault(Fault::UnknownType)),
+        None => Err(InsideError::Fault(InsideFault::UnknownType)),
     }
 }
 
 /// Goes on with the type of its module.
-fn own_type<'m, S: Scene>(
+fn own_type<'m, S: ModuleSource>(
     alloc: Global,
     scene: &'m S,
     site: Module,
     what: What,
     value: &Value,
-) -> Result<Moved<'m>, Stop>
+) -> Result<Moved<'m>, InsideError>
     ensures moves { Moves (S.setting scene.now) result (goes_on (S.setting scene.now) (waits.OwnType site what) (found_as.Value value.now)) }
     ensures costs { Costs (S.setting scene.now) (weight (S.setting scene.now) (waits.OwnType site what)) result }
 {
@@ -101,14 +101,14 @@ fn own_type<'m, S: Scene>(
 }
 
 /// Goes on with the type of the module around: the module's type is read off it.
-fn type_around<'m, S: Scene>(
+fn type_around<'m, S: ModuleSource>(
     alloc: Global,
     scene: &'m S,
     site: &Module,
     around: &Module,
     name: &Text,
     value: &Value,
-) -> Result<Moved<'m>, Stop>
+) -> Result<Moved<'m>, InsideError>
     ensures moves { Moves (S.setting scene.now) result (goes_on (S.setting scene.now) (waits.TypeAround site.now around.now name.now) (found_as.Value value.now)) }
     ensures costs { Costs (S.setting scene.now) (type_weight (S.setting scene.now) site.now name.now) result }
 {
@@ -118,7 +118,7 @@ fn type_around<'m, S: Scene>(
 }
 
 /// Goes on with the type of the module around: what it says in the module's body counts.
-fn body_around<'m, S: Scene>(
+fn body_around<'m, S: ModuleSource>(
     alloc: Global,
     scene: &'m S,
     site: &Module,
@@ -126,7 +126,7 @@ fn body_around<'m, S: Scene>(
     declared: &'m TypeDeclaration,
     name: &Text,
     value: &Value,
-) -> Result<Moved<'m>, Stop>
+) -> Result<Moved<'m>, InsideError>
     ensures moves { Moves (S.setting scene.now) result (going.typed (S.setting scene.now) (going.body_in (S.setting scene.now) site.now what.now declared.now name.now) (found_as.Value value.now)) }
     ensures costs { Costs (S.setting scene.now) (around_weight (S.setting scene.now) site.now what.now declared.now name.now) result }
 {
@@ -136,96 +136,96 @@ fn body_around<'m, S: Scene>(
 }
 
 /// Goes on with the type of the module around: its inside is asked for.
-fn inside_around<'m, S: Scene>(
+fn inside_around<'m, S: ModuleSource>(
     alloc: Global,
     scene: &'m S,
     site: &Module,
     stands: Stands,
     gate: Text,
     value: &Value,
-) -> Result<Moved<'m>, Stop>
+) -> Result<Moved<'m>, InsideError>
     ensures moves { Moves (S.setting scene.now) result (goes_on (S.setting scene.now) (waits.InsideAround site.now stands gate) (found_as.Value value.now)) }
     ensures costs { Costs (S.setting scene.now) 1 result }
 {
     let (number, _) = type_found(scene, value)?;
     let Some(names) = scene.submodules(number) else {
-        return Err(Stop::Fault(Fault::UnknownType));
+        return Err(InsideError::Fault(InsideFault::UnknownType));
     };
     let key = site.key(alloc, What::Joined)?;
-    Ok(Moved::Asks(key, Progress::Joined(names, stands, gate)))
+    Ok(Moved::Asks(key, KeyProgress::Joined(names, stands, gate)))
 }
 
 /// Goes on with a value.
-fn on_value<'m, S: Scene>(
+fn on_value<'m, S: ModuleSource>(
     alloc: Global,
     scene: &'m S,
-    progress: Progress<'m>,
+    progress: KeyProgress<'m>,
     value: &Value,
-) -> Result<Moved<'m>, Stop>
+) -> Result<Moved<'m>, InsideError>
     ensures moves { Moves (S.setting scene.now) result (goes_on (S.setting scene.now) progress.entry (found_as.Value value.now)) }
     ensures costs { Costs (S.setting scene.now) (weight (S.setting scene.now) progress.entry) result }
 {
     match progress {
-        Progress::OwnType(site, what) => own_type(alloc, scene, site, what, value),
-        Progress::TypeAround(site, around, name) => {
+        KeyProgress::OwnType(site, what) => own_type(alloc, scene, site, what, value),
+        KeyProgress::TypeAround(site, around, name) => {
             type_around(alloc, scene, &site, &around, &name, value)
         }
-        Progress::BodyAround(site, what, declared, name) => {
+        KeyProgress::BodyAround(site, what, declared, name) => {
             body_around(alloc, scene, &site, &what, declared, &name, value)
         }
-        Progress::InsideAround(site, stands, gate) => {
+        KeyProgress::InsideAround(site, stands, gate) => {
             inside_around(alloc, scene, &site, stands, gate, value)
         }
-        Progress::Joined(_, _, _) => Err(Stop::Fault(Fault::NoGate)),
-        Progress::Condition(site, name, reading) => held(alloc, site, name, reading, value),
-        Progress::VectorSize(site, name, reading) => sized(alloc, site, name, reading, value),
-        Progress::Posed(posing) => go_on_posed(alloc, posing.into_inner(), value),
-        Progress::Chosen(choosing) => go_on_chosen(alloc, scene, choosing.into_inner(), value),
-        Progress::Carried(carrying) => go_on_carrier(alloc, carrying.into_inner(), value),
-        Progress::Inside(walking) => go_on_inside(alloc, walking.into_inner(), value),
-        Progress::Same | Progress::Over => Ok(Moved::Done(Found::Value(value.copy(alloc)?))),
+        KeyProgress::Joined(_, _, _) => Err(InsideError::Fault(InsideFault::NoGate)),
+        KeyProgress::Condition(site, name, reading) => held(alloc, site, name, reading, value),
+        KeyProgress::VectorSize(site, name, reading) => sized(alloc, site, name, reading, value),
+        KeyProgress::Posed(posing) => go_on_posed(alloc, posing.into_inner(), value),
+        KeyProgress::Chosen(choosing) => go_on_chosen(alloc, scene, choosing.into_inner(), value),
+        KeyProgress::Carried(carrying) => go_on_carrier(alloc, carrying.into_inner(), value),
+        KeyProgress::Inside(walking) => go_on_inside(alloc, walking.into_inner(), value),
+        KeyProgress::Same | KeyProgress::Over => Ok(Moved::Done(Found::Value(value.copy(alloc)?))),
     }
 }
 
 /// Goes on with an inside.
-fn on_inside<'m, S: Scene>(
+fn on_inside<'m, S: ModuleSource>(
     scene: &'m S,
-    progress: Progress<'m>,
+    progress: KeyProgress<'m>,
     inside: &Inside,
-) -> Result<Moved<'m>, Stop>
+) -> Result<Moved<'m>, InsideError>
     ensures moves { Moves (S.setting scene.now) result (goes_on (S.setting scene.now) progress.entry (found_as.Inside inside.now)) }
     ensures costs { Costs (S.setting scene.now) (weight (S.setting scene.now) progress.entry) result }
 {
     match progress {
-        Progress::Joined(names, stands, gate) => size_from(scene, names, &stands, &gate, inside),
-        _ => Err(Stop::Fault(Fault::Mismatch)),
+        KeyProgress::Joined(names, stands, gate) => size_from(scene, names, &stands, &gate, inside),
+        _ => Err(InsideError::Fault(InsideFault::Mismatch)),
     }
 }
 
 /// Goes on with what a channel does.
-fn on_carrier<'m, S: Scene>(
+fn on_carrier<'m, S: ModuleSource>(
     alloc: Global,
     _scene: &'m S,
-    progress: Progress<'m>,
+    progress: KeyProgress<'m>,
     carrier: Carrier,
-) -> Result<Moved<'m>, Stop>
+) -> Result<Moved<'m>, InsideError>
     ensures moves { Moves (S.setting _scene.now) result (goes_on (S.setting _scene.now) progress.entry (found_as.Carrier carrier)) }
     ensures costs { Costs (S.setting _scene.now) (weight (S.setting _scene.now) progress.entry) result }
 {
     match progress {
-        Progress::Inside(walking) => carried_inside(alloc, walking.into_inner(), carrier),
-        Progress::Joined(_, _, _) => Err(Stop::Fault(Fault::NoGate)),
-        _ => Err(Stop::Fault(Fault::Mismatch)),
+        KeyProgress::Inside(walking) => carried_inside(alloc, walking.into_inner(), carrier),
+        KeyProgress::Joined(_, _, _) => Err(InsideError::Fault(InsideFault::NoGate)),
+        _ => Err(InsideError::Fault(InsideFault::Mismatch)),
     }
 }
 
 /// Goes on with what it waits for.
-fn proceed<'m, S: Scene>(
+fn proceed<'m, S: ModuleSource>(
     alloc: Global,
     scene: &'m S,
-    progress: Progress<'m>,
+    progress: KeyProgress<'m>,
     found: &Found,
-) -> Result<Moved<'m>, Stop>
+) -> Result<Moved<'m>, InsideError>
     ensures moves { Moves (S.setting scene.now) result (goes_on (S.setting scene.now) progress.entry found.now) }
     ensures costs { Costs (S.setting scene.now) (weight (S.setting scene.now) progress.entry) result }
 {
@@ -237,7 +237,11 @@ fn proceed<'m, S: Scene>(
 }
 
 /// Begins with a key.
-fn begin<'m, S: Scene>(alloc: Global, scene: &'m S, key: &Key) -> Result<Moved<'m>, Stop>
+fn begin<'m, S: ModuleSource>(
+    alloc: Global,
+    scene: &'m S,
+    key: &Key,
+) -> Result<Moved<'m>, InsideError>
     ensures { Moves (S.setting scene.now) result (asking_of (S.setting scene.now) key.now) }
 {
     if let What::Type = key.what {
@@ -245,30 +249,30 @@ fn begin<'m, S: Scene>(alloc: Global, scene: &'m S, key: &Key) -> Result<Moved<'
     }
     let what = copied(alloc, &key.what)?;
     let of_type = key.site.key(alloc, What::Type)?;
-    Ok(Moved::Asks(of_type, Progress::OwnType(key.site.copy(alloc)?, what)))
+    Ok(Moved::Asks(of_type, KeyProgress::OwnType(key.site.copy(alloc)?, what)))
 }
 
 /// Where a key has come to, with how it goes on.
 fn turned<'m>(
-    moved: Result<Moved<'m>, Stop>,
-) -> Result<(Progress<'m>, Turn<Key, Found, Fault>), NoMemory>
-    ensures moves { (s : Setting) (t : asked_type) → Moves s moved.entry t → IfOk result (λ turned. came_to (goes_on s turned.0) turned.1 ≡ t) }
-    ensures costs { (s : Setting) (n : ℕ) → Costs s n moved.entry → IfOk result (λ turned. asks turned.1 + weight s turned.0 ≤ n) }
+    moved: Result<Moved<'m>, InsideError>,
+) -> Result<(KeyProgress<'m>, EngineStep<Key, Found, InsideFault>), NoMemory>
+    ensures moves { (s : ModuleRules) (t : asked_type) → Moves s moved.entry t → IfOk result (λ turned. came_to (goes_on s turned.0) turned.1 ≡ t) }
+    ensures costs { (s : ModuleRules) (n : ℕ) → Costs s n moved.entry → IfOk result (λ turned. asks turned.1 + weight s turned.0 ≤ n) }
 {
     match moved {
-        Ok(Moved::Asks(key, progress)) => Ok((progress, Turn::Ask(key))),
-        Ok(Moved::Done(found)) => Ok((Progress::Over, Turn::Done(found))),
-        Err(Stop::Fault(fault)) => Ok((Progress::Over, Turn::Fault(fault))),
-        Err(Stop::Memory(e)) => Err(e),
+        Ok(Moved::Asks(key, progress)) => Ok((progress, EngineStep::Ask(key))),
+        Ok(Moved::Done(found)) => Ok((KeyProgress::Over, EngineStep::Done(found))),
+        Err(InsideError::Fault(fault)) => Ok((KeyProgress::Over, EngineStep::Fault(fault))),
+        Err(InsideError::Memory(e)) => Err(e),
     }
 }
 
-impl<'m, S: Scene> Asker for Keys<'m, S> {
+impl<'m, S: ModuleSource> Asker for Keys<'m, S> {
     type Key = Key;
 
     type Value = Found;
 
-    type Fault = Fault;
+    type Fault = InsideFault;
 
     type Evaluation = Going<'m, S>;
 
@@ -280,15 +284,15 @@ impl<'m, S: Scene> Asker for Keys<'m, S> {
 
     ghost left = { λ evaluation. weight (S.setting evaluation.scene.now) evaluation.progress };
 
-    fn circle(&self) -> Fault {
-        Fault::Circle
+    fn circle(&self) -> InsideFault {
+        InsideFault::Circle
     }
 
     fn start(
         &self,
         alloc: Global,
         key: &Key,
-    ) -> Result<(Going<'m, S>, Turn<Key, Found, Fault>), NoMemory> {
+    ) -> Result<(Going<'m, S>, EngineStep<Key, Found, InsideFault>), NoMemory> {
         let scene = self.scene;
         let (progress, turn) = turned(begin(alloc, scene, key))?;
         Ok((Going { scene, progress }, turn))
@@ -299,8 +303,8 @@ impl<'m, S: Scene> Asker for Keys<'m, S> {
         alloc: Global,
         evaluation: &mut Going<'m, S>,
         value: &Found,
-    ) -> Result<Turn<Key, Found, Fault>, NoMemory> {
-        let progress = replace(&mut evaluation.progress, Progress::Over);
+    ) -> Result<EngineStep<Key, Found, InsideFault>, NoMemory> {
+        let progress = replace(&mut evaluation.progress, KeyProgress::Over);
         let (progress, turn) = turned(proceed(alloc, evaluation.scene, progress, value))?;
         evaluation.progress = progress;
         Ok(turn)

@@ -8,26 +8,26 @@ ghost use Rattle.ned_trees.specs.declared.connections.Clause.{Clause as clause_t
 ghost use Rattle.inside_keys.specs.Asked.{known_then};
 ghost use Rattle.inside_keys.specs.Channels.{lines_of};
 ghost use Rattle.inside_keys.specs.Given as given;
-ghost use Rattle.inside_keys.specs.Settings.{Setting, channel_place, type_names};
+ghost use Rattle.inside_keys.specs.Settings.{ModuleRules, channel_place, type_names};
 ghost use Rattle.inside_keys.specs.Values as values;
 ghost use Rattle.inside_keys.specs.declared.found.Found.TheVariants as found_as;
 ghost use Rattle.inside_run.specs.Found.{channel_in, found_by, maybe_found};
 ghost use Rattle.inside_run.specs.Going.{Moves, goes_on};
 ghost use Rattle.inside_run.specs.Posing.{maybe_posed};
 ghost use Rattle.inside_run.specs.Weights.{Costs, lines_weight, posed_weight};
-ghost use Rattle.inside_run.specs.declared.progress.Progress.TheVariants as waits;
+ghost use Rattle.inside_run.specs.declared.progress.KeyProgress.TheVariants as waits;
 
 use crate::posed::{Posable, begin_posed, chosen, given_in};
-use crate::progress::{Carrying, Moved, Progress};
-use crate::scene::{Scene, Stands};
+use crate::progress::{Carrying, KeyProgress, Moved};
+use crate::scene::{ModuleSource, Stands};
 use inside_keys::channel::{
     carrier_begun, channel_check, channel_kind, kind_of, lines_of, with_value,
 };
 use inside_keys::found::Found;
 use inside_keys::key::{ChannelAt, Module, What, WrittenAt};
-use inside_keys::place::{Binding, Place, Section};
-use inside_keys::turn::Turn;
-use inside_parts::fault::{Fault, Stop};
+use inside_keys::place::{Binding, ExpressionPlace, Section};
+use inside_keys::turn::LoopTurn;
+use inside_parts::fault::{InsideError, InsideFault};
 use inside_parts::stack::Stack;
 use inside_wiring::wiring::Carrier;
 use ned_trees::connections::{
@@ -130,7 +130,7 @@ fn channel_of<'m>(found: Option<FoundLine<'m>>) -> Option<&'m Channel>
 // ---- loop variables
 
 /// The number of a turn at a place.
-fn number_at(turn: &Turn, place: usize) -> i64
+fn number_at(turn: &LoopTurn, place: usize) -> i64
     requires { place < length turn.now }
     ensures { result ≡ get_or turn.now place (pos 0) }
 {
@@ -143,7 +143,7 @@ fn bind(
     scope: &mut Stack<Binding>,
     alloc: Global,
     clause: &Clause,
-    turn: &Turn,
+    turn: &LoopTurn,
     left: usize,
 ) -> Result<usize, NoMemory>
     requires { left ≤ length turn.now }
@@ -168,7 +168,7 @@ fn bind_all(
     scope: &mut Stack<Binding>,
     alloc: Global,
     clauses: &[Clause],
-    turn: &Turn,
+    turn: &LoopTurn,
     all: usize,
 ) -> Result<usize, NoMemory>
     requires { all ≤ length turn.now }
@@ -190,7 +190,7 @@ fn scope_at(
     alloc: Global,
     around: &[Clause],
     clauses: &[Clause],
-    turn: &Turn,
+    turn: &LoopTurn,
 ) -> Result<Stack<Binding>, NoMemory>
     ensures { IfOk result (λ scope. scope ≡ given.scope_at (around.now ++ clauses.now) turn.now) }
 {
@@ -248,20 +248,20 @@ fn section_of(section: WrittenSection) -> Section
 }
 
 /// The place of an expression that says something of a channel in a module.
-fn channel_place<S: Scene>(
+fn channel_place<S: ModuleSource>(
     alloc: Global,
     scene: &S,
     site: &Module,
     channel: &ChannelAt,
     section: Section,
-) -> Result<Place, NoMemory>
+) -> Result<ExpressionPlace, NoMemory>
     ensures { IfOk result (λ place. place ≡ channel_place (S.setting scene.now) site.now channel.now section) }
 {
     let stands = scene.standing(alloc, site)?;
     let own = site.copy(alloc)?;
     let channel = channel.copy(alloc)?;
     let Stands { around, index, .. } = stands;
-    Ok(Place {
+    Ok(ExpressionPlace {
         own,
         around,
         section,
@@ -272,7 +272,7 @@ fn channel_place<S: Scene>(
 }
 
 /// What gives a parameter of a channel its value, of what the NED text and the ini text say.
-fn written<'m, S: Scene>(
+fn written<'m, S: ModuleSource>(
     alloc: Global,
     scene: &'m S,
     channel: &ChannelAt,
@@ -289,7 +289,7 @@ fn written<'m, S: Scene>(
 }
 
 /// What gives a parameter of a channel its value that is declared so.
-fn parameter_declared<'m, S: Scene>(
+fn parameter_declared<'m, S: ModuleSource>(
     alloc: Global,
     scene: &'m S,
     site: &Module,
@@ -316,7 +316,7 @@ fn parameter_declared<'m, S: Scene>(
 }
 
 /// What gives a parameter of a channel its value, over the lines of its type.
-fn parameter_over<'m, S: Scene>(
+fn parameter_over<'m, S: ModuleSource>(
     alloc: Global,
     scene: &'m S,
     site: &Module,
@@ -348,7 +348,7 @@ fn parameter_over<'m, S: Scene>(
 }
 
 /// The lines of the type of a connection's channel.
-fn type_lines<'m, S: Scene>(
+fn type_lines<'m, S: ModuleSource>(
     alloc: Global,
     scene: &'m S,
     channel: &Channel,
@@ -365,7 +365,7 @@ fn type_lines<'m, S: Scene>(
 }
 
 /// What gives a parameter of the channel of a connection its value.
-fn parameter_of<'m, S: Scene>(
+fn parameter_of<'m, S: ModuleSource>(
     alloc: Global,
     scene: &'m S,
     site: &Module,
@@ -382,7 +382,7 @@ fn parameter_of<'m, S: Scene>(
 }
 
 /// What gives a parameter of the channel of a connection its value that was found.
-fn parameter_found<'m, S: Scene>(
+fn parameter_found<'m, S: ModuleSource>(
     alloc: Global,
     scene: &'m S,
     site: &Module,
@@ -400,7 +400,7 @@ fn parameter_found<'m, S: Scene>(
 }
 
 /// What gives a parameter of a channel in a module of that type its value.
-fn parameter<'m, S: Scene>(
+fn parameter<'m, S: ModuleSource>(
     alloc: Global,
     scene: &'m S,
     site: &Module,
@@ -417,14 +417,14 @@ fn parameter<'m, S: Scene>(
 }
 
 /// Begins with a parameter of a channel in a module of that type.
-pub fn begin_channel<'m, S: Scene>(
+pub fn begin_channel<'m, S: ModuleSource>(
     alloc: Global,
     scene: &'m S,
     site: &Module,
     channel: &ChannelAt,
     name: &Text,
     declared: &'m TypeDeclaration,
-) -> Result<Moved<'m>, Stop>
+) -> Result<Moved<'m>, InsideError>
     ensures moves { Moves (S.setting scene.now) result (values.posed_asking (given.channel_posed (S.setting scene.now) site.now channel.now declared.now name.now)) }
     ensures costs { Costs (S.setting scene.now) (posed_weight (given.channel_posed (S.setting scene.now) site.now channel.now declared.now name.now)) result }
 {
@@ -441,9 +441,9 @@ fn carry<'m>(
     channel: ChannelAt,
     lines: &'m [SectionLine],
     carrier: Carrier,
-) -> Result<Moved<'m>, Stop>
-    ensures moves { (s : Setting) → Moves s result (values.carrier site channel lines.now carrier) }
-    ensures costs { (s : Setting) → Costs s (length lines.now) result }
+) -> Result<Moved<'m>, InsideError>
+    ensures moves { (s : ModuleRules) → Moves s result (values.carrier site channel lines.now carrier) }
+    ensures costs { (s : ModuleRules) → Costs s (length lines.now) result }
 {
     let mut rest = lines;
     'lines: while let Some((line, others)) = rest.split_first() {
@@ -457,7 +457,7 @@ fn carry<'m>(
                 lines: others,
                 carrier,
             };
-            return Ok(Moved::Asks(key, Progress::Carried(Boxed::new(alloc, carrying)?)));
+            return Ok(Moved::Asks(key, KeyProgress::Carried(Boxed::new(alloc, carrying)?)));
         }
         rest = others;
     }
@@ -469,9 +469,9 @@ pub fn go_on_carrier<'m>(
     alloc: Global,
     carrying: Carrying<'m>,
     value: &Value,
-) -> Result<Moved<'m>, Stop>
-    ensures moves { (s : Setting) → Moves s result (goes_on s (waits.Carried carrying.entry) (found_as.Value value.now)) }
-    ensures costs { (s : Setting) → Costs s (length carrying.entry.lines.now) result }
+) -> Result<Moved<'m>, InsideError>
+    ensures moves { (s : ModuleRules) → Moves s result (goes_on s (waits.Carried carrying.entry) (found_as.Value value.now)) }
+    ensures costs { (s : ModuleRules) → Costs s (length carrying.entry.lines.now) result }
 {
     let Carrying {
         site,
@@ -485,7 +485,7 @@ pub fn go_on_carrier<'m>(
 }
 
 /// The lines of the type of the channel that is written there.
-fn lines_at<'m, S: Scene>(
+fn lines_at<'m, S: ModuleSource>(
     alloc: Global,
     scene: &'m S,
     channel: &ChannelAt,
@@ -501,18 +501,18 @@ fn lines_at<'m, S: Scene>(
 }
 
 /// Begins with what a channel in a module of that type does.
-pub fn begin_carrier<'m, S: Scene>(
+pub fn begin_carrier<'m, S: ModuleSource>(
     alloc: Global,
     scene: &'m S,
     site: Module,
     channel: ChannelAt,
     declared: &'m TypeDeclaration,
-) -> Result<Moved<'m>, Stop>
+) -> Result<Moved<'m>, InsideError>
     ensures moves { Moves (S.setting scene.now) result (known_then (given.channel_lines (S.setting scene.now) declared.now channel) (values.carrier_by site channel)) }
     ensures costs { Costs (S.setting scene.now) (lines_weight (given.channel_lines (S.setting scene.now) declared.now channel)) result }
 {
     let Some(lines) = lines_at(alloc, scene, &channel, declared)? else {
-        return Err(Stop::Fault(Fault::UnknownType));
+        return Err(InsideError::Fault(InsideFault::UnknownType));
     };
     let carrier = carrier_begun(channel_kind(lines));
     carry(alloc, site, channel, lines, carrier)

@@ -1,25 +1,25 @@
 //! The inside of a compound module, as a key.
 
 ghost use Rattle.std.specs.Prelude.{◌≡◌, ℕ, Some, slice_get};
-ghost use Rattle.inside_keys.specs.Settings.{Standing as standing_type};
-ghost use Rattle.inside_keys.specs.Settings.{Setting, type_gates};
+ghost use Rattle.inside_keys.specs.Settings.{Whereabouts as standing_type};
+ghost use Rattle.inside_keys.specs.Settings.{ModuleRules, type_gates};
 ghost use Rattle.inside_keys.specs.Values as values;
 ghost use Rattle.inside_keys.specs.declared.found.Found.TheVariants as found_as;
 ghost use Rattle.inside_run.specs.Going.{Moves, goes_on, size_from};
 ghost use Rattle.inside_run.specs.Runs.{AsksWithin, load_of};
 ghost use Rattle.inside_run.specs.Scenes.{standing_by};
 ghost use Rattle.inside_run.specs.Weights.{Costs, inside_weight};
-ghost use Rattle.inside_run.specs.declared.progress.Progress.TheVariants as waits;
+ghost use Rattle.inside_run.specs.declared.progress.KeyProgress.TheVariants as waits;
 ghost use Rattle.inside_walk.specs.Tasks.{halted};
 
 use crate::posed::place_in;
-use crate::progress::{Moved, Progress, Walking};
+use crate::progress::{KeyProgress, Moved, Walking};
 use crate::run;
-use crate::scene::{Scene, Stands};
+use crate::scene::{ModuleSource, Stands};
 use inside_keys::found::{Found, Inside};
 use inside_keys::key::Module;
 use inside_keys::place::Section;
-use inside_parts::fault::{Fault, Stop};
+use inside_parts::fault::{InsideError, InsideFault};
 use inside_parts::gates::TypeGates;
 use inside_parts::names::Names;
 use inside_parts::stack::Stack;
@@ -39,9 +39,9 @@ fn halted<'m>(
     ground: Ground<'m>,
     tasks: Stack<Task<'m>>,
     halt: Halt<'m>,
-) -> Result<Moved<'m>, Stop>
-    ensures moves { (s : Setting) → Moves s result (halted ground.entry tasks.entry halt.entry) }
-    ensures costs { (s : Setting) (n : ℕ) → AsksWithin ground.entry n tasks.entry halt.entry → Costs s n result }
+) -> Result<Moved<'m>, InsideError>
+    ensures moves { (s : ModuleRules) → Moves s result (halted ground.entry tasks.entry halt.entry) }
+    ensures costs { (s : ModuleRules) (n : ℕ) → AsksWithin ground.entry n tasks.entry halt.entry → Costs s n result }
 {
     match halt {
         Halt::Asks(key, doing, state) => {
@@ -51,27 +51,27 @@ fn halted<'m>(
                 doing,
                 state,
             };
-            Ok(Moved::Asks(key, Progress::Inside(Boxed::new(alloc, walking)?)))
+            Ok(Moved::Asks(key, KeyProgress::Inside(Boxed::new(alloc, walking)?)))
         }
         Halt::Done(found) => Ok(Moved::Done(found)),
     }
 }
 
 /// Begins with the inside of a module of that type, which has that number.
-pub fn begin_inside<'m, S: Scene>(
+pub fn begin_inside<'m, S: ModuleSource>(
     alloc: Global,
     scene: &'m S,
     site: Module,
     is_whole: bool,
     number: usize,
     declared: &'m TypeDeclaration,
-) -> Result<Moved<'m>, Stop>
+) -> Result<Moved<'m>, InsideError>
     requires { slice_get (S.setting scene.now).types number ≡ Some declared.now }
     ensures moves { Moves (S.setting scene.now) result (values.inside_of (S.setting scene.now) site is_whole number declared.now) }
     ensures costs { Costs (S.setting scene.now) (inside_weight (S.setting scene.now) declared.now) result }
 {
     let Some(submodules) = scene.submodules(number) else {
-        return Err(Stop::Fault(Fault::UnknownType));
+        return Err(InsideError::Fault(InsideFault::UnknownType));
     };
     let place = place_in(alloc, scene, &site, Section::OfInside)?;
     let ground = Ground {
@@ -92,9 +92,9 @@ pub fn go_on_inside<'m>(
     alloc: Global,
     walking: Walking<'m>,
     value: &Value,
-) -> Result<Moved<'m>, Stop>
-    ensures moves { (s : Setting) → Moves s result (goes_on s (waits.Inside walking.entry) (found_as.Value value.now)) }
-    ensures costs { (s : Setting) → Costs s (load_of walking.entry.ground walking.entry.doing walking.entry.tasks walking.entry.state) result }
+) -> Result<Moved<'m>, InsideError>
+    ensures moves { (s : ModuleRules) → Moves s result (goes_on s (waits.Inside walking.entry) (found_as.Value value.now)) }
+    ensures costs { (s : ModuleRules) → Costs s (load_of walking.entry.ground walking.entry.doing walking.entry.tasks walking.entry.state) result }
 {
     let Walking {
         ground,
@@ -111,9 +111,9 @@ pub fn carried_inside<'m>(
     alloc: Global,
     walking: Walking<'m>,
     carrier: Carrier,
-) -> Result<Moved<'m>, Stop>
-    ensures moves { (s : Setting) → Moves s result (goes_on s (waits.Inside walking.entry) (found_as.Carrier carrier)) }
-    ensures costs { (s : Setting) → Costs s (load_of walking.entry.ground walking.entry.doing walking.entry.tasks walking.entry.state) result }
+) -> Result<Moved<'m>, InsideError>
+    ensures moves { (s : ModuleRules) → Moves s result (goes_on s (waits.Inside walking.entry) (found_as.Carrier carrier)) }
+    ensures costs { (s : ModuleRules) → Costs s (load_of walking.entry.ground walking.entry.doing walking.entry.tasks walking.entry.state) result }
 {
     let Walking {
         ground,
@@ -131,9 +131,9 @@ fn size_of_gate<'m>(
     gate: &Text,
     inside: &Inside,
     part: usize,
-) -> Result<Moved<'m>, Stop>
-    ensures moves { (s : Setting) (t : standing_type) → gates.now ≡ type_gates s → Moves s result (values.size_of_gate s t gate.now inside.now part) }
-    ensures costs { (s : Setting) → Costs s 0 result }
+) -> Result<Moved<'m>, InsideError>
+    ensures moves { (s : ModuleRules) (t : standing_type) → gates.now ≡ type_gates s → Moves s result (values.size_of_gate s t gate.now inside.now part) }
+    ensures costs { (s : ModuleRules) → Costs s 0 result }
 {
     let found = gate_named(
         gates,
@@ -148,13 +148,13 @@ fn size_of_gate<'m>(
 
 /// The size of a gate of what stands there, by the inside of the module around, whose submodules
 /// have these names.
-pub fn size_from<'m, S: Scene>(
+pub fn size_from<'m, S: ModuleSource>(
     scene: &S,
     names: &Names,
     stands: &Stands,
     gate: &Text,
     inside: &Inside,
-) -> Result<Moved<'m>, Stop>
+) -> Result<Moved<'m>, InsideError>
     ensures moves { Moves (S.setting scene.now) result (size_from (S.setting scene.now) names.now (standing_by stands.now) gate.now (found_as.Inside inside.now)) }
     ensures costs { Costs (S.setting scene.now) 0 result }
 {

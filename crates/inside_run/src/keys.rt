@@ -6,7 +6,7 @@ ghost use Rattle.inside_parts.specs.Gates as type_gates;
 ghost use Rattle.ned_types.specs.Flat.{submodule_named};
 ghost use Rattle.sim_values.specs.declared.value.Value.TheVariants as value_as;
 ghost use Rattle.inside_keys.specs.Given.{condition_posed, gate_size_posed, has_vector, parameter_posed, vector_size_posed};
-ghost use Rattle.inside_keys.specs.Settings.{Setting, declarer, declarer_of};
+ghost use Rattle.inside_keys.specs.Settings.{ModuleRules, declarer, declarer_of};
 ghost use Rattle.inside_keys.specs.Values as values;
 ghost use Rattle.inside_run.specs.Going as going;
 ghost use Rattle.inside_run.specs.Going.{Moves, bodied};
@@ -16,13 +16,13 @@ ghost use Rattle.inside_run.specs.Weights.{Costs, around_weight, body_weight, po
 use crate::channels::{begin_carrier, begin_channel};
 use crate::inside::begin_inside;
 use crate::posed::{begin_posed, condition, gate_size, parameter, vector_size};
-use crate::progress::{Moved, Progress, Reading};
+use crate::progress::{KeyProgress, Moved, Reading};
 use crate::reading::read;
-use crate::scene::{Scene, Stands, submodule_in};
+use crate::scene::{ModuleSource, Stands, submodule_in};
 use inside_keys::found::Found;
 use inside_keys::key::{Module, What};
 use inside_keys::sizes::has_vector;
-use inside_parts::fault::{Fault, Stop};
+use inside_parts::fault::{InsideError, InsideFault};
 use inside_parts::gates::gates_of;
 use ned_trees::declarations::{Submodule, TypeDeclaration};
 use ned_types::flat::submodule_named;
@@ -51,14 +51,14 @@ fn declarer_of(stands: &Stands) -> Option<&Module>
 }
 
 /// A declared size: a vector whose size is given nowhere has none.
-fn declared_size<'m, S: Scene>(
+fn declared_size<'m, S: ModuleSource>(
     alloc: Global,
     scene: &'m S,
     site: &Module,
     name: &Text,
     declared: &'m TypeDeclaration,
     submodule: Option<&'m Submodule>,
-) -> Result<Moved<'m>, Stop>
+) -> Result<Moved<'m>, InsideError>
     ensures moves { Moves (S.setting scene.now) result (values.sized_or_open (S.setting scene.now) (gate_size_posed (S.setting scene.now) site.now declared.now (values.body_by (option_copied submodule.entry)) name.now)) }
     ensures costs { Costs (S.setting scene.now) (posed_weight (gate_size_posed (S.setting scene.now) site.now declared.now (values.body_by (option_copied submodule.entry)) name.now)) result }
 {
@@ -69,32 +69,32 @@ fn declared_size<'m, S: Scene>(
 }
 
 /// The declared size of a gate of a module of that type, which that submodule declares.
-fn declared_gate<'m, S: Scene>(
+fn declared_gate<'m, S: ModuleSource>(
     alloc: Global,
     scene: &'m S,
     site: &Module,
     name: &Text,
     declared: &'m TypeDeclaration,
     submodule: Option<&'m Submodule>,
-) -> Result<Moved<'m>, Stop>
+) -> Result<Moved<'m>, InsideError>
     ensures moves { Moves (S.setting scene.now) result (values.declared_asking (S.setting scene.now) site.now declared.now name.now (values.body_by (option_copied submodule.entry))) }
     ensures costs { Costs (S.setting scene.now) (posed_weight (gate_size_posed (S.setting scene.now) site.now declared.now (values.body_by (option_copied submodule.entry)) name.now)) result }
 {
     if !is_gate_vector(alloc, declared, name)? {
-        return Err(Stop::Fault(Fault::NoGate));
+        return Err(InsideError::Fault(InsideFault::NoGate));
     }
     declared_size(alloc, scene, site, name, declared, submodule)
 }
 
 /// A parameter of a module of that type, which that submodule declares.
-fn parameter_of<'m, S: Scene>(
+fn parameter_of<'m, S: ModuleSource>(
     alloc: Global,
     scene: &'m S,
     site: &Module,
     name: &Text,
     declared: &'m TypeDeclaration,
     submodule: Option<&'m Submodule>,
-) -> Result<Moved<'m>, Stop>
+) -> Result<Moved<'m>, InsideError>
     ensures moves { Moves (S.setting scene.now) result (values.posed_asking (parameter_posed (S.setting scene.now) site.now declared.now (values.body_by (option_copied submodule.entry)) name.now)) }
     ensures costs { Costs (S.setting scene.now) (posed_weight (parameter_posed (S.setting scene.now) site.now declared.now (values.body_by (option_copied submodule.entry)) name.now)) result }
 {
@@ -103,32 +103,32 @@ fn parameter_of<'m, S: Scene>(
 }
 
 /// A parameter or a declared size of a module of that type, which that submodule declares.
-pub fn with_body<'m, S: Scene>(
+pub fn with_body<'m, S: ModuleSource>(
     alloc: Global,
     scene: &'m S,
     site: &Module,
     what: &What,
     declared: &'m TypeDeclaration,
     submodule: Option<&'m Submodule>,
-) -> Result<Moved<'m>, Stop>
+) -> Result<Moved<'m>, InsideError>
     ensures moves { Moves (S.setting scene.now) result (bodied (S.setting scene.now) site.now what.now declared.now (values.body_by (option_copied submodule.entry))) }
     ensures costs { Costs (S.setting scene.now) (body_weight (S.setting scene.now) site.now what.now declared.now (values.body_by (option_copied submodule.entry))) result }
 {
     match what {
         What::Param(name) => parameter_of(alloc, scene, site, name, declared, submodule),
         What::Declared(name) => declared_gate(alloc, scene, site, name, declared, submodule),
-        _ => Err(Stop::Fault(Fault::Unassigned)),
+        _ => Err(InsideError::Fault(InsideFault::Unassigned)),
     }
 }
 
 /// A parameter or a declared size of a module of that type: what its body says is found first.
-fn begin_with_body<'m, S: Scene>(
+fn begin_with_body<'m, S: ModuleSource>(
     alloc: Global,
     scene: &'m S,
     site: Module,
     what: What,
     declared: &'m TypeDeclaration,
-) -> Result<Moved<'m>, Stop>
+) -> Result<Moved<'m>, InsideError>
     ensures moves { Moves (S.setting scene.now) result (values.body_then (S.setting scene.now) site (bodied (S.setting scene.now) site what declared.now)) }
     ensures costs { Costs (S.setting scene.now) (1 + body_weight (S.setting scene.now) site what declared.now values.no_body
         + around_weight (S.setting scene.now) site what declared.now ((S.setting scene.now).stands site).name) result }
@@ -138,19 +138,19 @@ fn begin_with_body<'m, S: Scene>(
         Some(around) => {
             let key = around.key(alloc, What::Type)?;
             let name = stands.name.copy(alloc)?;
-            Ok(Moved::Asks(key, Progress::BodyAround(site, what, declared, name)))
+            Ok(Moved::Asks(key, KeyProgress::BodyAround(site, what, declared, name)))
         }
         None => with_body(alloc, scene, &site, &what, declared, None),
     }
 }
 
 /// The finished size of a gate: it is read off the inside of the module around, where there is one.
-fn finished_size<'m, S: Scene>(
+fn finished_size<'m, S: ModuleSource>(
     alloc: Global,
     scene: &'m S,
     site: &Module,
     gate: Text,
-) -> Result<Moved<'m>, Stop>
+) -> Result<Moved<'m>, InsideError>
     ensures moves { Moves (S.setting scene.now) result (values.gate_size (S.setting scene.now) site.now gate (declarer (S.setting scene.now) site.now)) }
     ensures costs { Costs (S.setting scene.now) 2 result }
 {
@@ -159,11 +159,11 @@ fn finished_size<'m, S: Scene>(
         Some(around) => {
             let key = around.key(alloc, What::Type)?;
             let around = around.copy(alloc)?;
-            Ok(Moved::Asks(key, Progress::InsideAround(around, stands, gate)))
+            Ok(Moved::Asks(key, KeyProgress::InsideAround(around, stands, gate)))
         }
         None => {
             let key = site.key(alloc, What::Declared(gate))?;
-            Ok(Moved::Asks(key, Progress::Same))
+            Ok(Moved::Asks(key, KeyProgress::Same))
         }
     }
 }
@@ -174,62 +174,62 @@ fn size_of<'m>(
     site: Module,
     name: Text,
     declared: &TypeDeclaration,
-) -> Result<Moved<'m>, Stop>
-    ensures moves { (s : Setting) → Moves s result (values.size_of s site name declared.now) }
-    ensures costs { (s : Setting) → Costs s 3 result }
+) -> Result<Moved<'m>, InsideError>
+    ensures moves { (s : ModuleRules) → Moves s result (values.size_of s site name declared.now) }
+    ensures costs { (s : ModuleRules) → Costs s 3 result }
 {
     if is_gate_vector(alloc, declared, &name)? {
         let key = site.key(alloc, What::GateSize(name))?;
-        return Ok(Moved::Asks(key, Progress::Same));
+        return Ok(Moved::Asks(key, KeyProgress::Same));
     }
     let submodule = submodule_named(name.as_bytes(), declared.submodules.as_slice());
     read(alloc, site, Reading::Size, submodule)
 }
 
 /// The number of a type, if there is one.
-pub fn numbered<'m>(number: Option<usize>) -> Result<Moved<'m>, Stop>
+pub fn numbered<'m>(number: Option<usize>) -> Result<Moved<'m>, InsideError>
     requires { IfSome number (λ n. n < 2 ^ 63) }
-    ensures moves { (s : Setting) → Moves s result (values.numbered s number) }
-    ensures costs { (s : Setting) → Costs s 0 result }
+    ensures moves { (s : ModuleRules) → Moves s result (values.numbered s number) }
+    ensures costs { (s : ModuleRules) → Costs s 0 result }
 {
     match number {
         Some(number) => Ok(Moved::Done(Found::Value(Value::Whole(number as i64)))),
-        None => Err(Stop::Fault(Fault::UnknownType)),
+        None => Err(InsideError::Fault(InsideFault::UnknownType)),
     }
 }
 
 /// The type of a module: its nesting comes first.
-pub fn begin_type<'m, S: Scene>(
+pub fn begin_type<'m, S: ModuleSource>(
     alloc: Global,
     scene: &'m S,
     site: &Module,
-) -> Result<Moved<'m>, Stop>
+) -> Result<Moved<'m>, InsideError>
     ensures { Moves (S.setting scene.now) result (values.type_asking (S.setting scene.now) site.now) }
 {
     let stands = scene.standing(alloc, site)?;
     match declarer_of(&stands) {
         Some(around) => {
             if scene.is_too_deep(site) {
-                return Err(Stop::Fault(Fault::TooDeep));
+                return Err(InsideError::Fault(InsideFault::TooDeep));
             }
             let key = around.key(alloc, What::Type)?;
             let name = stands.name.copy(alloc)?;
             let (site, around) = (site.copy(alloc)?, around.copy(alloc)?);
-            Ok(Moved::Asks(key, Progress::TypeAround(site, around, name)))
+            Ok(Moved::Asks(key, KeyProgress::TypeAround(site, around, name)))
         }
         None => numbered(scene.root(site)),
     }
 }
 
 /// The condition of a submodule that the type declares.
-fn begin_condition<'m, S: Scene>(
+fn begin_condition<'m, S: ModuleSource>(
     alloc: Global,
     scene: &S,
     site: &Module,
     name: &Text,
     number: usize,
     declared: &'m TypeDeclaration,
-) -> Result<Moved<'m>, Stop>
+) -> Result<Moved<'m>, InsideError>
     requires { slice_get (S.setting scene.now).types number ≡ Some declared.now }
     ensures moves { Moves (S.setting scene.now) result (values.posed_asking (condition_posed (S.setting scene.now) site.now declared.now name.now)) }
     ensures costs { Costs (S.setting scene.now) (posed_weight (condition_posed (S.setting scene.now) site.now declared.now name.now)) result }
@@ -240,14 +240,14 @@ fn begin_condition<'m, S: Scene>(
 }
 
 /// The number of elements of a vector of submodules that the type declares.
-fn begin_vector_size<'m, S: Scene>(
+fn begin_vector_size<'m, S: ModuleSource>(
     alloc: Global,
     scene: &S,
     site: &Module,
     name: &Text,
     number: usize,
     declared: &'m TypeDeclaration,
-) -> Result<Moved<'m>, Stop>
+) -> Result<Moved<'m>, InsideError>
     requires { slice_get (S.setting scene.now).types number ≡ Some declared.now }
     ensures moves { Moves (S.setting scene.now) result (values.posed_asking (vector_size_posed (S.setting scene.now) site.now declared.now name.now)) }
     ensures costs { Costs (S.setting scene.now) (posed_weight (vector_size_posed (S.setting scene.now) site.now declared.now name.now)) result }
@@ -264,9 +264,9 @@ fn begin_reading<'m>(
     reading: Reading,
     name: &Text,
     declared: &TypeDeclaration,
-) -> Result<Moved<'m>, Stop>
-    ensures moves { (s : Setting) → Moves s result (going.read site reading (submodule_named name.now declared.now.submodules)) }
-    ensures costs { (s : Setting) → Costs s 3 result }
+) -> Result<Moved<'m>, InsideError>
+    ensures moves { (s : ModuleRules) → Moves s result (going.read site reading (submodule_named name.now declared.now.submodules)) }
+    ensures costs { (s : ModuleRules) → Costs s 3 result }
 {
     let submodule = submodule_named(name.as_bytes(), declared.submodules.as_slice());
     read(alloc, site, reading, submodule)
@@ -274,7 +274,7 @@ fn begin_reading<'m>(
 
 /// Begins with something of a module of that type, which has that number; this is the number as a
 /// value.
-pub fn asked_in<'m, S: Scene>(
+pub fn asked_in<'m, S: ModuleSource>(
     alloc: Global,
     scene: &'m S,
     site: Module,
@@ -282,7 +282,7 @@ pub fn asked_in<'m, S: Scene>(
     number: usize,
     declared: &'m TypeDeclaration,
     value: &Value,
-) -> Result<Moved<'m>, Stop>
+) -> Result<Moved<'m>, InsideError>
     requires there { slice_get (S.setting scene.now).types number ≡ Some declared.now }
     requires same { value.now ≡ value_as.Whole (pos number) }
     ensures moves { Moves (S.setting scene.now) result (values.asking_in (S.setting scene.now) site what number declared.now) }

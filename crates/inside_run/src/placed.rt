@@ -9,14 +9,14 @@ ghost use Rattle.inside_keys.specs.Values.{asking_of, rules_of, value_at};
 ghost use Rattle.inside_keys.specs.declared.key.What.TheVariants as of;
 
 use crate::asker::Keys;
-use crate::scene::Scene;
+use crate::scene::ModuleSource;
 use crate::values::value_of;
 use inside_keys::found::Found;
 use inside_keys::key::{Key, Module, What};
-use inside_parts::fault::Fault;
+use inside_parts::fault::InsideFault;
 use param_engine::asker::Asker;
 use param_engine::table::Table;
-use param_engine::turn::Turn;
+use param_engine::turn::EngineStep;
 use sim_values::NoMemory;
 use sim_values::text::Text;
 use std::alloc::Global;
@@ -77,13 +77,13 @@ fn blamed(
 
 /// What comes of the inside of a module, or the first fault with its path. Values are looked for in
 /// the table, and noted there.
-pub fn placed<S: Scene>(
+pub fn placed<S: ModuleSource>(
     alloc: Global,
     scene: &S,
     table: &mut Table<Key, Found>,
     site: &Module,
     around: Option<&Module>,
-) -> Result<Result<Found, (Text, Fault)>, NoMemory>
+) -> Result<Result<Found, (Text, InsideFault)>, NoMemory>
     requires { IsKept (rules_of (S.setting scene.now)) table.old.entries }
     ensures placed { IfOk result (λ found. found ≡ blame.placed (value_at (S.setting scene.now)) site.now (option_copied around.entry)
         (asking_of (S.setting scene.now) (keys.key site.now of.Inside))) }
@@ -94,9 +94,9 @@ pub fn placed<S: Scene>(
     let (mut progress, mut turn) = asker.start(alloc, &key)?;
     loop {
         turn = match turn {
-            Turn::Done(found) => return Ok(Ok(found)),
-            Turn::Fault(fault) => return Ok(Err((site.path.copy(alloc)?, fault))),
-            Turn::Ask(key) => {
+            EngineStep::Done(found) => return Ok(Ok(found)),
+            EngineStep::Fault(fault) => return Ok(Err((site.path.copy(alloc)?, fault))),
+            EngineStep::Ask(key) => {
                 let path = blamed(alloc, site, around, &key)?;
                 match value_of(alloc, scene, table, key)? {
                     Ok(place) => {

@@ -9,31 +9,31 @@ ghost use Rattle.inside_keys.specs.Asked.{valued_then};
 ghost use Rattle.inside_keys.specs.Checks.{checked};
 ghost use Rattle.inside_keys.specs.Given as given;
 ghost use Rattle.inside_keys.specs.Places.{meant_under};
-ghost use Rattle.inside_keys.specs.Settings.{Setting, index_at, place_in};
+ghost use Rattle.inside_keys.specs.Settings.{ModuleRules, index_at, place_in};
 ghost use Rattle.inside_keys.specs.Values.{body_by, kept, posed_asking};
 ghost use Rattle.inside_keys.specs.declared.found.Found.TheVariants as found_as;
 ghost use Rattle.inside_run.specs.Going.{Moves, goes_on};
 ghost use Rattle.inside_run.specs.Posing.{maybe_posed};
 ghost use Rattle.inside_run.specs.Weights.{Costs, posed_weight};
-ghost use Rattle.inside_run.specs.declared.progress.Progress.TheVariants as waits;
+ghost use Rattle.inside_run.specs.declared.progress.KeyProgress.TheVariants as waits;
 
-use crate::progress::{Moved, Posing, Progress};
+use crate::progress::{KeyProgress, Moved, Posing};
 use crate::reach::{Reached, reach};
-use crate::scene::{Scene, Stands};
+use crate::scene::{ModuleSource, Stands};
 use ini_trees::entry::EntryValue;
 use inside_keys::channel::kind_of;
 use inside_keys::check::{Check, checked};
 use inside_keys::found::Found;
 use inside_keys::key::Module;
-use inside_keys::place::{Binding, Place, Section};
-use inside_parts::fault::{Fault, Stop};
+use inside_keys::place::{Binding, ExpressionPlace, Section};
+use inside_parts::fault::{InsideError, InsideFault};
 use inside_parts::stack::Stack;
 use ned_trees::declarations::{
     Declaration, GateLine, GateSize, ParameterValue, SectionLine, Submodule, TypeDeclaration,
 };
 use ned_trees::expressions::Expression;
 use ned_types::flat::{declaration_named, last_value};
-use param_eval::evaluation::{Evaluation, Turn};
+use param_eval::evaluation::{Evaluation, EvaluationStep};
 use param_values::scene::{Given, Section as WrittenSection, Written};
 use sim_values::NoMemory;
 use sim_values::text::Text;
@@ -46,34 +46,34 @@ use std::alloc::Global;
 #[derive(Drop)]
 pub struct Posable<'m> {
     pub expression: &'m Expression,
-    pub place: Place,
+    pub place: ExpressionPlace,
     /// The innermost first.
     pub variables: Stack<Binding>,
     pub check: Check,
 }
 
 /// The value, where it is what it has to be.
-fn kept<'m>(check: Check, value: Value) -> Result<Moved<'m>, Stop>
-    ensures moves { (s : Setting) → Moves s result (kept (checked check value)) }
-    ensures costs { (s : Setting) → Costs s 0 result }
+fn kept<'m>(check: Check, value: Value) -> Result<Moved<'m>, InsideError>
+    ensures moves { (s : ModuleRules) → Moves s result (kept (checked check value)) }
+    ensures costs { (s : ModuleRules) → Costs s 0 result }
 {
     match checked(check, value) {
         Ok(value) => Ok(Moved::Done(Found::Value(value))),
-        Err(fault) => Err(Stop::Fault(fault)),
+        Err(fault) => Err(InsideError::Fault(fault)),
     }
 }
 
 /// Goes on with an expression until it needs a value, or has its own.
 fn pose<'m>(
     alloc: Global,
-    place: Place,
+    place: ExpressionPlace,
     variables: Stack<Binding>,
     check: Check,
     evaluation: Evaluation<'m>,
-    turn: Turn<'m>,
-) -> Result<Moved<'m>, Stop>
-    ensures moves { (s : Setting) → Moves s result (valued_then (meant_under variables place) (evaluating.came_to evaluation.entry turn.entry) (λ u. kept (checked check u))) }
-    ensures costs { (s : Setting) → Costs s (evaluating.asks turn.entry + evaluating.left evaluation.entry) result }
+    turn: EvaluationStep<'m>,
+) -> Result<Moved<'m>, InsideError>
+    ensures moves { (s : ModuleRules) → Moves s result (valued_then (meant_under variables place) (evaluating.came_to evaluation.entry turn.entry) (λ u. kept (checked check u))) }
+    ensures costs { (s : ModuleRules) → Costs s (evaluating.asks turn.entry + evaluating.left evaluation.entry) result }
 {
     let mut evaluation = evaluation;
     match reach(alloc, &place, &variables, &mut evaluation, turn)? {
@@ -85,18 +85,18 @@ fn pose<'m>(
                 variables,
                 check,
             };
-            Ok(Moved::Asks(key, Progress::Posed(Boxed::new(alloc, posing)?)))
+            Ok(Moved::Asks(key, KeyProgress::Posed(Boxed::new(alloc, posing)?)))
         }
     }
 }
 
 /// Begins with an expression that gives a value, if there is one.
-pub fn begin_posed<'m>(alloc: Global, posed: Option<Posable<'m>>) -> Result<Moved<'m>, Stop>
-    ensures moves { (s : Setting) → Moves s result (posed_asking (maybe_posed posed.entry)) }
-    ensures costs { (s : Setting) → Costs s (posed_weight (maybe_posed posed.entry)) result }
+pub fn begin_posed<'m>(alloc: Global, posed: Option<Posable<'m>>) -> Result<Moved<'m>, InsideError>
+    ensures moves { (s : ModuleRules) → Moves s result (posed_asking (maybe_posed posed.entry)) }
+    ensures costs { (s : ModuleRules) → Costs s (posed_weight (maybe_posed posed.entry)) result }
 {
     let Some(posed) = posed else {
-        return Err(Stop::Fault(Fault::Unassigned));
+        return Err(InsideError::Fault(InsideFault::Unassigned));
     };
     let Posable {
         expression,
@@ -109,9 +109,13 @@ pub fn begin_posed<'m>(alloc: Global, posed: Option<Posable<'m>>) -> Result<Move
 }
 
 /// Goes on with the value of what it names.
-pub fn go_on_posed<'m>(alloc: Global, posing: Posing<'m>, value: &Value) -> Result<Moved<'m>, Stop>
-    ensures moves { (s : Setting) → Moves s result (goes_on s (waits.Posed posing.entry) (found_as.Value value.now)) }
-    ensures costs { (s : Setting) → Costs s (evaluating.left posing.entry.evaluation) result }
+pub fn go_on_posed<'m>(
+    alloc: Global,
+    posing: Posing<'m>,
+    value: &Value,
+) -> Result<Moved<'m>, InsideError>
+    ensures moves { (s : ModuleRules) → Moves s result (goes_on s (waits.Posed posing.entry) (found_as.Value value.now)) }
+    ensures costs { (s : ModuleRules) → Costs s (evaluating.left posing.entry.evaluation) result }
 {
     let Posing {
         mut evaluation,
@@ -124,7 +128,7 @@ pub fn go_on_posed<'m>(alloc: Global, posing: Posing<'m>, value: &Value) -> Resu
 }
 
 /// The index of the module around, where that has one.
-fn index_at<S: Scene>(
+fn index_at<S: ModuleSource>(
     alloc: Global,
     scene: &S,
     around: Option<&Module>,
@@ -141,19 +145,19 @@ fn index_at<S: Scene>(
 }
 
 /// Where an expression stands that says something of a module in that section.
-pub fn place_in<S: Scene>(
+pub fn place_in<S: ModuleSource>(
     alloc: Global,
     scene: &S,
     site: &Module,
     section: Section,
-) -> Result<Place, NoMemory>
+) -> Result<ExpressionPlace, NoMemory>
     ensures { IfOk result (λ place. place ≡ place_in (S.setting scene.now) site.now section) }
 {
     let stands = scene.standing(alloc, site)?;
     let around_index = index_at(alloc, scene, stands.around.as_ref())?;
     let own = site.copy(alloc)?;
     let Stands { around, index, .. } = stands;
-    Ok(Place {
+    Ok(ExpressionPlace {
         own,
         around,
         section,
@@ -164,7 +168,7 @@ pub fn place_in<S: Scene>(
 }
 
 /// An expression that stands there, if there is one.
-fn maybe<'m, S: Scene>(
+fn maybe<'m, S: ModuleSource>(
     alloc: Global,
     scene: &S,
     site: &Module,
@@ -187,7 +191,7 @@ fn maybe<'m, S: Scene>(
 }
 
 /// The condition of a submodule.
-pub fn condition<'m, S: Scene>(
+pub fn condition<'m, S: ModuleSource>(
     alloc: Global,
     scene: &S,
     site: &Module,
@@ -210,7 +214,7 @@ pub fn condition<'m, S: Scene>(
 }
 
 /// The size of a vector of submodules.
-pub fn vector_size<'m, S: Scene>(
+pub fn vector_size<'m, S: ModuleSource>(
     alloc: Global,
     scene: &S,
     site: &Module,
@@ -326,7 +330,7 @@ fn parameter_path(alloc: Global, site: &Module, name: &Text) -> Result<Text, NoM
 }
 
 /// What gives a parameter its value, of what the NED text and the ini text say.
-fn written<'m, S: Scene>(
+fn written<'m, S: ModuleSource>(
     alloc: Global,
     scene: &'m S,
     site: &Module,
@@ -343,7 +347,7 @@ fn written<'m, S: Scene>(
 }
 
 /// What gives a parameter its value that is declared so.
-fn parameter_declared<'m, S: Scene>(
+fn parameter_declared<'m, S: ModuleSource>(
     alloc: Global,
     scene: &'m S,
     site: &Module,
@@ -368,7 +372,7 @@ fn parameter_declared<'m, S: Scene>(
 
 /// What gives a parameter of a module its value, which is of that type, and declared by that
 /// submodule.
-pub fn parameter<'m, S: Scene>(
+pub fn parameter<'m, S: ModuleSource>(
     alloc: Global,
     scene: &'m S,
     site: &Module,
@@ -417,7 +421,7 @@ fn last_size<'m>(name: &[u8], lines: &'m [GateLine]) -> Option<&'m Expression>
 }
 
 /// What gives a gate vector its size: the body goes before the lines of the type.
-pub fn gate_size<'m, S: Scene>(
+pub fn gate_size<'m, S: ModuleSource>(
     alloc: Global,
     scene: &S,
     site: &Module,

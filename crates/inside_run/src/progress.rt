@@ -4,7 +4,7 @@ use crate::scene::Stands;
 use inside_keys::check::Check;
 use inside_keys::found::{Found, State};
 use inside_keys::key::{ChannelAt, Key, Module, What};
-use inside_keys::place::{Binding, Place};
+use inside_keys::place::{Binding, ExpressionPlace};
 use inside_parts::names::Names;
 use inside_parts::stack::Stack;
 use inside_walk::task::{Doing, Ground, Task};
@@ -18,7 +18,7 @@ use sqlite_items::Boxed;
 #[derive(Drop)]
 pub struct Posing<'m> {
     pub evaluation: Evaluation<'m>,
-    pub place: Place,
+    pub place: ExpressionPlace,
     /// The loop variables in scope, the innermost first.
     pub variables: Stack<Binding>,
     /// What its value has to be.
@@ -44,7 +44,7 @@ pub enum Reading {
 #[derive(Drop)]
 pub struct Choosing<'m> {
     pub evaluation: Evaluation<'m>,
-    pub place: Place,
+    pub place: ExpressionPlace,
     /// The type in whose text the submodule stands.
     pub declared: &'m TypeDeclaration,
     pub parametric: &'m ParametricType,
@@ -78,7 +78,7 @@ pub struct Walking<'m> {
 /// A key that is being evaluated, by the value that it waits for. It goes from hand to hand at each
 /// value, so what is large in it stands in boxes.
 #[derive(Drop)]
-pub enum Progress<'m> {
+pub enum KeyProgress<'m> {
     /// The type of its module.
     OwnType(Module, What),
     /// The type of the second module, which is around the first and declares it under that name.
@@ -112,6 +112,6 @@ pub enum Progress<'m> {
 #[derive(Drop)]
 pub enum Moved<'m> {
     /// It needs the value of a key.
-    Asks(Key, Progress<'m>),
+    Asks(Key, KeyProgress<'m>),
     Done(Found),
 }

@@ -8,9 +8,9 @@ ghost use Rattle.inside_run.specs.Runs.{Reaches, needs};
 
 use crate::variables::Variables;
 use inside_keys::key::Key;
-use inside_keys::place::{Meaning, Place};
-use inside_parts::fault::{Fault, Stop, of_value};
-use param_eval::evaluation::{Evaluation, Turn};
+use inside_keys::place::{ExpressionPlace, Meaning};
+use inside_parts::fault::{InsideError, InsideFault, of_value};
+use param_eval::evaluation::{Evaluation, EvaluationStep};
 use param_eval::names::Name;
 use sim_values::NoMemory;
 use sim_values::value::Value;
@@ -27,7 +27,7 @@ pub enum Reached {
 /// What a reference means where an expression stands, under the loop variables in scope.
 fn meaning<V: Variables>(
     alloc: Global,
-    place: &Place,
+    place: &ExpressionPlace,
     variables: &V,
     name: Name<'_>,
 ) -> Result<Meaning, NoMemory>
@@ -44,23 +44,23 @@ fn meaning<V: Variables>(
 /// Goes on with an expression until it has its value, or needs one.
 pub fn reach<'m, V: Variables>(
     alloc: Global,
-    place: &Place,
+    place: &ExpressionPlace,
     variables: &V,
     evaluation: &mut Evaluation<'m>,
-    turn: Turn<'m>,
-) -> Result<Reached, Stop>
+    turn: EvaluationStep<'m>,
+) -> Result<Reached, InsideError>
     ensures reaches { Reaches (meant_under (V.scope variables.now) place.now) result evaluation.new (evaluating.came_to evaluation.old turn.entry) }
     ensures less { IfOk result (λ r. needs r + evaluating.left evaluation.new ≤ evaluating.asks turn.entry + evaluating.left evaluation.old) }
 {
     let mut turn = turn;
     loop {
         turn = match turn {
-            Turn::Done(value) => return Ok(Reached::Value(value)),
-            Turn::Fault(fault) => return Err(Stop::Fault(of_value(fault))),
-            Turn::Ask(name) => match meaning(alloc, place, variables, name)? {
+            EvaluationStep::Done(value) => return Ok(Reached::Value(value)),
+            EvaluationStep::Fault(fault) => return Err(InsideError::Fault(of_value(fault))),
+            EvaluationStep::Ask(name) => match meaning(alloc, place, variables, name)? {
                 Meaning::Is(value) => evaluation.go_on(alloc, value)?,
                 Meaning::Of(key) => return Ok(Reached::Key(key)),
-                Meaning::Nothing => return Err(Stop::Fault(Fault::Unassigned)),
+                Meaning::Nothing => return Err(InsideError::Fault(InsideFault::Unassigned)),
             },
         };
     }

@@ -3,19 +3,19 @@
 ghost use Rattle.std.specs.Prelude.{◌≡◌, Some};
 ghost use Rattle.std.specs.Option.{option_copied};
 ghost use Rattle.inside_wiring.specs.Ends.{natural};
-ghost use Rattle.inside_keys.specs.Settings.{Setting};
+ghost use Rattle.inside_keys.specs.Settings.{ModuleRules};
 ghost use Rattle.inside_keys.specs.Values as values;
 ghost use Rattle.inside_keys.specs.declared.key.Module.{Module as module_type};
 ghost use Rattle.inside_keys.specs.declared.found.Found.TheVariants as found_as;
 ghost use Rattle.inside_run.specs.Going as going;
 ghost use Rattle.inside_run.specs.Going.{Moves, goes_on};
-ghost use Rattle.inside_run.specs.declared.progress.Progress.TheVariants as waits;
+ghost use Rattle.inside_run.specs.declared.progress.KeyProgress.TheVariants as waits;
 ghost use Rattle.inside_run.specs.Weights.{Costs};
 
-use crate::progress::{Moved, Progress, Reading};
+use crate::progress::{KeyProgress, Moved, Reading};
 use inside_keys::found::Found;
 use inside_keys::key::{Module, What};
-use inside_parts::fault::{Fault, Stop};
+use inside_parts::fault::{InsideError, InsideFault};
 use inside_walk::submodules::size;
 use ned_trees::declarations::Submodule;
 use sim_values::text::Text;
@@ -23,13 +23,13 @@ use sim_values::value::Value;
 use std::alloc::Global;
 
 /// Of what nothing of that kind is declared.
-fn unread<'m>(reading: &Reading) -> Result<Moved<'m>, Stop>
-    ensures moves { (s : Setting) → Moves s result (going.unread reading.now) }
-    ensures costs { (s : Setting) → Costs s 3 result }
+fn unread<'m>(reading: &Reading) -> Result<Moved<'m>, InsideError>
+    ensures moves { (s : ModuleRules) → Moves s result (going.unread reading.now) }
+    ensures costs { (s : ModuleRules) → Costs s 3 result }
 {
     match reading {
         Reading::Member(_) | Reading::Element(_, _) | Reading::Size => {
-            Err(Stop::Fault(Fault::Unassigned))
+            Err(InsideError::Fault(InsideFault::Unassigned))
         }
         Reading::Exists | Reading::ExistsAt(_) => Ok(Moved::Done(Found::Value(Value::Truth(
             false,
@@ -38,12 +38,14 @@ fn unread<'m>(reading: &Reading) -> Result<Moved<'m>, Stop>
 }
 
 /// Of one whose condition doesn't hold.
-fn absent<'m>(reading: &Reading) -> Result<Moved<'m>, Stop>
-    ensures moves { (s : Setting) → Moves s result (going.absent reading.now) }
-    ensures costs { (s : Setting) → Costs s 2 result }
+fn absent<'m>(reading: &Reading) -> Result<Moved<'m>, InsideError>
+    ensures moves { (s : ModuleRules) → Moves s result (going.absent reading.now) }
+    ensures costs { (s : ModuleRules) → Costs s 2 result }
 {
     match reading {
-        Reading::Member(_) | Reading::Element(_, _) => Err(Stop::Fault(Fault::Unassigned)),
+        Reading::Member(_) | Reading::Element(_, _) => Err(InsideError::Fault(
+            InsideFault::Unassigned,
+        )),
         Reading::Exists | Reading::ExistsAt(_) => Ok(Moved::Done(Found::Value(Value::Truth(
             false,
         )))),
@@ -58,13 +60,13 @@ fn of_child<'m>(
     name: &Text,
     index: Option<u32>,
     parameter: Text,
-) -> Result<Moved<'m>, Stop>
-    ensures moves { (s : Setting) → Moves s result (values.of_child site.now name.now index parameter) }
-    ensures costs { (s : Setting) → Costs s 1 result }
+) -> Result<Moved<'m>, InsideError>
+    ensures moves { (s : ModuleRules) → Moves s result (values.of_child site.now name.now index parameter) }
+    ensures costs { (s : ModuleRules) → Costs s 1 result }
 {
     let child = site.child(alloc, name, index)?;
     let key = child.key(alloc, What::Param(parameter))?;
-    Ok(Moved::Asks(key, Progress::Same))
+    Ok(Moved::Asks(key, KeyProgress::Same))
 }
 
 /// Asks how many elements a vector has.
@@ -73,18 +75,23 @@ fn counting<'m>(
     site: Module,
     name: Text,
     reading: Reading,
-) -> Result<Moved<'m>, Stop>
-    ensures moves { (s : Setting) → Moves s result (going.counting site name reading) }
-    ensures costs { (s : Setting) → Costs s 2 result }
+) -> Result<Moved<'m>, InsideError>
+    ensures moves { (s : ModuleRules) → Moves s result (going.counting site name reading) }
+    ensures costs { (s : ModuleRules) → Costs s 2 result }
 {
     let key = site.key(alloc, What::VectorSize(name.copy(alloc)?))?;
-    Ok(Moved::Asks(key, Progress::VectorSize(site, name, reading)))
+    Ok(Moved::Asks(key, KeyProgress::VectorSize(site, name, reading)))
 }
 
 /// Of one that is there.
-fn there<'m>(alloc: Global, site: Module, name: Text, reading: Reading) -> Result<Moved<'m>, Stop>
-    ensures moves { (s : Setting) → Moves s result (going.there site name reading) }
-    ensures costs { (s : Setting) → Costs s 2 result }
+fn there<'m>(
+    alloc: Global,
+    site: Module,
+    name: Text,
+    reading: Reading,
+) -> Result<Moved<'m>, InsideError>
+    ensures moves { (s : ModuleRules) → Moves s result (going.there site name reading) }
+    ensures costs { (s : ModuleRules) → Costs s 2 result }
 {
     match reading {
         Reading::Member(parameter) => of_child(alloc, &site, &name, None, parameter),
@@ -118,13 +125,13 @@ fn at_index<'m>(
     name: &Text,
     index: Option<u32>,
     parameter: Text,
-) -> Result<Moved<'m>, Stop>
-    ensures moves { (s : Setting) → Moves s result (values.at_index site.now name.now parameter index) }
-    ensures costs { (s : Setting) → Costs s 1 result }
+) -> Result<Moved<'m>, InsideError>
+    ensures moves { (s : ModuleRules) → Moves s result (values.at_index site.now name.now parameter index) }
+    ensures costs { (s : ModuleRules) → Costs s 1 result }
 {
     match index {
         Some(index) => of_child(alloc, site, name, Some(index), parameter),
-        None => Err(Stop::Fault(Fault::Unassigned)),
+        None => Err(InsideError::Fault(InsideFault::Unassigned)),
     }
 }
 
@@ -135,12 +142,12 @@ fn counted<'m>(
     name: &Text,
     reading: Reading,
     count: u32,
-) -> Result<Moved<'m>, Stop>
-    ensures moves { (s : Setting) → Moves s result (going.counted site.now name.now reading count) }
-    ensures costs { (s : Setting) → Costs s 1 result }
+) -> Result<Moved<'m>, InsideError>
+    ensures moves { (s : ModuleRules) → Moves s result (going.counted site.now name.now reading count) }
+    ensures costs { (s : ModuleRules) → Costs s 1 result }
 {
     match reading {
-        Reading::Member(_) | Reading::Exists => Err(Stop::Fault(Fault::Unassigned)),
+        Reading::Member(_) | Reading::Exists => Err(InsideError::Fault(InsideFault::Unassigned)),
         Reading::Element(index, parameter) => {
             at_index(alloc, site, name, among(count, index), parameter)
         }
@@ -168,9 +175,9 @@ fn read_declared<'m>(
     site: Module,
     reading: Reading,
     submodule: &Submodule,
-) -> Result<Moved<'m>, Stop>
-    ensures moves { (s : Setting) → Moves s result (going.read site reading (Some submodule.now)) }
-    ensures costs { (s : Setting) → Costs s 3 result }
+) -> Result<Moved<'m>, InsideError>
+    ensures moves { (s : ModuleRules) → Moves s result (going.read site reading (Some submodule.now)) }
+    ensures costs { (s : ModuleRules) → Costs s 3 result }
 {
     if !fits(&reading, submodule.size.is_some()) {
         return unread(&reading);
@@ -178,7 +185,7 @@ fn read_declared<'m>(
     let name = submodule.name.copy(alloc)?;
     if submodule.condition.is_some() {
         let key = site.key(alloc, What::Condition(submodule.name.copy(alloc)?))?;
-        return Ok(Moved::Asks(key, Progress::Condition(site, name, reading)));
+        return Ok(Moved::Asks(key, KeyProgress::Condition(site, name, reading)));
     }
     there(alloc, site, name, reading)
 }
@@ -189,9 +196,9 @@ pub fn read<'m>(
     site: Module,
     reading: Reading,
     submodule: Option<&Submodule>,
-) -> Result<Moved<'m>, Stop>
-    ensures moves { (s : Setting) → Moves s result (going.read site reading (option_copied submodule.entry)) }
-    ensures costs { (s : Setting) → Costs s 3 result }
+) -> Result<Moved<'m>, InsideError>
+    ensures moves { (s : ModuleRules) → Moves s result (going.read site reading (option_copied submodule.entry)) }
+    ensures costs { (s : ModuleRules) → Costs s 3 result }
 {
     match submodule {
         Some(submodule) => read_declared(alloc, site, reading, submodule),
@@ -206,14 +213,14 @@ pub fn held<'m>(
     name: Text,
     reading: Reading,
     value: &Value,
-) -> Result<Moved<'m>, Stop>
-    ensures moves { (s : Setting) → Moves s result (goes_on s (waits.Condition site name reading) (found_as.Value value.now)) }
-    ensures costs { (s : Setting) → Costs s 2 result }
+) -> Result<Moved<'m>, InsideError>
+    ensures moves { (s : ModuleRules) → Moves s result (goes_on s (waits.Condition site name reading) (found_as.Value value.now)) }
+    ensures costs { (s : ModuleRules) → Costs s 2 result }
 {
     match value {
         Value::Truth(true) => there(alloc, site, name, reading),
         Value::Truth(false) => absent(&reading),
-        _ => Err(Stop::Fault(Fault::Mismatch)),
+        _ => Err(InsideError::Fault(InsideFault::Mismatch)),
     }
 }
 
@@ -224,9 +231,9 @@ pub fn sized<'m>(
     name: Text,
     reading: Reading,
     value: &Value,
-) -> Result<Moved<'m>, Stop>
-    ensures moves { (s : Setting) → Moves s result (goes_on s (waits.VectorSize site name reading) (found_as.Value value.now)) }
-    ensures costs { (s : Setting) → Costs s 1 result }
+) -> Result<Moved<'m>, InsideError>
+    ensures moves { (s : ModuleRules) → Moves s result (goes_on s (waits.VectorSize site name reading) (found_as.Value value.now)) }
+    ensures costs { (s : ModuleRules) → Costs s 1 result }
 {
     let count = size(value)?;
     counted(alloc, &site, &name, reading, count)

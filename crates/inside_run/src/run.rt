@@ -2,7 +2,7 @@
 
 ghost use Rattle.std.specs.Prelude.{◌≡◌, ◌<◌, ◌≤◌, ℕ, List, [], IfOk, Ok};
 ghost use Rattle.param_following.specs.Asking.{Done};
-ghost use Rattle.inside_keys.specs.Asked.{Asked as asked_type};
+ghost use Rattle.inside_keys.specs.Asked.{KeyAsking as asked_type};
 ghost use Rattle.inside_keys.specs.Inside as inside;
 ghost use Rattle.inside_run.specs.Runs.{AsksWithin, Comes, IsWithin, begun_load, load, load_of};
 ghost use Rattle.inside_walk.specs.Tasks.{Halts, Leads, after, continued, done_with, halted, next_of, scope_of, wanted};
@@ -17,7 +17,7 @@ ghost use Rattle.inside_walk.specs.Weights.{Spends, of_task, of_want, cost_of_ta
 use crate::reach::{Reached, reach};
 use inside_keys::found::{Found, Inside, State};
 use inside_keys::key::WrittenAt;
-use inside_parts::fault::{Fault, Stop};
+use inside_parts::fault::{InsideError, InsideFault};
 use inside_parts::parts::{Part, Parts};
 use inside_parts::stack::Stack;
 use inside_walk::ends::{at, end, part};
@@ -31,7 +31,7 @@ use inside_wiring::ends::part_named;
 use inside_wiring::wiring::{Carrier, Wiring};
 use ned_trees::connections::Clause;
 use ned_trees::declarations::TypeDeclaration;
-use param_eval::evaluation::{Evaluation, Turn};
+use param_eval::evaluation::{Evaluation, EvaluationStep};
 use sim_values::NoMemory;
 use sim_values::value::Value;
 use sqlite_items::{Boxed, Items};
@@ -44,7 +44,7 @@ fn step<'m>(
     tasks: &mut Stack<Task<'m>>,
     task: Task<'m>,
     state: State,
-) -> Result<Next<'m>, Stop>
+) -> Result<Next<'m>, InsideError>
     ensures leads { Leads ground.now result tasks.new (after ground.now task.entry (scope_of tasks.old) state (continued ground.now tasks.old)) }
     ensures spends { Spends ground.now (of_task ground.now task.entry) (cost_of_task task.entry) tasks.old state.turns result tasks.new }
 {
@@ -72,12 +72,12 @@ fn wanted_number<'m>(
     want: Want<'m>,
     number: i64,
     state: State,
-) -> Result<Next<'m>, Stop>
+) -> Result<Next<'m>, InsideError>
     ensures leads { Leads ground.now result tasks.new (wanted ground.now want.entry (Value.Whole number) (scope_of tasks.old) state (continued ground.now tasks.old)) }
     ensures spends { Spends ground.now (of_want ground.now want.entry) (cost_of_want want.entry) tasks.old state.turns result tasks.new }
 {
     match want {
-        Want::If(_, _) => Err(Stop::Fault(Fault::Mismatch)),
+        Want::If(_, _) => Err(InsideError::Fault(InsideFault::Mismatch)),
         Want::First(variable, last, list, body) => {
             let want = Want::Last(variable, number, list, body);
             Ok(evaluate(alloc, last, want, state)?)
@@ -104,7 +104,7 @@ fn decided<'m>(
     body: Body<'m>,
     holds: bool,
     state: State,
-) -> Result<Next<'m>, Stop>
+) -> Result<Next<'m>, InsideError>
     ensures leads { Leads ground.now result tasks.new (wanted ground.now (On.If list.entry body.entry) (Value.Truth holds) (scope_of tasks.old) state (continued ground.now tasks.old)) }
     ensures spends { Spends ground.now (of_want ground.now (On.If list.entry body.entry)) (cost_of_want (On.If list.entry body.entry)) tasks.old state.turns result tasks.new }
 {
@@ -123,13 +123,13 @@ fn wanted_truth<'m>(
     want: Want<'m>,
     holds: bool,
     state: State,
-) -> Result<Next<'m>, Stop>
+) -> Result<Next<'m>, InsideError>
     ensures leads { Leads ground.now result tasks.new (wanted ground.now want.entry (Value.Truth holds) (scope_of tasks.old) state (continued ground.now tasks.old)) }
     ensures spends { Spends ground.now (of_want ground.now want.entry) (cost_of_want want.entry) tasks.old state.turns result tasks.new }
 {
     match want {
         Want::If(list, body) => decided(alloc, ground, tasks, list, body, holds, state),
-        _ => Err(Stop::Fault(Fault::Mismatch)),
+        _ => Err(InsideError::Fault(InsideFault::Mismatch)),
     }
 }
 
@@ -141,14 +141,14 @@ fn wanted<'m>(
     want: Want<'m>,
     value: Value,
     state: State,
-) -> Result<Next<'m>, Stop>
+) -> Result<Next<'m>, InsideError>
     ensures leads { Leads ground.now result tasks.new (wanted ground.now want.entry value (scope_of tasks.old) state (continued ground.now tasks.old)) }
     ensures spends { Spends ground.now (of_want ground.now want.entry) (cost_of_want want.entry) tasks.old state.turns result tasks.new }
 {
     match value {
         Value::Whole(number) => wanted_number(alloc, ground, tasks, want, number, state),
         Value::Truth(holds) => wanted_truth(alloc, ground, tasks, want, holds, state),
-        _ => Err(Stop::Fault(Fault::Mismatch)),
+        _ => Err(InsideError::Fault(InsideFault::Mismatch)),
     }
 }
 
@@ -175,7 +175,7 @@ pub enum Came<'m> {
 }
 
 /// It stops there.
-fn stopped<'m>(alloc: Global, halt: Halt<'m>) -> Result<Came<'m>, Stop>
+fn stopped<'m>(alloc: Global, halt: Halt<'m>) -> Result<Came<'m>, InsideError>
     ensures comes { (g : ground_type) (ts : List task_type) (t : asked_type) → halted g ts halt.entry ≡ t → Comes g result ts t }
     ensures within { (g : ground_type) (ts : List task_type) (n : ℕ) → AsksWithin g n ts halt.entry → IfOk result (λ c. IsWithin g n ts c) }
 {
@@ -183,7 +183,7 @@ fn stopped<'m>(alloc: Global, halt: Halt<'m>) -> Result<Came<'m>, Stop>
 }
 
 /// More is to be done.
-fn led<'m>(next: Result<Next<'m>, Stop>) -> Result<Came<'m>, Stop>
+fn led<'m>(next: Result<Next<'m>, InsideError>) -> Result<Came<'m>, InsideError>
     ensures comes { (g : ground_type) (ts : List task_type) (t : asked_type) → Leads g next.entry ts t → Comes g result ts t }
     ensures within { (g : ground_type) (ts : List task_type) (n : ℕ) → IfOk next.entry (λ m. load g m ts < n) → IfOk result (λ c. IsWithin g n ts c) }
 {
@@ -199,10 +199,10 @@ fn expressed<'m>(
     ground: &Ground<'m>,
     tasks: &mut Stack<Task<'m>>,
     evaluation: Evaluation<'m>,
-    turn: Turn<'m>,
+    turn: EvaluationStep<'m>,
     want: Want<'m>,
     state: State,
-) -> Result<Came<'m>, Stop>
+) -> Result<Came<'m>, InsideError>
     ensures comes { Comes ground.now result tasks.new (next_of ground.now tasks.old (Steps.At evaluation.entry turn.entry want.entry state)) }
     ensures within { IfOk result (λ c. IsWithin ground.now (load ground.now (Steps.At evaluation.entry turn.entry want.entry state) tasks.old) tasks.new c) }
 {
@@ -223,7 +223,7 @@ fn worked<'m>(
     ground: &Ground<'m>,
     tasks: &mut Stack<Task<'m>>,
     state: State,
-) -> Result<Came<'m>, Stop>
+) -> Result<Came<'m>, InsideError>
     ensures comes { Comes ground.now result tasks.new (next_of ground.now tasks.old (Steps.Go state)) }
     ensures within { IfOk result (λ c. IsWithin ground.now (load ground.now (Steps.Go state) tasks.old) tasks.new c) }
 {
@@ -239,7 +239,7 @@ fn moved<'m>(
     ground: &Ground<'m>,
     tasks: &mut Stack<Task<'m>>,
     next: Next<'m>,
-) -> Result<Came<'m>, Stop>
+) -> Result<Came<'m>, InsideError>
     ensures comes { Comes ground.now result tasks.new (next_of ground.now tasks.old next.entry) }
     ensures within { IfOk result (λ c. IsWithin ground.now (load ground.now next.entry tasks.old) tasks.new c) }
 {
@@ -261,7 +261,7 @@ pub fn run<'m>(
     ground: &Ground<'m>,
     tasks: &mut Stack<Task<'m>>,
     next: Next<'m>,
-) -> Result<Halt<'m>, Stop>
+) -> Result<Halt<'m>, InsideError>
     ensures halts { Halts ground.now result tasks.new (next_of ground.now tasks.old next.entry) }
     ensures within { IfOk result (λ h. AsksWithin ground.now (load ground.now next.entry tasks.old) tasks.new h) }
 {
@@ -304,7 +304,7 @@ pub fn start<'m>(
     tasks: &mut Stack<Task<'m>>,
     number: usize,
     declared: &'m TypeDeclaration,
-) -> Result<Halt<'m>, Stop>
+) -> Result<Halt<'m>, InsideError>
     requires none { tasks.old ≡ [] }
     requires names { ground.now.submodules.now ≡ inside.submodule_names declared.now }
     ensures halts { Halts ground.now result tasks.new (inside.inside ground.now.site ground.now.types.now ground.now.gates.now ground.now.is_whole ground.now.place number declared.now) }
@@ -328,7 +328,7 @@ fn resume_expression<'m>(
     want: Want<'m>,
     state: State,
     value: &Value,
-) -> Result<Next<'m>, Stop>
+) -> Result<Next<'m>, InsideError>
     ensures leads { Leads _ground.now result _tasks.new (done_with _ground.now (For.Expression evaluation.entry want.entry) _tasks.old state (As.Value value.now)) }
     ensures within { IfOk result (λ n. load _ground.now n _tasks.new ≤ load_of _ground.now (For.Expression evaluation.entry want.entry) _tasks.old state) }
 {
@@ -345,7 +345,7 @@ fn resume<'m>(
     doing: Doing<'m>,
     state: State,
     value: &Value,
-) -> Result<Next<'m>, Stop>
+) -> Result<Next<'m>, InsideError>
     ensures leads { Leads ground.now result tasks.new (done_with ground.now doing.entry tasks.old state (As.Value value.now)) }
     ensures within { IfOk result (λ n. load ground.now n tasks.new ≤ load_of ground.now doing.entry tasks.old state) }
 {
@@ -354,7 +354,7 @@ fn resume<'m>(
         Doing::Expression(evaluation, want) => {
             resume_expression(alloc, ground, tasks, evaluation, want, state, value)
         }
-        Doing::Carrier(_) => Err(Stop::Fault(Fault::Mismatch)),
+        Doing::Carrier(_) => Err(InsideError::Fault(InsideFault::Mismatch)),
     }
 }
 
@@ -366,7 +366,7 @@ pub fn go_on<'m>(
     doing: Doing<'m>,
     state: State,
     value: &Value,
-) -> Result<Halt<'m>, Stop>
+) -> Result<Halt<'m>, InsideError>
     ensures halts { Halts ground.now result tasks.new (done_with ground.now doing.entry tasks.old state (As.Value value.now)) }
     // It doesn't ask without end.
     ensures less { IfOk result (λ h. AsksWithin ground.now (load_of ground.now doing.entry tasks.old state) tasks.new h) }
@@ -383,14 +383,14 @@ fn resume_carrier<'m>(
     doing: Doing<'m>,
     state: State,
     carrier: Carrier,
-) -> Result<Next<'m>, Stop>
+) -> Result<Next<'m>, InsideError>
     ensures leads { Leads ground.now result tasks.new (done_with ground.now doing.entry tasks.old state (As.Carrier carrier)) }
     ensures within { IfOk result (λ n. load ground.now n tasks.new ≤ load_of ground.now doing.entry tasks.old state) }
 {
     match doing {
         Doing::Carrier(carry) => carried(alloc, ground, tasks, carry, carrier, state),
-        Doing::Key(_) => Err(Stop::Fault(Fault::Mismatch)),
-        Doing::Expression(_, _) => Err(Stop::Fault(Fault::Mismatch)),
+        Doing::Key(_) => Err(InsideError::Fault(InsideFault::Mismatch)),
+        Doing::Expression(_, _) => Err(InsideError::Fault(InsideFault::Mismatch)),
     }
 }
 
@@ -402,7 +402,7 @@ pub fn go_on_carrier<'m>(
     doing: Doing<'m>,
     state: State,
     carrier: Carrier,
-) -> Result<Halt<'m>, Stop>
+) -> Result<Halt<'m>, InsideError>
     ensures halts { Halts ground.now result tasks.new (done_with ground.now doing.entry tasks.old state (As.Carrier carrier)) }
     ensures less { IfOk result (λ h. AsksWithin ground.now (load_of ground.now doing.entry tasks.old state) tasks.new h) }
 {

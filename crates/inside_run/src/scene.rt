@@ -3,7 +3,7 @@
 ghost use Rattle.std.specs.Prelude.{◌≡◌, ◌<◌, ◌^◌, IfOk, IfSome, Some, slice_get};
 ghost use Rattle.std.specs.Option.{option_copied};
 ghost use Rattle.inside_parts.specs.Names.{position_of};
-ghost use Rattle.inside_keys.specs.Settings.{Setting, type_gates, type_names};
+ghost use Rattle.inside_keys.specs.Settings.{ModuleRules, type_gates, type_names};
 ghost use Rattle.inside_run.specs.Scenes.{names_in, standing_by};
 ghost use Rattle.ned_types.specs.Flat.{submodule_named};
 
@@ -32,9 +32,9 @@ pub struct Stands {
 }
 
 /// What a model tells of its modules.
-pub trait Scene {
+pub trait ModuleSource {
     /// All that values rest on.
-    ghost setting: { Self → Setting };
+    ghost setting: { Self → ModuleRules };
 
     /// All flat types.
     fn types(&self) -> &[TypeDeclaration]
@@ -80,7 +80,7 @@ pub trait Scene {
 
 /// The submodule of that name that the type of that number declares, found by hashing. Only a name
 /// that isn't there is looked for by going through all.
-pub fn submodule_in<'m, S: Scene>(
+pub fn submodule_in<'m, S: ModuleSource>(
     scene: &S,
     number: usize,
     declared: &'m TypeDeclaration,

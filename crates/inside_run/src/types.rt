@@ -9,29 +9,29 @@ ghost use Rattle.param_values.specs.Scenes.{maybe_written};
 ghost use Rattle.param_eval.specs.Evaluating as evaluating;
 ghost use Rattle.inside_keys.specs.Asked.{valued_then};
 ghost use Rattle.inside_keys.specs.Places.{meant_under};
-ghost use Rattle.inside_keys.specs.Settings.{Setting};
+ghost use Rattle.inside_keys.specs.Settings.{ModuleRules};
 ghost use Rattle.inside_keys.specs.Values as values;
 ghost use Rattle.inside_keys.specs.declared.found.Found.TheVariants as found_as;
 ghost use Rattle.inside_run.specs.Going.{Moves, goes_on};
 ghost use Rattle.inside_run.specs.Weights.{Costs, choice_weight, chosen_weight, written_weight};
-ghost use Rattle.inside_run.specs.declared.progress.Progress.TheVariants as waits;
+ghost use Rattle.inside_run.specs.declared.progress.KeyProgress.TheVariants as waits;
 
 use crate::keys::numbered;
 use crate::posed::{chosen, given_in, place_in};
-use crate::progress::{Choosing, Moved, Progress};
+use crate::progress::{Choosing, KeyProgress, Moved};
 use crate::reach::{Reached, reach};
-use crate::scene::Scene;
+use crate::scene::ModuleSource;
 use crate::variables::NoVariables;
 use ini_trees::speaks::last_name;
 use inside_keys::channel::is_built_in;
 use inside_keys::key::Module;
-use inside_keys::place::{Place, Section};
-use inside_parts::fault::{Fault, Stop};
+use inside_keys::place::{ExpressionPlace, Section};
+use inside_parts::fault::{InsideError, InsideFault};
 use ned_trees::declarations::{
     ParametricType, SectionLine, Submodule, SubmoduleBody, SubmoduleType, TypeDeclaration, TypeKind,
 };
 use ned_types::given::{fixes, name_in, value_in};
-use param_eval::evaluation::{Evaluation, Turn};
+use param_eval::evaluation::{Evaluation, EvaluationStep};
 use param_values::scene::{Section as WrittenSection, Written};
 use sim_values::NoMemory;
 use sim_values::text::Text;
@@ -62,7 +62,10 @@ fn inner_name(alloc: Global, declared: &TypeDeclaration, name: &[u8]) -> Result<
 }
 
 /// What a type extends.
-fn base_of<'m, S: Scene>(scene: &'m S, declared: &TypeDeclaration) -> Option<&'m TypeDeclaration>
+fn base_of<'m, S: ModuleSource>(
+    scene: &'m S,
+    declared: &TypeDeclaration,
+) -> Option<&'m TypeDeclaration>
     ensures { option_copied result ≡ option_and_then (values.type_named (S.setting scene.now)) declared.now.base }
 {
     let name = declared.base.as_ref()?;
@@ -70,7 +73,7 @@ fn base_of<'m, S: Scene>(scene: &'m S, declared: &TypeDeclaration) -> Option<&'m
 }
 
 /// The type of that name that stands within a type, or else within what that extends, and so on.
-fn inner_along<'m, S: Scene>(
+fn inner_along<'m, S: ModuleSource>(
     alloc: Global,
     scene: &'m S,
     declared: &'m TypeDeclaration,
@@ -96,7 +99,7 @@ fn inner_along<'m, S: Scene>(
 }
 
 /// Which type a name means in the text of a type.
-fn type_meant<S: Scene>(
+fn type_meant<S: ModuleSource>(
     alloc: Global,
     scene: &S,
     declared: &TypeDeclaration,
@@ -168,90 +171,90 @@ fn kept_type<'m>(
     body: &SubmoduleBody,
     number: usize,
     declared: Option<&TypeDeclaration>,
-) -> Result<Moved<'m>, Stop>
+) -> Result<Moved<'m>, InsideError>
     requires { number < 2 ^ 63 }
-    ensures moves { (s : Setting) → Moves s result (values.kept_type s parametric.now body.now number (option_copied declared.entry)) }
-    ensures costs { (s : Setting) → Costs s 0 result }
+    ensures moves { (s : ModuleRules) → Moves s result (values.kept_type s parametric.now body.now number (option_copied declared.entry)) }
+    ensures costs { (s : ModuleRules) → Costs s 0 result }
 {
     match declared {
         Some(declared) => {
             if keeps(parametric, body, declared) {
                 numbered(Some(number))
             } else {
-                Err(Stop::Fault(Fault::Interface))
+                Err(InsideError::Fault(InsideFault::Interface))
             }
         }
-        None => Err(Stop::Fault(Fault::UnknownType)),
+        None => Err(InsideError::Fault(InsideFault::UnknownType)),
     }
 }
 
 /// The type of that number, if there is one.
-fn type_at<S: Scene>(scene: &S, number: usize) -> Option<&TypeDeclaration>
+fn type_at<S: ModuleSource>(scene: &S, number: usize) -> Option<&TypeDeclaration>
     ensures { option_copied result ≡ slice_get (S.setting scene.now).types number }
 {
     scene.types().get(number)
 }
 
 /// What is wrong with a name that no type has: a built-in channel is no type of modules.
-fn no_type(name: &Text) -> Fault
-    ensures { (s : Setting) → result ≡ values.no_type s name.now }
+fn no_type(name: &Text) -> InsideFault
+    ensures { (s : ModuleRules) → result ≡ values.no_type s name.now }
 {
     if is_built_in(last_name(name.as_bytes())) {
-        Fault::Interface
+        InsideFault::Interface
     } else {
-        Fault::UnknownType
+        InsideFault::UnknownType
     }
 }
 
 /// The type that a name means, where it may stand there.
-fn named_type<'m, S: Scene>(
+fn named_type<'m, S: ModuleSource>(
     alloc: Global,
     scene: &S,
     declared: &TypeDeclaration,
     parametric: &ParametricType,
     body: &SubmoduleBody,
     name: &Text,
-) -> Result<Moved<'m>, Stop>
+) -> Result<Moved<'m>, InsideError>
     ensures moves { Moves (S.setting scene.now) result (values.type_found (S.setting scene.now) parametric.now body.now name.now (values.type_meant (S.setting scene.now) declared.now name.now)) }
     ensures costs { Costs (S.setting scene.now) 0 result }
 {
     match type_meant(alloc, scene, declared, name)? {
         Some(number) => kept_type(parametric, body, number, type_at(scene, number)),
-        None => Err(Stop::Fault(no_type(name))),
+        None => Err(InsideError::Fault(no_type(name))),
     }
 }
 
 /// The type that a value names.
-fn told<'m, S: Scene>(
+fn told<'m, S: ModuleSource>(
     alloc: Global,
     scene: &S,
     declared: &TypeDeclaration,
     parametric: &ParametricType,
     body: &SubmoduleBody,
     value: Value,
-) -> Result<Moved<'m>, Stop>
+) -> Result<Moved<'m>, InsideError>
     ensures moves { Moves (S.setting scene.now) result (values.type_told (S.setting scene.now) declared.now parametric.now body.now value) }
     ensures costs { Costs (S.setting scene.now) 0 result }
 {
     match value {
         Value::Text(name) => named_type(alloc, scene, declared, parametric, body, &name),
-        _ => Err(Stop::Fault(Fault::Mismatch)),
+        _ => Err(InsideError::Fault(InsideFault::Mismatch)),
     }
 }
 
 // ---- the expression
 
 /// Goes on with an expression that names a type until it needs a value, or has its own.
-fn choose<'m, S: Scene>(
+fn choose<'m, S: ModuleSource>(
     alloc: Global,
     scene: &'m S,
-    place: Place,
+    place: ExpressionPlace,
     declared: &'m TypeDeclaration,
     parametric: &'m ParametricType,
     body: &'m SubmoduleBody,
     evaluation: Evaluation<'m>,
-    turn: Turn<'m>,
-) -> Result<Moved<'m>, Stop>
+    turn: EvaluationStep<'m>,
+) -> Result<Moved<'m>, InsideError>
     ensures moves { Moves (S.setting scene.now) result (valued_then (meant_under [] place) (evaluating.came_to evaluation.entry turn.entry) (values.type_told (S.setting scene.now) declared.now parametric.now body.now)) }
     ensures costs { Costs (S.setting scene.now) (evaluating.asks turn.entry + evaluating.left evaluation.entry) result }
 {
@@ -266,19 +269,19 @@ fn choose<'m, S: Scene>(
                 parametric,
                 body,
             };
-            Ok(Moved::Asks(key, Progress::Chosen(Boxed::new(alloc, choosing)?)))
+            Ok(Moved::Asks(key, KeyProgress::Chosen(Boxed::new(alloc, choosing)?)))
         }
         Err(stop) => Err(stop),
     }
 }
 
 /// Goes on with the value of what the expression names.
-pub fn go_on_chosen<'m, S: Scene>(
+pub fn go_on_chosen<'m, S: ModuleSource>(
     alloc: Global,
     scene: &'m S,
     choosing: Choosing<'m>,
     value: &Value,
-) -> Result<Moved<'m>, Stop>
+) -> Result<Moved<'m>, InsideError>
     ensures moves { Moves (S.setting scene.now) result (goes_on (S.setting scene.now) (waits.Chosen choosing.entry) (found_as.Value value.now)) }
     ensures costs { Costs (S.setting scene.now) (evaluating.left choosing.entry.evaluation) result }
 {
@@ -305,7 +308,7 @@ fn type_path(alloc: Global, site: &Module) -> Result<Text, NoMemory>
 }
 
 /// What names the type of a submodule.
-fn written<'m, S: Scene>(
+fn written<'m, S: ModuleSource>(
     alloc: Global,
     scene: &'m S,
     site: &Module,
@@ -322,7 +325,7 @@ fn written<'m, S: Scene>(
 }
 
 /// Begins with what names the type of a submodule of the module around.
-fn begin_chosen<'m, S: Scene>(
+fn begin_chosen<'m, S: ModuleSource>(
     alloc: Global,
     scene: &'m S,
     site: &Module,
@@ -330,12 +333,12 @@ fn begin_chosen<'m, S: Scene>(
     declared: &'m TypeDeclaration,
     parametric: &'m ParametricType,
     body: &'m SubmoduleBody,
-) -> Result<Moved<'m>, Stop>
+) -> Result<Moved<'m>, InsideError>
     ensures moves { Moves (S.setting scene.now) result (values.type_chosen (S.setting scene.now) site.now around.now declared.now parametric.now body.now) }
     ensures costs { Costs (S.setting scene.now) (written_weight (values.type_written (S.setting scene.now) site.now parametric.now)) result }
 {
     let Some(written) = written(alloc, scene, site, parametric)? else {
-        return Err(Stop::Fault(Fault::Unassigned));
+        return Err(InsideError::Fault(InsideFault::Unassigned));
     };
     let place = place_in(alloc, scene, around, Section::OfInside)?;
     let (evaluation, turn) = Evaluation::start(alloc, written.expression)?;
@@ -345,14 +348,14 @@ fn begin_chosen<'m, S: Scene>(
 }
 
 /// The type of a submodule of that type's, of the module around.
-fn type_by<'m, S: Scene>(
+fn type_by<'m, S: ModuleSource>(
     alloc: Global,
     scene: &'m S,
     site: &Module,
     around: &Module,
     declared: &'m TypeDeclaration,
     submodule: &'m Submodule,
-) -> Result<Moved<'m>, Stop>
+) -> Result<Moved<'m>, InsideError>
     ensures moves { Moves (S.setting scene.now) result (values.type_by (S.setting scene.now) site.now around.now declared.now submodule.now.body submodule.now.submodule_type) }
     ensures costs { Costs (S.setting scene.now) (choice_weight (S.setting scene.now) site.now submodule.now.submodule_type) result }
 {
@@ -373,19 +376,19 @@ fn type_by<'m, S: Scene>(
 }
 
 /// The type of a submodule of the module around, if it is declared.
-pub fn type_in<'m, S: Scene>(
+pub fn type_in<'m, S: ModuleSource>(
     alloc: Global,
     scene: &'m S,
     site: &Module,
     around: &Module,
     declared: &'m TypeDeclaration,
     submodule: Option<&'m Submodule>,
-) -> Result<Moved<'m>, Stop>
+) -> Result<Moved<'m>, InsideError>
     ensures moves { Moves (S.setting scene.now) result (values.type_in (S.setting scene.now) site.now around.now declared.now (option_copied submodule.entry)) }
     ensures costs { Costs (S.setting scene.now) (chosen_weight (S.setting scene.now) site.now (option_copied submodule.entry)) result }
 {
     match submodule {
         Some(submodule) => type_by(alloc, scene, site, around, declared, submodule),
-        None => Err(Stop::Fault(Fault::UnknownType)),
+        None => Err(InsideError::Fault(InsideFault::UnknownType)),
     }
 }

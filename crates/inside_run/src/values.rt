@@ -6,17 +6,17 @@ ghost use Rattle.param_engine.specs.Working.{AreBegunOnce};
 ghost use Rattle.inside_keys.specs.Values.{rules_of, value_at};
 
 use crate::asker::Keys;
-use crate::scene::Scene;
+use crate::scene::ModuleSource;
 use inside_keys::found::Found;
 use inside_keys::key::Key;
-use inside_parts::fault::Fault;
+use inside_parts::fault::InsideFault;
 use param_engine::engine;
 use param_engine::table::Table;
 use sim_values::NoMemory;
 use std::alloc::Global;
 
 /// A table of which nothing is known. It may be kept, whatever the model.
-pub fn empty_table<S: Scene>(alloc: Global, _scene: &S) -> Table<Key, Found>
+pub fn empty_table<S: ModuleSource>(alloc: Global, _scene: &S) -> Table<Key, Found>
     ensures entries { result.entries ≡ [] }
     ensures begun { result.begun ≡ 0 }
     ensures kept { IsKept (rules_of (S.setting _scene.now)) result.entries }
@@ -27,12 +27,12 @@ pub fn empty_table<S: Scene>(alloc: Global, _scene: &S) -> Table<Key, Found>
 /// The value of a key, as its place in the table, or its fault. The table, of which nothing is
 /// asked but that it knows values of this model, has what it had, and after that the values that
 /// were found on the way; also after a fault, and after lack of memory.
-pub fn value_of<S: Scene>(
+pub fn value_of<S: ModuleSource>(
     alloc: Global,
     scene: &S,
     table: &mut Table<Key, Found>,
     key: Key,
-) -> Result<Result<usize, Fault>, NoMemory>
+) -> Result<Result<usize, InsideFault>, NoMemory>
     requires { IsKept (rules_of (S.setting scene.now)) table.old.entries }
     ensures value { IfOk result (λ found. found_in table.new.entries found ≡ Some (value_at (S.setting scene.now) key)) }
     ensures kept { IsKept (rules_of (S.setting scene.now)) table.new.entries }
@@ -45,7 +45,7 @@ pub fn value_of<S: Scene>(
 }
 
 /// The place of the value of a key, where the table knows it. Nothing is evaluated.
-pub fn known<S: Scene>(_scene: &S, table: &Table<Key, Found>, key: &Key) -> Option<usize>
+pub fn known<S: ModuleSource>(_scene: &S, table: &Table<Key, Found>, key: &Key) -> Option<usize>
     requires { IsKept (rules_of (S.setting _scene.now)) table.now.entries }
     ensures { IfSome result (λ place. found_in table.now.entries (Ok place) ≡ Some (value_at (S.setting _scene.now) key.now)) }
 {

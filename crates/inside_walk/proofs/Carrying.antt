@@ -5,7 +5,7 @@ use Rattle.inside_keys.specs.Inside as inside
 use Rattle.inside_keys.specs.Inside.{Rest}
 use Rattle.inside_keys.specs.Places.{Scope}
 use Rattle.inside_keys.specs.declared.found.State.{State}
-use Rattle.inside_parts.specs.declared.fault.Stop.{Stop}
+use Rattle.inside_parts.specs.declared.fault.InsideError.{InsideError}
 use Rattle.inside_wiring.specs.declared.wiring.Carrier.{Carrier}
 use Rattle.inside_wiring.specs.declared.wiring.GateId.{GateId}
 use Rattle.ned_trees.specs.declared.connections.Arrow.{Arrow}
@@ -18,7 +18,7 @@ use Rattle.inside_walk.specs.declared.task.Next.{Next}
 use Rattle.inside_walk.specs.declared.task.Task.{Task}
 use Rattle.inside_walk.specs.Tasks.{Leads, carried, joined}
 
-module _ (g : Ground) (r : Result Next Stop) (us : List Task) (left right : GateId) (scope : Scope) (s : State) (rest : Rest) where
+module _ (g : Ground) (r : Result Next InsideError) (us : List Task) (left right : GateId) (scope : Scope) (s : State) (rest : Rest) where
   -- what carries messages back is asked for
   pub both_lead : (way : Arrow) (k : Carrier) → way ≡ Both
       → Leads g r us (inside.carried_from g.site g.submodules.now g.gates.now g.is_whole right scope s (λ c. carried g (carry.Back Both left right k) c scope s rest))

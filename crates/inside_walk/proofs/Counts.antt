@@ -5,16 +5,16 @@ use mir.Syntax.{w64}
 use mir.Val.{SFits, of_z, to_z}
 use Rattle.param_following.specs.Asking.{Done}
 use Rattle.inside_keys.specs.declared.found.State.{State}
-use Rattle.inside_keys.specs.Asked.{Asked}
+use Rattle.inside_keys.specs.Asked.{KeyAsking}
 use Rattle.inside_keys.specs.Inside.{Rest, looped, counted, turns, count, or_zero}
 use Rattle.inside_keys.specs.Places.{Scope, bind}
-use Rattle.inside_parts.specs.declared.fault.Fault.TheVariants.{TooManyTurns}
+use Rattle.inside_parts.specs.declared.fault.InsideFault.TheVariants.{TooManyTurns}
 use Rattle.ned_trees.specs.declared.connections.Clause.{Clause}
 use Rattle.inside_walk.specs.declared.task.Body.{Body}
 use Rattle.inside_walk.specs.declared.task.Ground.{Ground}
 use Rattle.inside_walk.specs.declared.task.Task.{Task}
 use Rattle.inside_walk.specs.declared.task.Task.TheVariants as task
-use Rattle.inside_parts.specs.declared.fault.Stop.{Stop}
+use Rattle.inside_parts.specs.declared.fault.InsideError.{InsideError}
 use Rattle.inside_walk.specs.declared.task.Next.{Next}
 use Rattle.inside_walk.specs.Tasks.{Leads, body_of, continued, scope_of}
 
@@ -50,7 +50,7 @@ pub is_next : (z a : ℤ) → z ≡ to_z w64 (of_z w64 a) +ℤ pos 1 → SFits w
 is_next z a h f = omega (arith, ints)
 
 module _ (g : Ground) (x : List ℕ) (cs : List Clause) (b : Body) (scope : Scope) where
-  abbrev pub each : ℤ → State → Rest → Asked
+  abbrev pub each : ℤ → State → Rest → KeyAsking
   each y t next = looped g.place cs (body_of g b) (bind x y scope) t next
 
   -- no turn is left
@@ -92,7 +92,7 @@ pub over : (a last : ℤ) → last ≤ℤ a → last <ℤ (a +ℤ pos 1)
 over a last h = omega (arith, ints)
 
 -- turns from a number that is the one or the other
-pub leads_from : (g : Ground) (x : List ℕ) (cs : List Clause) (b : Body) (ts : List Task) (s : State) (r : Result Next Stop) (us : List Task) (a e l last : ℤ) → a ≡ e → l ≡ last
+pub leads_from : (g : Ground) (x : List ℕ) (cs : List Clause) (b : Body) (ts : List Task) (s : State) (r : Result Next InsideError) (us : List Task) (a e l last : ℤ) → a ≡ e → l ≡ last
     → Leads g r us (turns (count a l) a (each g x cs b (scope_of ts)) s (continued g ts)) → Leads g r us (turns (count e last) e (each g x cs b (scope_of ts)) s (continued g ts))
 leads_from g x cs b ts s r us a e l last same other h =
     subst (λ m. Leads g r us (turns (count e m) e (each g x cs b (scope_of ts)) s (continued g ts))) other

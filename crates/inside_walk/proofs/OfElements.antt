@@ -4,7 +4,7 @@ use Rattle.std.proofs.Math.Nat.{mul-le-mul_right}
 use Rattle.inside_keys.specs.declared.found.State.{State}
 use Rattle.inside_keys.specs.declared.key.Module.{Module}
 use Rattle.inside_keys.specs.Inside.{Rest, element, elements}
-use Rattle.inside_parts.specs.declared.fault.Stop.{Stop}
+use Rattle.inside_parts.specs.declared.fault.InsideError.{InsideError}
 use Rattle.inside_parts.specs.declared.gates.TypeGates.{TypeGates}
 use Rattle.ned_trees.specs.declared.declarations.Submodule.{Submodule}
 use Rattle.ned_trees.specs.declared.declarations.TypeDeclaration.{TypeDeclaration}
@@ -22,7 +22,7 @@ module _ (m : Module) (types : List TypeDeclaration) (gates : List TypeGates) (w
   one_element (suc k) all l s rest h =
       let e : k ≡ suc k - 1 = omega arith in ap (λ n. element m types gates whole l (Some (all - suc k)) s (λ t. elements m types gates whole n all l t rest)) e
 
-pub elements_leads : (g : Ground) (above ts : List Task) (l : Bor Submodule) (n all i : ℕ) (s : State) (r : Result Next Stop) (us : List Task) → above ≡ task.Elements l (n - 1) all ∷ ts → 0 < n → i ≡ all - n
+pub elements_leads : (g : Ground) (above ts : List Task) (l : Bor Submodule) (n all i : ℕ) (s : State) (r : Result Next InsideError) (us : List Task) → above ≡ task.Elements l (n - 1) all ∷ ts → 0 < n → i ≡ all - n
     → Leads g r us (element g.site g.types.now g.gates.now g.is_whole l.now (Some i) s (continued g above))
     → Leads g r us (elements g.site g.types.now g.gates.now g.is_whole n all l.now s (continued g ts))
 elements_leads g above ts l n all i s r us is h e x =

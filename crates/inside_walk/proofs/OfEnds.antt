@@ -2,12 +2,12 @@
 use Rattle.std.proofs.Common.{◌≡◌, ℕ, ◌+◌, ◌≤◌, ℤ, Bool, true, List, length, Option, Some, Result, Ok, Err, if◌then◌else◌, refl, ap, sym, subst, ◌∙◌, arith}
 use Rattle.param_following.specs.Asking.{Done}
 use Rattle.inside_keys.specs.declared.found.State.{State}
-use Rattle.inside_keys.specs.Asked.{Asked, result_then}
+use Rattle.inside_keys.specs.Asked.{KeyAsking, result_then}
 use Rattle.inside_keys.specs.Inside.{Rest}
 use Rattle.inside_keys.specs.Places.{Scope}
-use Rattle.inside_parts.specs.declared.fault.Fault.{Fault}
-use Rattle.inside_parts.specs.declared.fault.Fault.TheVariants.{NoGate}
-use Rattle.inside_parts.specs.declared.fault.Stop.{Stop}
+use Rattle.inside_parts.specs.declared.fault.InsideFault.{InsideFault}
+use Rattle.inside_parts.specs.declared.fault.InsideFault.TheVariants.{NoGate}
+use Rattle.inside_parts.specs.declared.fault.InsideError.{InsideError}
 use Rattle.ned_trees.specs.declared.connections.Connection.{Connection}
 use Rattle.ned_trees.specs.declared.connections.End.{End}
 use Rattle.ned_trees.specs.declared.connections.Owner.{Owner}
@@ -29,11 +29,11 @@ module _ (g : Ground) (c : Connection) where
   taken_same side.Left scope s rest t = refl
   taken_same (side.Right l) scope s rest t = refl
 
-  module _ (at : Side) (ts us : List Task) (s : State) (gate : NamedGate) (t : Taken) (r : Result Next Stop)
+  module _ (at : Side) (ts us : List Task) (s : State) (gate : NamedGate) (t : Taken) (r : Result Next InsideError)
       (h : Leads g r us (taken g c at (scope_of ts) (record { parts = s.parts; wiring = t.wiring; turns = s.turns; written = s.written }) (continued g ts) t)) (other : Option GateId) (role : Role)
       (same_other : other ≡ other_at at c) (same_role : role ≡ role_at at c) where
-    led : (found : Result Taken Fault) → found ≡ Ok t → Leads g r us (result_then found (taken g c at (scope_of ts) s (continued g ts)))
-    led found e = subst (λ y. Leads g r us y) (taken_same at (scope_of ts) s (continued g ts) t ∙ sym (ap (λ (f : Result Taken Fault). result_then f (taken g c at (scope_of ts) s (continued g ts))) e)) h
+    led : (found : Result Taken InsideFault) → found ≡ Ok t → Leads g r us (result_then found (taken g c at (scope_of ts) s (continued g ts)))
+    led found e = subst (λ y. Leads g r us y) (taken_same at (scope_of ts) s (continued g ts) t ∙ sym (ap (λ (f : Result Taken InsideFault). result_then f (taken g c at (scope_of ts) s (continued g ts))) e)) h
 
     pub single_leads : at_single s.wiring other role gate ≡ Ok t → Leads g r us (result_then (at_single s.wiring (other_at at c) (role_at at c) gate) (taken g c at (scope_of ts) s (continued g ts)))
     single_leads e = led (at_single s.wiring (other_at at c) (role_at at c) gate)
@@ -49,20 +49,20 @@ module _ (g : Ground) (c : Connection) where
         (sym (ap (λ o. at_index s.wiring o (role_at at c) gate z) same_other) ∙ sym (ap (λ l. at_index s.wiring other l gate z) same_role) ∙ sym (ap (λ k. at_index s.wiring other role gate k) same) ∙ e)
 
   -- the gate of that part is there, and has the role
-  pub part_leads : (at : Side) (ts us : List Task) (s : State) (part n : ℕ) (e : End) (role : Role) (gate : NamedGate) (b : Bool) (r : Result Next Stop) → e ≡ end_at at c → role ≡ role_at at c → n ≡ length s.wiring.sizes
+  pub part_leads : (at : Side) (ts us : List Task) (s : State) (part n : ℕ) (e : End) (role : Role) (gate : NamedGate) (b : Bool) (r : Result Next InsideError) → e ≡ end_at at c → role ≡ role_at at c → n ≡ length s.wiring.sizes
       → gate_named g.gates.now s.parts n part e.gate.name ≡ Ok gate → b ≡ fits gate.is_own gate.kind.direction e.gate.half role → b ≡ true
       → Leads g r us (gate_begun g c at (scope_of ts) s (continued g ts) gate) → Leads g r us (part_begun g c at (scope_of ts) s (continued g ts) part)
   part_leads at ts us s part n e role gate b r same_end same_role same_count found is_fit fit h =
       subst (λ y. Leads g r us y)
       (sym (
-      ap (λ (f : Result NamedGate Fault). result_then f next)
+      ap (λ (f : Result NamedGate InsideFault). result_then f next)
       (sym (ap (λ k. gate_named g.gates.now s.parts k part (end_at at c).gate.name) same_count) ∙ sym (ap (λ (d : End). gate_named g.gates.now s.parts n part d.gate.name) same_end) ∙ found)
       ∙ ap (λ x. if x then gate_begun g c at (scope_of ts) s (continued g ts) gate else Done (Err NoGate))
       (sym (ap (λ l. fits gate.is_own gate.kind.direction (end_at at c).gate.half l) same_role) ∙ sym (ap (λ (d : End). fits gate.is_own gate.kind.direction d.gate.half role) same_end) ∙ sym is_fit ∙ fit)
       ))
       h
     where
-      next : NamedGate → Asked
+      next : NamedGate → KeyAsking
       next f = if fits f.is_own f.kind.direction (end_at at c).gate.half (role_at at c) then gate_begun g c at (scope_of ts) s (continued g ts) f else Done (Err NoGate)
 
 -- ---- weights

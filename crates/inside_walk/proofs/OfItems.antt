@@ -1,11 +1,11 @@
 -- Items of a connections section.
 use Rattle.std.proofs.Common.{◌≡◌, ℕ, ◌+◌, ◌<◌, ◌≤◌, List, [], ◌∷◌, length, Result, Bor, ap, sym, subst, ◌∙◌, arith}
 use Rattle.inside_keys.specs.declared.found.State.{State}
-use Rattle.inside_keys.specs.Asked.{Asked}
+use Rattle.inside_keys.specs.Asked.{KeyAsking}
 use Rattle.inside_keys.specs.Inside.{Rest, looped, connected, connection_lines, item, items}
 use Rattle.inside_keys.specs.Places.{Scope}
 use Rattle.inside_keys.specs.States.{at_item, at_line}
-use Rattle.inside_parts.specs.declared.fault.Stop.{Stop}
+use Rattle.inside_parts.specs.declared.fault.InsideError.{InsideError}
 use Rattle.ned_trees.specs.declared.connections.Clause.{Clause}
 use Rattle.ned_trees.specs.declared.connections.ConnectionItem.{ConnectionItem}
 use Rattle.ned_trees.specs.declared.connections.ConnectionLine.{ConnectionLine}
@@ -32,12 +32,12 @@ part_of a b c h = omega arith
 rest_of : (a b c : ℕ) → a + b ≤ c → b ≤ c
 rest_of a b c h = omega arith
 
-module _ (g : Ground) (ts us above : List Task) (s : State) (r : Result Next Stop) where
+module _ (g : Ground) (ts us above : List Task) (s : State) (r : Result Next InsideError) where
   -- clauses that were taken out of what they belong to, around a body
-  pub clauses_lead : (given cs : List Clause) (b : Body) (does : Scope → State → Rest → Asked) → given ≡ cs → body_of g b ≡ does
+  pub clauses_lead : (given cs : List Clause) (b : Body) (does : Scope → State → Rest → KeyAsking) → given ≡ cs → body_of g b ≡ does
       → Leads g r us (looped g.place given (body_of g b) (scope_of ts) s (continued g ts)) → Leads g r us (looped g.place cs does (scope_of ts) s (continued g ts))
   clauses_lead given cs b does f k h =
-      subst (λ (x : Scope → State → Rest → Asked). Leads g r us (looped g.place cs x (scope_of ts) s (continued g ts))) k
+      subst (λ (x : Scope → State → Rest → KeyAsking). Leads g r us (looped g.place cs x (scope_of ts) s (continued g ts))) k
       (subst (λ x. Leads g r us (looped g.place x (body_of g b) (scope_of ts) s (continued g ts))) f h)
 
   pub clauses_spend : (given cs : List Clause) (b : Body) (w n : ℕ) → given ≡ cs → of_body b ≡ w

@@ -6,12 +6,12 @@ use Rattle.inside_keys.specs.declared.found.State.{State}
 use Rattle.inside_keys.specs.declared.key.Key.{Key}
 use Rattle.inside_keys.specs.declared.key.Module.{Module}
 use Rattle.inside_keys.specs.declared.key.What.{What}
-use Rattle.inside_keys.specs.Asked.{Asked, ask_then, number_then, numbered_by, result_then, size_then}
+use Rattle.inside_keys.specs.Asked.{KeyAsking, ask_then, number_then, numbered_by, result_then, size_then}
 use Rattle.inside_keys.specs.Inside.{gates, gates_in, is_vector, parameters, element, element_of, element_typed, elements, misplaced_of, sized, sizes, submodule_there, submodule, submodules}
 use Rattle.inside_keys.specs.Keys.{child, key}
 use Rattle.inside_keys.specs.States.{grown, noted, part_added}
-use Rattle.inside_parts.specs.declared.fault.Fault.{Fault}
-use Rattle.inside_parts.specs.declared.fault.Stop.{Stop}
+use Rattle.inside_parts.specs.declared.fault.InsideFault.{InsideFault}
+use Rattle.inside_parts.specs.declared.fault.InsideError.{InsideError}
 use Rattle.inside_parts.specs.declared.gates.TypeGate.{TypeGate}
 use Rattle.inside_parts.specs.declared.gates.TypeGates.{TypeGates}
 use Rattle.ned_trees.specs.declared.declarations.SectionLine.{SectionLine}
@@ -34,7 +34,7 @@ pub section_some : (ls : List SectionLine) → 1 ≤ of_section ls
 section_some [] = omega arith
 section_some (l ∷ ls) = omega arith
 
-pub section_spends : (g : Ground) (ts us : List Task) (ls : List SectionLine) (l : SectionLine) (rest : List SectionLine) (n : ℕ) (r : Result Next Stop) → ls ≡ l ∷ rest → Spends g (of_section rest + 3) 0 ts n r us → Spends g (of_section ls) 0 ts n r us
+pub section_spends : (g : Ground) (ts us : List Task) (ls : List SectionLine) (l : SectionLine) (rest : List SectionLine) (n : ℕ) (r : Result Next InsideError) → ls ≡ l ∷ rest → Spends g (of_section rest + 3) 0 ts n r us → Spends g (of_section ls) 0 ts n r us
 section_spends g ts us ls l rest n r e h = subst (λ x. Spends g (of_section x) 0 ts n r us) (sym e) h
 
 -- the parameters of one type are no more than those of all
@@ -78,11 +78,11 @@ gate_asks g above ts m which gate rest s k w is e f h =
     ∙ ap (λ j. ask_then j (λ v. waited g wait.Gate v s (continued g (task.Gates m which rest ∷ ts)))) (e ∙ ap (key m) f)
     ∙ sym (ap (λ b. if b then ask_then (key m (size_by which gate.name)) (λ v. size_then v (λ n. gates m (size_by which) rest.now (grown s n) (continued g ts))) else gates m (size_by which) rest.now (grown s 1) (continued g ts)) h)
 
-pub gates_spend : (g : Ground) (ts us : List Task) (gs : List TypeGate) (x : TypeGate) (rest : List TypeGate) (n : ℕ) (r : Result Next Stop) → gs ≡ x ∷ rest → Spends g (of_gates rest + 3) 0 ts n r us → Spends g (of_gates gs) 0 ts n r us
+pub gates_spend : (g : Ground) (ts us : List Task) (gs : List TypeGate) (x : TypeGate) (rest : List TypeGate) (n : ℕ) (r : Result Next InsideError) → gs ≡ x ∷ rest → Spends g (of_gates rest + 3) 0 ts n r us → Spends g (of_gates gs) 0 ts n r us
 gates_spend g ts us gs x rest n r e h = subst (λ l. Spends g (of_gates l) 0 ts n r us) (sym e) h
 
 module _ (g : Ground) where
-  abbrev here : List Submodule → State → (State → Asked) → Asked
+  abbrev here : List Submodule → State → (State → KeyAsking) → KeyAsking
   here = submodules g.site g.types.now g.gates.now g.is_whole
 
   -- what asks for the sizes of a submodule's gates
@@ -143,17 +143,17 @@ module _ (g : Ground) where
       })
 
   -- the type of a submodule is known
-  pub known_leads : (ts us : List Task) (l : Submodule) (index : Option ℕ) (v : Value) (n : ℕ) (m : Module) (s : State) (r : Result Next Stop) → numbered_by v ≡ Ok n → m ≡ child g.site l.name index
+  pub known_leads : (ts us : List Task) (l : Submodule) (index : Option ℕ) (v : Value) (n : ℕ) (m : Module) (s : State) (r : Result Next InsideError) → numbered_by v ≡ Ok n → m ≡ child g.site l.name index
       → Leads g r us (element_typed g.site g.types.now g.gates.now g.is_whole l m index n s (continued g ts))
       → Leads g r us (number_then v (λ k. element_typed g.site g.types.now g.gates.now g.is_whole l (child g.site l.name index) index k s (continued g ts)))
   known_leads ts us l index v n m s r e f h =
       subst (λ x. Leads g r us x)
       (ap (λ (a : Module). element_typed g.site g.types.now g.gates.now g.is_whole l a index n s (continued g ts)) f
-      ∙ sym (ap (λ (x : Result ℕ Fault). result_then x (λ k. element_typed g.site g.types.now g.gates.now g.is_whole l (child g.site l.name index) index k s (continued g ts))) e))
+      ∙ sym (ap (λ (x : Result ℕ InsideFault). result_then x (λ k. element_typed g.site g.types.now g.gates.now g.is_whole l (child g.site l.name index) index k s (continued g ts))) e))
       h
 
   -- what is made of a declaration that is no vector
-  pub there_leads : (ts us : List Task) (l : Submodule) (s t : State) (n : ℕ) (r : Result Next Stop) → is_vector l ≡ false → t ≡ noted s (OneMade n) → n ≡ length s.parts.parts
+  pub there_leads : (ts us : List Task) (l : Submodule) (s t : State) (n : ℕ) (r : Result Next InsideError) → is_vector l ≡ false → t ≡ noted s (OneMade n) → n ≡ length s.parts.parts
       → Leads g r us (element g.site g.types.now g.gates.now g.is_whole l None t (continued g ts)) → Leads g r us (submodule_there g.site g.types.now g.gates.now g.is_whole l s (continued g ts))
   there_leads ts us l s t n r h e f x =
       subst (λ y. Leads g r us y)
@@ -161,13 +161,13 @@ module _ (g : Ground) where
       ∙ sym (ap (λ b. if b then vector else element g.site g.types.now g.gates.now g.is_whole l None (noted s (OneMade (length s.parts.parts))) (continued g ts)) h))
       x
     where
-      vector : Asked
+      vector : KeyAsking
       vector = sized g.site l (λ n. elements g.site g.types.now g.gates.now g.is_whole n n l (noted s (Vector (length s.parts.parts) n)) (continued g ts))
 
-  pub there_spends : (ts us : List Task) (s t : State) (n : ℕ) (r : Result Next Stop) → t ≡ noted s (OneMade n) → Spends g (of_element g) 0 ts t.turns r us → Spends g (of_element g) 0 ts s.turns r us
+  pub there_spends : (ts us : List Task) (s t : State) (n : ℕ) (r : Result Next InsideError) → t ≡ noted s (OneMade n) → Spends g (of_element g) 0 ts t.turns r us → Spends g (of_element g) 0 ts s.turns r us
   there_spends ts us s t n r e h = subst (λ (x : State). Spends g (of_element g) 0 ts x.turns r us) e h
 
-  pub submodules_lead : (ts us above : List Task) (ls : List Submodule) (l : Submodule) (rest : Bor (List Submodule)) (s : State) (r : Result Next Stop) → ls ≡ l ∷ rest.now → above ≡ task.Submodules rest ∷ ts
+  pub submodules_lead : (ts us above : List Task) (ls : List Submodule) (l : Submodule) (rest : Bor (List Submodule)) (s : State) (r : Result Next InsideError) → ls ≡ l ∷ rest.now → above ≡ task.Submodules rest ∷ ts
       → Leads g r us (submodule g.site g.types.now g.gates.now g.is_whole l s (continued g above)) → Leads g r us (submodules g.site g.types.now g.gates.now g.is_whole ls s (continued g ts))
   submodules_lead ts us above ls l rest s r e is h =
       subst (λ x. Leads g r us (here x s (continued g ts))) (sym e) (subst (λ a. Leads g r us (submodule g.site g.types.now g.gates.now g.is_whole l s (continued g a))) is h)
@@ -175,7 +175,7 @@ module _ (g : Ground) where
   submodules_more : (ls : List Submodule) (l : Submodule) (rest : List Submodule) → ls ≡ l ∷ rest → of_submodule g + of_submodules g rest ≤ of_submodules g ls
   submodules_more ls l rest e = let same : of_submodules g ls ≡ of_submodule g + of_submodules g rest + 2 = ap (of_submodules g) e in omega (arith, same)
 
-  pub submodules_spend : (ts us above : List Task) (ls : List Submodule) (l : Submodule) (rest : Bor (List Submodule)) (n : ℕ) (r : Result Next Stop) → ls ≡ l ∷ rest.now → above ≡ task.Submodules rest ∷ ts → Spends g (of_submodule g) 0 above n r us
+  pub submodules_spend : (ts us above : List Task) (ls : List Submodule) (l : Submodule) (rest : Bor (List Submodule)) (n : ℕ) (r : Result Next InsideError) → ls ≡ l ∷ rest.now → above ≡ task.Submodules rest ∷ ts → Spends g (of_submodule g) 0 above n r us
       → Spends g (of_submodules g ls) 0 ts n r us
   submodules_spend ts us above ls l rest n r e is h =
       below g (task.Submodules rest) above ts (of_submodule g) (of_submodules g ls) 0 0 n r us is (omega arith) (omega arith) (submodules_more ls l rest.now e) h

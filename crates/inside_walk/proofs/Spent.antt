@@ -2,7 +2,7 @@
 use Rattle.std.proofs.Common.{◌≡◌, ℕ, suc, zero, ◌+◌, ◌-◌, ◌*◌, ◌<◌, ◌≤◌, max, ℤ, List, [], ◌∷◌, Result, Ok, Err, Bor, ap, sym, subst, ◌∙◌, arith}
 use Rattle.std.proofs.Math.Nat.{suc-mul}
 use Rattle.inside_keys.specs.declared.found.State.{State}
-use Rattle.inside_parts.specs.declared.fault.Stop.{Stop}
+use Rattle.inside_parts.specs.declared.fault.InsideError.{InsideError}
 use Rattle.ned_trees.specs.declared.connections.Clause.{Clause}
 use Rattle.inside_walk.specs.declared.task.Body.{Body}
 use Rattle.inside_walk.specs.declared.task.Ground.{Ground}
@@ -39,7 +39,7 @@ heavier g most w v ts n found us h s =
     }
 
 -- what spends little spends no more than much
-pub spends_more : (g : Ground) (w v p q : ℕ) (ts : List Task) (n : ℕ) (r : Result Next Stop) (us : List Task) → w ≤ v → p ≤ q → Spends g w p ts n r us → Spends g v q ts n r us
+pub spends_more : (g : Ground) (w v p q : ℕ) (ts : List Task) (n : ℕ) (r : Result Next InsideError) (us : List Task) → w ≤ v → p ≤ q → Spends g w p ts n r us → Spends g v q ts n r us
 spends_more g w v p q ts n (Ok found) us h k s = λ most c cs. heavier g most w v ts n found us h (s most (omega (arith, k, c)) cs)
 spends_more g w v p q ts n (Err e) us h k s = tt
 
@@ -84,7 +84,7 @@ moved : (a w x t p v : ℕ) → a < w + (x + t) + p → w + x ≤ v → a < v + 
 moved a w x t p v h k = omega arith
 
 -- a task was put on top, and then something was spent
-pub below : (g : Ground) (t : Task) (above ts : List Task) (w v p q n : ℕ) (r : Result Next Stop) (us : List Task) → above ≡ t ∷ ts → p ≤ q → cost_of_task t ≤ q → w + of_task g t ≤ v
+pub below : (g : Ground) (t : Task) (above ts : List Task) (w v p q n : ℕ) (r : Result Next InsideError) (us : List Task) → above ≡ t ∷ ts → p ≤ q → cost_of_task t ≤ q → w + of_task g t ≤ v
     → Spends g w p above n r us → Spends g v q ts n r us
 below g t above ts w v p q n (Err e) us is h c l s = tt
 below g t above ts w v p q n (Ok found) us is h c l s = λ most d ds.

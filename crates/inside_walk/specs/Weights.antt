@@ -1,7 +1,7 @@
 -- How much is left to be done of an inside, as a number that falls with each step.
 use Rattle.std.specs.Prelude.{ℕ, ◌+◌, ◌*◌, ◌<◌, ◌≤◌, max, List, [], ◌∷◌, Option, Some, None, Result, Ok, Err}
 use Rattle.ned_trees.specs.declared.expressions.Expression.{Expression}
-use Rattle.inside_parts.specs.declared.fault.Stop.{Stop}
+use Rattle.inside_parts.specs.declared.fault.InsideError.{InsideError}
 use Rattle.ned_trees.specs.declared.connections.Clause.{Clause}
 use Rattle.ned_trees.specs.declared.connections.Clause.TheVariants.{For, If}
 use Rattle.ned_trees.specs.declared.connections.Connection.{Connection}
@@ -216,6 +216,6 @@ pub record IsSpent (g : Ground) (most weight : ℕ) (before : List Task) (n : �
   pub costs : cost_of_tasks ts ≤ most
   pub less : of_next g found + of_tasks g ts + turns_of found * most < weight + of_tasks g before + n * most
 
-abbrev pub Spends : Ground → ℕ → ℕ → List Task → ℕ → Result Next Stop → List Task → Type 0
+abbrev pub Spends : Ground → ℕ → ℕ → List Task → ℕ → Result Next InsideError → List Task → Type 0
 Spends g weight cost before n (Ok found) ts = (most : ℕ) → cost ≤ most → cost_of_tasks before ≤ most → IsSpent g most weight before n found ts
 Spends g weight cost before n (Err e) ts = Unit {0}

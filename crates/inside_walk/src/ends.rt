@@ -12,7 +12,7 @@ use crate::loops::evaluate;
 use crate::task::{Ground, Next, Side, Task, Want};
 use inside_keys::found::State;
 use inside_keys::key::WrittenAt;
-use inside_parts::fault::{Fault, Stop};
+use inside_parts::fault::{InsideError, InsideFault};
 use inside_parts::parts::{NamedGate, Parts};
 use inside_parts::stack::Stack;
 use inside_wiring::ends::{
@@ -65,7 +65,7 @@ fn took<'m>(
     turns: u32,
     written: WrittenAt,
     found: Taken,
-) -> Result<Next<'m>, Stop>
+) -> Result<Next<'m>, InsideError>
     ensures leads { Leads ground.now result tasks.new (taken ground.now connection.now side (scope_of tasks.old)
         (record { parts = parts; wiring = found.wiring; turns = turns; written = written }) (continued ground.now tasks.old) found) }
     ensures spends { Spends ground.now (of_rest connection.now side) 0 tasks.old turns result tasks.new }
@@ -96,7 +96,7 @@ fn single<'m>(
     side: Side,
     gate: NamedGate,
     state: State,
-) -> Result<Next<'m>, Stop>
+) -> Result<Next<'m>, InsideError>
     ensures leads { Leads ground.now result tasks.new (result_then (named.at_single state.wiring (other_at side connection.now) (role_at side connection.now) gate)
         (taken ground.now connection.now side (scope_of tasks.old) state (continued ground.now tasks.old))) }
     ensures spends { Spends ground.now (of_rest connection.now side) 0 tasks.old state.turns result tasks.new }
@@ -124,7 +124,7 @@ fn free<'m>(
     side: Side,
     gate: NamedGate,
     state: State,
-) -> Result<Next<'m>, Stop>
+) -> Result<Next<'m>, InsideError>
     requires { gate.vector < length state.wiring.sizes }
     ensures leads { Leads ground.now result tasks.new (result_then (named.at_next state.wiring (other_at side connection.now) (role_at side connection.now) gate)
         (taken ground.now connection.now side (scope_of tasks.old) state (continued ground.now tasks.old))) }
@@ -154,13 +154,13 @@ fn placed<'m>(
     place: &'m GateIndex,
     gate: NamedGate,
     state: State,
-) -> Result<Next<'m>, Stop>
+) -> Result<Next<'m>, InsideError>
     requires { gate.vector < length state.wiring.sizes }
     ensures leads { Leads ground.now result tasks.new (place_begun ground.now connection.now side (Some place.now) (scope_of tasks.old) state (continued ground.now tasks.old) gate) }
     ensures spends { Spends ground.now (of_position (Some place.now) + of_rest connection.now side + 2) 0 tasks.old state.turns result tasks.new }
 {
     if !gate.kind.is_vector {
-        return Err(Stop::Fault(Fault::NoGate));
+        return Err(InsideError::Fault(InsideFault::NoGate));
     }
     match place {
         GateIndex::At(index) => {
@@ -179,7 +179,7 @@ fn position<'m>(
     side: Side,
     gate: NamedGate,
     state: State,
-) -> Result<Next<'m>, Stop>
+) -> Result<Next<'m>, InsideError>
     requires { gate.vector < length state.wiring.sizes }
     ensures leads { Leads ground.now result tasks.new (gate_begun ground.now connection.now side (scope_of tasks.old) state (continued ground.now tasks.old) gate) }
     ensures spends { Spends ground.now (of_position (end_at side connection.now).gate.index + of_rest connection.now side + 2) 0 tasks.old state.turns result tasks.new }
@@ -189,7 +189,7 @@ fn position<'m>(
         Some(place) => placed(alloc, ground, tasks, connection, side, place, gate, state),
         None => {
             if gate.kind.is_vector {
-                return Err(Stop::Fault(Fault::NoGate));
+                return Err(InsideError::Fault(InsideFault::NoGate));
             }
             single(alloc, ground, tasks, connection, side, gate, state)
         }
@@ -205,7 +205,7 @@ pub fn part<'m>(
     side: Side,
     part: usize,
     state: State,
-) -> Result<Next<'m>, Stop>
+) -> Result<Next<'m>, InsideError>
     ensures leads { Leads ground.now result tasks.new (part_begun ground.now connection.now side (scope_of tasks.old) state (continued ground.now tasks.old) part) }
     ensures spends { Spends ground.now (of_position (end_at side connection.now).gate.index + of_rest connection.now side + 2) 0 tasks.old state.turns result tasks.new }
 {
@@ -219,7 +219,7 @@ pub fn part<'m>(
     )?;
     let role = role_at(side, connection);
     if !has_role(gate.is_own, gate.kind.direction, end.gate.half, role) {
-        return Err(Stop::Fault(Fault::NoGate));
+        return Err(InsideError::Fault(InsideFault::NoGate));
     }
     position(alloc, ground, tasks, connection, side, gate, state)
 }
@@ -233,7 +233,7 @@ fn named<'m>(
     side: Side,
     name: &'m Owner,
     state: State,
-) -> Result<Next<'m>, Stop>
+) -> Result<Next<'m>, InsideError>
     ensures leads { Leads ground.now result tasks.new (name_begun ground.now connection.now side (scope_of tasks.old) state (continued ground.now tasks.old) name.now) }
     ensures spends { Spends ground.now (of_maybe name.now.index + of_position (end_at side connection.now).gate.index + of_rest connection.now side + 4) 0 tasks.old state.turns result tasks.new }
 {
@@ -257,7 +257,7 @@ pub fn end<'m>(
     connection: &'m Connection,
     side: Side,
     state: State,
-) -> Result<Next<'m>, Stop>
+) -> Result<Next<'m>, InsideError>
     ensures leads { Leads ground.now result tasks.new (end_begun ground.now connection.now side (scope_of tasks.old) state (continued ground.now tasks.old)) }
     ensures spends { Spends ground.now (of_end (end_at side connection.now) + of_rest connection.now side) 0 tasks.old state.turns result tasks.new }
 {
@@ -278,7 +278,7 @@ pub fn at<'m>(
     gate: NamedGate,
     index: i64,
     state: State,
-) -> Result<Next<'m>, Stop>
+) -> Result<Next<'m>, InsideError>
     ensures leads { Leads ground.now result tasks.new (result_then (named.at_index state.wiring (other_at side connection.now) (role_at side connection.now) gate index)
         (taken ground.now connection.now side (scope_of tasks.old) state (continued ground.now tasks.old))) }
     ensures spends { Spends ground.now (of_rest connection.now side) 0 tasks.old state.turns result tasks.new }

@@ -10,8 +10,8 @@ use crate::task::{Carry, Ground, Next, Task};
 use inside_keys::channel::{channel_path, ideal};
 use inside_keys::found::State;
 use inside_keys::key::{ChannelAt, Key, What};
-use inside_keys::turn::Turn;
-use inside_parts::fault::Stop;
+use inside_keys::turn::LoopTurn;
+use inside_parts::fault::InsideError;
 use inside_parts::stack::Stack;
 use inside_wiring::ends::linked;
 use inside_wiring::wiring::{Carrier, GateId};
@@ -21,7 +21,7 @@ use sqlite_items::Boxed;
 use std::alloc::{AllocError, Global};
 
 /// Adds the number that a loop gives its variable now.
-fn push_number(turn: &mut Turn, task: &Task<'_>) -> Result<(), AllocError>
+fn push_number(turn: &mut LoopTurn, task: &Task<'_>) -> Result<(), AllocError>
     ensures { OnOk result (turn.new ≡ turn.old ++ numbers_of task.now) }
 {
     match task {
@@ -31,10 +31,10 @@ fn push_number(turn: &mut Turn, task: &Task<'_>) -> Result<(), AllocError>
 }
 
 /// The values of the loop variables in scope, the innermost first.
-fn turn_of(alloc: Global, tasks: &Stack<Task<'_>>) -> Result<Turn, NoMemory>
+fn turn_of(alloc: Global, tasks: &Stack<Task<'_>>) -> Result<LoopTurn, NoMemory>
     ensures { IfOk result (λ turn. turn ≡ inside.values_in (scope_of tasks.now)) }
 {
-    let mut turn = Turn::new(alloc);
+    let mut turn = LoopTurn::new(alloc);
     let _count = tasks.len();
     let mut depth = 0;
     'tasks: while let Some(task) = tasks.at(depth) {
@@ -94,7 +94,7 @@ fn link<'m>(
     onwards: Carrier,
     back: Carrier,
     state: State,
-) -> Result<Next<'m>, Stop>
+) -> Result<Next<'m>, InsideError>
     ensures leads { Leads _ground.now result _tasks.new (inside.linked_then _ground.now.site _ground.now.submodules.now _ground.now.gates.now _ground.now.is_whole
         arrow left right state (continued _ground.now _tasks.old) onwards back) }
     ensures spends { Spends _ground.now 1 0 _tasks.old state.turns result _tasks.new }
@@ -123,7 +123,7 @@ fn ask<'m>(
     id: GateId,
     carry: Carry,
     state: State,
-) -> Result<Next<'m>, Stop>
+) -> Result<Next<'m>, InsideError>
     ensures leads { Leads ground.now result tasks.new (inside.carried_from ground.now.site ground.now.submodules.now ground.now.gates.now ground.now.is_whole
         id (scope_of tasks.old) state (λ c. carried ground.now carry c (scope_of tasks.old) state (continued ground.now tasks.old))) }
     ensures spends { Spends ground.now (of_carry carry + 2) 0 tasks.old state.turns result tasks.new }
@@ -142,7 +142,7 @@ fn back<'m>(
     right: GateId,
     onwards: Carrier,
     state: State,
-) -> Result<Next<'m>, Stop>
+) -> Result<Next<'m>, InsideError>
     ensures leads { Leads ground.now result tasks.new (inside.back_then ground.now.site ground.now.submodules.now ground.now.gates.now ground.now.is_whole
         arrow left right (scope_of tasks.old) state (continued ground.now tasks.old) onwards) }
     ensures spends { Spends ground.now 4 0 tasks.old state.turns result tasks.new }
@@ -208,7 +208,7 @@ pub fn joined<'m>(
     left: GateId,
     right: GateId,
     state: State,
-) -> Result<Next<'m>, Stop>
+) -> Result<Next<'m>, InsideError>
     ensures leads { Leads ground.now result tasks.new (joined ground.now connection.now left right (scope_of tasks.old) state (continued ground.now tasks.old)) }
     ensures spends { Spends ground.now 7 0 tasks.old state.turns result tasks.new }
 {
@@ -240,7 +240,7 @@ pub fn carried<'m>(
     carry: Carry,
     carrier: Carrier,
     state: State,
-) -> Result<Next<'m>, Stop>
+) -> Result<Next<'m>, InsideError>
     ensures leads { Leads ground.now result tasks.new (carried ground.now carry carrier (scope_of tasks.old) state (continued ground.now tasks.old)) }
     ensures spends { Spends ground.now (of_carry carry) 0 tasks.old state.turns result tasks.new }
 {

@@ -14,7 +14,7 @@ ghost use Rattle.inside_walk.specs.declared.task.Task.{Task as task_type};
 use crate::task::{Body, Ground, Next, Side, Task, Want};
 use inside_keys::found::State;
 use inside_keys::key::WrittenAt;
-use inside_parts::fault::{Fault, Stop};
+use inside_parts::fault::{InsideError, InsideFault};
 use inside_parts::stack::Stack;
 use ned_trees::connections::{Clause, ConnectionGroup, ConnectionItem, ConnectionLine};
 use ned_trees::expressions::Expression;
@@ -46,7 +46,7 @@ fn do_body<'m>(
     tasks: &mut Stack<Task<'m>>,
     body: Body<'m>,
     state: State,
-) -> Result<Next<'m>, Stop>
+) -> Result<Next<'m>, InsideError>
     ensures leads { Leads _ground.now result tasks.new (body_of _ground.now body.entry (scope_of tasks.old) state (continued _ground.now tasks.old)) }
     ensures spends { Spends _ground.now (of_body body.entry + 1) (of_body body.entry) tasks.old state.turns result tasks.new }
 {
@@ -93,7 +93,7 @@ pub fn clauses<'m>(
     clauses: &'m [Clause],
     body: Body<'m>,
     state: State,
-) -> Result<Next<'m>, Stop>
+) -> Result<Next<'m>, InsideError>
     ensures leads { Leads ground.now result tasks.new (inside.looped ground.now.place clauses.now (body_of ground.now body.entry) (scope_of tasks.old) state (continued ground.now tasks.old)) }
     ensures spends { Spends ground.now (of_clauses clauses.now (of_body body.entry)) (of_clauses clauses.now (of_body body.entry)) tasks.old state.turns result tasks.new }
 {
@@ -132,7 +132,7 @@ pub fn turns_from<'m>(
     clauses: &'m [Clause],
     body: Body<'m>,
     state: State,
-) -> Result<Next<'m>, Stop>
+) -> Result<Next<'m>, InsideError>
     ensures leads { Leads _ground.now result tasks.new (inside.turns (inside.count number last) number
         (λ y t next. inside.looped _ground.now.place clauses.now (body_of _ground.now body.entry) (places.bind variable.now y (scope_of tasks.old)) t next)
         state (continued _ground.now tasks.old)) }
@@ -148,7 +148,7 @@ pub fn turns_from<'m>(
         written,
     } = state;
     if turns == 0 {
-        return Err(Stop::Fault(Fault::TooManyTurns));
+        return Err(InsideError::Fault(InsideFault::TooManyTurns));
     }
     tasks.push(Task::Turns(variable, number, last, clauses, body))?;
     tasks.push(Task::Clauses(clauses, body))?;
@@ -170,7 +170,7 @@ pub fn next_turn<'m>(
     clauses: &'m [Clause],
     body: Body<'m>,
     state: State,
-) -> Result<Next<'m>, Stop>
+) -> Result<Next<'m>, InsideError>
     ensures leads { Leads ground.now result tasks.new (inside.turns (inside.count (number +ℤ pos 1) last) (number +ℤ pos 1)
         (λ y t next. inside.looped ground.now.place clauses.now (body_of ground.now body.entry) (places.bind variable.now y (scope_of tasks.old)) t next)
         state (continued ground.now tasks.old)) }
@@ -240,7 +240,7 @@ fn connection_line<'m>(
     tasks: &mut Stack<Task<'m>>,
     line: &'m ConnectionLine,
     state: State,
-) -> Result<Next<'m>, Stop>
+) -> Result<Next<'m>, InsideError>
     ensures leads { Leads ground.now result tasks.new (inside.looped ground.now.place line.now.clauses (inside.connected ground.now.place ground.now.submodules.now ground.now.gates.now (joined ground.now) line.now.connection) (scope_of tasks.old) state (continued ground.now tasks.old)) }
     ensures spends { Spends ground.now (of_clauses line.now.clauses (of_connection line.now.connection)) (of_clauses line.now.clauses (of_connection line.now.connection)) tasks.old state.turns result tasks.new }
 {
@@ -255,7 +255,7 @@ pub fn connection_lines<'m>(
     tasks: &mut Stack<Task<'m>>,
     lines: &'m [ConnectionLine],
     state: State,
-) -> Result<Next<'m>, Stop>
+) -> Result<Next<'m>, InsideError>
     ensures leads { Leads ground.now result tasks.new (inside.connection_lines ground.now.place ground.now.submodules.now ground.now.gates.now (joined ground.now) lines.now (scope_of tasks.old) state (continued ground.now tasks.old)) }
     ensures spends { Spends ground.now (of_connection_lines lines.now) (of_connection_lines lines.now) tasks.old state.turns result tasks.new }
 {
@@ -275,7 +275,7 @@ fn group<'m>(
     tasks: &mut Stack<Task<'m>>,
     group: &'m ConnectionGroup,
     state: State,
-) -> Result<Next<'m>, Stop>
+) -> Result<Next<'m>, InsideError>
     ensures leads { Leads ground.now result tasks.new (inside.looped ground.now.place group.now.clauses (inside.connection_lines ground.now.place ground.now.submodules.now ground.now.gates.now (joined ground.now) group.now.lines) (scope_of tasks.old) state (continued ground.now tasks.old)) }
     ensures spends { Spends ground.now (of_clauses group.now.clauses (of_connection_lines group.now.lines)) (of_clauses group.now.clauses (of_connection_lines group.now.lines)) tasks.old state.turns result tasks.new }
 {
@@ -290,7 +290,7 @@ fn item<'m>(
     tasks: &mut Stack<Task<'m>>,
     item: &'m ConnectionItem,
     state: State,
-) -> Result<Next<'m>, Stop>
+) -> Result<Next<'m>, InsideError>
     ensures leads { Leads ground.now result tasks.new (inside.item ground.now.place ground.now.submodules.now ground.now.gates.now (joined ground.now) item.now (scope_of tasks.old) state (continued ground.now tasks.old)) }
     ensures spends { Spends ground.now (of_item item.now) (of_item item.now) tasks.old state.turns result tasks.new }
 {
@@ -307,7 +307,7 @@ pub fn items<'m>(
     tasks: &mut Stack<Task<'m>>,
     items: &'m [ConnectionItem],
     state: State,
-) -> Result<Next<'m>, Stop>
+) -> Result<Next<'m>, InsideError>
     ensures leads { Leads ground.now result tasks.new (inside.items ground.now.place ground.now.submodules.now ground.now.gates.now (joined ground.now) items.now (scope_of tasks.old) state (continued ground.now tasks.old)) }
     ensures spends { Spends ground.now (of_items items.now) (of_items items.now) tasks.old state.turns result tasks.new }
 {

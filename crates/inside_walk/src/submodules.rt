@@ -15,7 +15,7 @@ use crate::task::{Ground, Next, Sort, Task, Wait};
 use inside_keys::found::State;
 use inside_keys::key::{Module, What};
 use inside_keys::sizes::misplaced_in;
-use inside_parts::fault::{Fault, Stop};
+use inside_parts::fault::{InsideError, InsideFault};
 use inside_parts::gates::{TypeGate, TypeGates};
 use inside_parts::parts::{Made, Part, Parts};
 use inside_parts::stack::Stack;
@@ -114,7 +114,7 @@ fn gate<'m>(
     gate: &'m TypeGate,
     rest: &'m [TypeGate],
     state: State,
-) -> Result<Next<'m>, Stop>
+) -> Result<Next<'m>, InsideError>
     ensures leads { Leads _ground.now result tasks.new (inside.gates holder (size_by sort) (gate.now ∷ rest.now) state (continued _ground.now tasks.old)) }
     ensures spends { Spends _ground.now (of_gates rest.now + 3) 0 tasks.old state.turns result tasks.new }
 {
@@ -137,7 +137,7 @@ pub fn gates<'m>(
     sort: Sort,
     gates: &'m [TypeGate],
     state: State,
-) -> Result<Next<'m>, Stop>
+) -> Result<Next<'m>, InsideError>
     ensures leads { Leads ground.now result tasks.new (inside.gates holder (size_by sort) gates.now state (continued ground.now tasks.old)) }
     ensures spends { Spends ground.now (of_gates gates.now) 0 tasks.old state.turns result tasks.new }
 {
@@ -156,7 +156,7 @@ fn parameter<'m>(
     line: &'m SectionLine,
     rest: &'m [SectionLine],
     state: State,
-) -> Result<Next<'m>, Stop>
+) -> Result<Next<'m>, InsideError>
     ensures leads { Leads _ground.now result tasks.new (inside.parameters holder (line.now ∷ rest.now) state (continued _ground.now tasks.old)) }
     ensures spends { Spends _ground.now (of_section rest.now + 3) 0 tasks.old state.turns result tasks.new }
 {
@@ -177,7 +177,7 @@ pub fn parameters<'m>(
     holder: Module,
     lines: &'m [SectionLine],
     state: State,
-) -> Result<Next<'m>, Stop>
+) -> Result<Next<'m>, InsideError>
     ensures leads { Leads ground.now result tasks.new (inside.parameters holder lines.now state (continued ground.now tasks.old)) }
     ensures spends { Spends ground.now (of_section lines.now) 0 tasks.old state.turns result tasks.new }
 {
@@ -249,7 +249,7 @@ pub fn misplaced<'m>(
     holder: Module,
     name: &'m Text,
     state: State,
-) -> Result<Next<'m>, Stop>
+) -> Result<Next<'m>, InsideError>
     ensures leads { Leads _ground.now result _tasks.new (after _ground.now (doing.Misplaced holder name.entry) (scope_of _tasks.old) state (continued _ground.now _tasks.old)) }
     ensures spends { Spends _ground.now 3 0 _tasks.old state.turns result _tasks.new }
 {
@@ -268,7 +268,7 @@ fn of_type<'m>(
     number: usize,
     declared: &'m TypeDeclaration,
     state: State,
-) -> Result<Next<'m>, Stop>
+) -> Result<Next<'m>, InsideError>
     requires { of_section declared.now.lines ≤ of_types ground.now.types.now }
     ensures leads { Leads ground.now result tasks.new (inside.element_of ground.now.site ground.now.types.now ground.now.gates.now ground.now.is_whole submodule.now child index number state (continued ground.now tasks.old) declared.now) }
     ensures spends { Spends ground.now (of_typed ground.now) 0 tasks.old state.turns result tasks.new }
@@ -308,12 +308,12 @@ fn typed<'m>(
     index: Option<u32>,
     number: usize,
     state: State,
-) -> Result<Next<'m>, Stop>
+) -> Result<Next<'m>, InsideError>
     ensures leads { Leads ground.now result tasks.new (inside.element_typed ground.now.site ground.now.types.now ground.now.gates.now ground.now.is_whole submodule.now child index number state (continued ground.now tasks.old)) }
     ensures spends { Spends ground.now (of_typed ground.now) 0 tasks.old state.turns result tasks.new }
 {
     let Some(declared) = type_at(ground.types, number) else {
-        return Err(Stop::Fault(Fault::UnknownType));
+        return Err(InsideError::Fault(InsideFault::UnknownType));
     };
     of_type(
         alloc, ground, tasks, submodule, child, index, number, declared, state,
@@ -328,7 +328,7 @@ fn element<'m>(
     submodule: &'m Submodule,
     index: Option<u32>,
     state: State,
-) -> Result<Next<'m>, Stop>
+) -> Result<Next<'m>, InsideError>
     ensures leads { Leads ground.now result _tasks.new (inside.element ground.now.site ground.now.types.now ground.now.gates.now ground.now.is_whole submodule.now index state (continued ground.now _tasks.old)) }
     ensures spends { Spends ground.now (of_element ground.now) 0 _tasks.old state.turns result _tasks.new }
 {
@@ -353,7 +353,7 @@ pub fn elements<'m>(
     left: u32,
     all: u32,
     state: State,
-) -> Result<Next<'m>, Stop>
+) -> Result<Next<'m>, InsideError>
     ensures leads { Leads ground.now result tasks.new (inside.elements ground.now.site ground.now.types.now ground.now.gates.now ground.now.is_whole left all submodule.now state (continued ground.now tasks.old)) }
     ensures spends { Spends ground.now (of_elements ground.now left) 0 tasks.old state.turns result tasks.new }
 {
@@ -372,7 +372,7 @@ fn submodule_there<'m>(
     tasks: &mut Stack<Task<'m>>,
     submodule: &'m Submodule,
     state: State,
-) -> Result<Next<'m>, Stop>
+) -> Result<Next<'m>, InsideError>
     ensures leads { Leads ground.now result tasks.new (inside.submodule_there ground.now.site ground.now.types.now ground.now.gates.now ground.now.is_whole submodule.now state (continued ground.now tasks.old)) }
     ensures spends { Spends ground.now (65536 * of_element ground.now + of_element ground.now + 5) 0 tasks.old state.turns result tasks.new }
 {
@@ -394,7 +394,7 @@ fn submodule<'m>(
     tasks: &mut Stack<Task<'m>>,
     submodule: &'m Submodule,
     state: State,
-) -> Result<Next<'m>, Stop>
+) -> Result<Next<'m>, InsideError>
     ensures leads { Leads ground.now result tasks.new (inside.submodule ground.now.site ground.now.types.now ground.now.gates.now ground.now.is_whole submodule.now state (continued ground.now tasks.old)) }
     ensures spends { Spends ground.now (of_submodule ground.now) 0 tasks.old state.turns result tasks.new }
 {
@@ -414,7 +414,7 @@ pub fn submodules<'m>(
     tasks: &mut Stack<Task<'m>>,
     submodules: &'m [Submodule],
     state: State,
-) -> Result<Next<'m>, Stop>
+) -> Result<Next<'m>, InsideError>
     ensures leads { Leads ground.now result tasks.new (inside.submodules ground.now.site ground.now.types.now ground.now.gates.now ground.now.is_whole submodules.now state (continued ground.now tasks.old)) }
     ensures spends { Spends ground.now (of_submodules ground.now submodules.now) 0 tasks.old state.turns result tasks.new }
 {
@@ -426,35 +426,35 @@ pub fn submodules<'m>(
 }
 
 /// A size of 0 to 65,536.
-pub fn size(value: &Value) -> Result<u32, Stop>
+pub fn size(value: &Value) -> Result<u32, InsideError>
     ensures tells { Tells result (sized_by value.now) }
     ensures small { IfOk result (λ n. n ≤ 65536) }
 {
     match value {
         Value::Whole(number) => {
             if *number < 0 || *number > 65536 {
-                Err(Stop::Fault(Fault::GateSize))
+                Err(InsideError::Fault(InsideFault::GateSize))
             } else {
                 Ok(*number as u32)
             }
         }
-        _ => Err(Stop::Fault(Fault::Mismatch)),
+        _ => Err(InsideError::Fault(InsideFault::Mismatch)),
     }
 }
 
 /// The number of a type.
-pub fn number(value: &Value) -> Result<usize, Stop>
+pub fn number(value: &Value) -> Result<usize, InsideError>
     ensures { Tells result (numbered_by value.now) }
 {
     match value {
         Value::Whole(number) => {
             if *number < 0 {
-                Err(Stop::Fault(Fault::Mismatch))
+                Err(InsideError::Fault(InsideFault::Mismatch))
             } else {
                 Ok(*number as usize)
             }
         }
-        _ => Err(Stop::Fault(Fault::Mismatch)),
+        _ => Err(InsideError::Fault(InsideFault::Mismatch)),
     }
 }
 
@@ -465,7 +465,7 @@ fn elements_begun<'m>(
     submodule: &'m Submodule,
     size: u32,
     state: State,
-) -> Result<Next<'m>, Stop>
+) -> Result<Next<'m>, InsideError>
     requires { size ≤ 65536 }
     ensures leads { Leads ground.now result tasks.new (inside.elements ground.now.site ground.now.types.now ground.now.gates.now ground.now.is_whole size size submodule.now
         (states.noted state (Made.Vector (length state.parts.parts) size)) (continued ground.now tasks.old)) }
@@ -485,7 +485,7 @@ fn held<'m>(
     submodule: &'m Submodule,
     value: &Value,
     state: State,
-) -> Result<Next<'m>, Stop>
+) -> Result<Next<'m>, InsideError>
     ensures leads { Leads ground.now result tasks.new (waited ground.now (on.Condition submodule.entry) value.now state (continued ground.now tasks.old)) }
     ensures spends { Spends ground.now (65536 * of_element ground.now + of_element ground.now + 6) 0 tasks.old state.turns result tasks.new }
 {
@@ -495,7 +495,7 @@ fn held<'m>(
             let state = noted(state, Made::Absent)?;
             Ok(Next::Go(state))
         }
-        _ => Err(Stop::Fault(Fault::Mismatch)),
+        _ => Err(InsideError::Fault(InsideFault::Mismatch)),
     }
 }
 
@@ -508,7 +508,7 @@ fn known<'m>(
     index: Option<u32>,
     value: &Value,
     state: State,
-) -> Result<Next<'m>, Stop>
+) -> Result<Next<'m>, InsideError>
     ensures leads { Leads ground.now result tasks.new (waited ground.now (on.Type submodule.entry index) value.now state (continued ground.now tasks.old)) }
     ensures spends { Spends ground.now (of_typed ground.now) 0 tasks.old state.turns result tasks.new }
 {
@@ -525,7 +525,7 @@ pub fn waited<'m>(
     wait: Wait<'m>,
     value: &Value,
     state: State,
-) -> Result<Next<'m>, Stop>
+) -> Result<Next<'m>, InsideError>
     ensures leads { Leads ground.now result tasks.new (waited ground.now wait.entry value.now state (continued ground.now tasks.old)) }
     ensures spends { Spends ground.now (of_wait ground.now wait.entry) 0 tasks.old state.turns result tasks.new }
 {

@@ -2,7 +2,7 @@
 
 use inside_keys::found::{Found, State};
 use inside_keys::key::{Key, Module};
-use inside_keys::place::Place;
+use inside_keys::place::ExpressionPlace;
 use inside_parts::gates::{TypeGate, TypeGates};
 use inside_parts::names::Names;
 use inside_parts::parts::NamedGate;
@@ -10,7 +10,7 @@ use inside_wiring::wiring::{Carrier, GateId};
 use ned_trees::connections::{Arrow, Clause, Connection, ConnectionItem, ConnectionLine};
 use ned_trees::declarations::{SectionLine, Submodule, TypeDeclaration};
 use ned_trees::expressions::Expression;
-use param_eval::evaluation::{Evaluation, Turn};
+use param_eval::evaluation::{Evaluation, EvaluationStep};
 use sim_values::text::Text;
 
 /// The compound module whose inside is built, and what its names can mean.
@@ -18,7 +18,7 @@ use sim_values::text::Text;
 pub struct Ground<'m> {
     pub site: Module,
     /// Where the expressions of its type stand that speak of its inside.
-    pub place: Place,
+    pub place: ExpressionPlace,
     /// The names of the submodules that its type declares, in their order.
     pub submodules: &'m Names,
     /// All flat types.
@@ -117,7 +117,7 @@ pub enum Next<'m> {
     /// The value of a key is asked for.
     Ask(Key, Wait<'m>, State),
     /// An expression has come to this.
-    At(Evaluation<'m>, Turn<'m>, Want<'m>, State),
+    At(Evaluation<'m>, EvaluationStep<'m>, Want<'m>, State),
     /// What a channel does is asked for.
     Carry(Key, Carry, State),
 }

@@ -1,7 +1,7 @@
 -- Which gate an end of a connection names.
 use Rattle.std.specs.Prelude.{ℕ, ℤ, pos, negsuc, ◌+◌, Bool, true, false, ◌&&◌, ◌||◌, not, nat_lt, List, ◌∷◌, Option, Some, None, Result, Ok, Err, if◌then◌else◌, slice_index, slice_set, slice_get, length}
-use Rattle.inside_parts.specs.declared.fault.Fault.{Fault}
-use Rattle.inside_parts.specs.declared.fault.Fault.TheVariants.{NoGate, GateSize, AlreadyConnected}
+use Rattle.inside_parts.specs.declared.fault.InsideFault.{InsideFault}
+use Rattle.inside_parts.specs.declared.fault.InsideFault.TheVariants.{NoGate, GateSize, AlreadyConnected}
 use Rattle.ned_trees.specs.declared.connections.Arrow.{Arrow}
 use Rattle.ned_trees.specs.declared.connections.Arrow.TheVariants.{Right, Left, Both as BothWays}
 use Rattle.ned_trees.specs.declared.declarations.GateDirection.{GateDirection}
@@ -24,7 +24,7 @@ use Rattle.inside_wiring.specs.declared.wiring.Role.TheVariants.{Source, Target,
 use Rattle.inside_wiring.specs.declared.ends.Taken.{Taken}
 use Rattle.inside_wiring.specs.Wired.{Wired, is_open, key, next_index}
 
-abbrev pub or_fault : {A : Type 0} → Fault → Option A → Result A Fault
+abbrev pub or_fault : {A : Type 0} → InsideFault → Option A → Result A InsideFault
 or_fault f None = Err f
 or_fault f (Some x) = Ok x
 
@@ -53,7 +53,7 @@ part_at ps (Some line) index = part_of (length ps.parts) (slice_get ps.made line
 
 -- WHICH SUBMODULE a name and an index mean, where these are the names of those that are declared:
 -- the number of its part
-abbrev pub part_named : List (List ℕ) → Parts → List ℕ → Option ℤ → Result ℕ Fault
+abbrev pub part_named : List (List ℕ) → Parts → List ℕ → Option ℤ → Result ℕ InsideFault
 part_named names ps name index = or_fault NoGate (part_at ps (position_of name names) index)
 
 -- of the part of that number
@@ -76,7 +76,7 @@ gate_of count number types name (Some part) = gate_of_part count number name par
 
 -- WHICH GATE a name means in a part, where the types have these gates; `count` is the number of all
 -- gate vectors
-abbrev pub gate_named : List TypeGates → Parts → ℕ → ℕ → List ℕ → Result NamedGate Fault
+abbrev pub gate_named : List TypeGates → Parts → ℕ → ℕ → List ℕ → Result NamedGate InsideFault
 gate_named types ps count part name = or_fault NoGate (gate_of count part types name (slice_get ps.parts part))
 
 -- whether a half of a gate gives what a role needs: inside a compound module its own gates are seen
@@ -104,33 +104,33 @@ abbrev pub extended : Wired → ℕ → Wired
 extended w v = record { sizes = slice_set w.sizes v (slice_index w.sizes v + 1); links = w.links }
 
 -- a gate at an index within the vector
-abbrev pub unless_taken : Wired → Option GateId → Role → GateId → Result Taken Fault
+abbrev pub unless_taken : Wired → Option GateId → Role → GateId → Result Taken InsideFault
 unless_taken w other role id = if is_open w.links other role (key id) then Ok (record { wiring = w; id = id }) else Err AlreadyConnected
 
 -- the gate of a vector at an index
 abbrev pub gate_of_vector : NamedGate → ℕ → GateId
 gate_of_vector g i = record { part = g.part; vector = g.vector; index = i }
 
-abbrev pub at_natural : Wired → Option GateId → Role → NamedGate → Option ℕ → Result Taken Fault
+abbrev pub at_natural : Wired → Option GateId → Role → NamedGate → Option ℕ → Result Taken InsideFault
 at_natural w other role g None = Err GateSize
 at_natural w other role g (Some i) = if nat_lt i (slice_index w.sizes g.vector) then unless_taken w other role (gate_of_vector g i) else Err GateSize
 
 -- `[index]`
-abbrev pub at_index : Wired → Option GateId → Role → NamedGate → ℤ → Result Taken Fault
+abbrev pub at_index : Wired → Option GateId → Role → NamedGate → ℤ → Result Taken InsideFault
 at_index w other role g z = at_natural w other role g (natural z)
 
-abbrev pub at_free : Wired → NamedGate → ℕ → Result Taken Fault
+abbrev pub at_free : Wired → NamedGate → ℕ → Result Taken InsideFault
 at_free w g i =
     if nat_lt i (slice_index w.sizes g.vector) then Ok (record { wiring = w; id = gate_of_vector g i })
     else if g.is_own || not (nat_lt i 65536) then Err GateSize
     else Ok (record { wiring = extended w g.vector; id = gate_of_vector g i })
 
 -- `++`: the first free gate, or one more of a submodule's vector
-abbrev pub at_next : Wired → Option GateId → Role → NamedGate → Result Taken Fault
+abbrev pub at_next : Wired → Option GateId → Role → NamedGate → Result Taken InsideFault
 at_next w other role g = at_free w g (next_index w other role g.vector)
 
 -- a single gate
-abbrev pub at_single : Wired → Option GateId → Role → NamedGate → Result Taken Fault
+abbrev pub at_single : Wired → Option GateId → Role → NamedGate → Result Taken InsideFault
 at_single w other role g = unless_taken w other role (gate_of_vector g 0)
 
 abbrev pub left_role : Arrow → Role

@@ -8,7 +8,7 @@ ghost use Rattle.inside_wiring.specs.Ends as ends;
 ghost use Rattle.inside_wiring.specs.Wired.{next_index};
 
 use crate::wiring::{Carrier, GateId, Link, Role, Wiring};
-use inside_parts::fault::{Fault, Stop};
+use inside_parts::fault::{InsideError, InsideFault};
 use inside_parts::gates::{TypeGate, TypeGates};
 use inside_parts::names::Names;
 use inside_parts::parts::{Made, NamedGate, Part, Parts};
@@ -73,7 +73,7 @@ pub fn part_named(
     parts: &Parts,
     name: &Text,
     index: Option<i64>,
-) -> Result<usize, Stop>
+) -> Result<usize, InsideError>
     ensures { Tells result (ends.part_named submodules.now parts.now name.now index) }
 {
     let part = match submodules.position(name) {
@@ -82,7 +82,7 @@ pub fn part_named(
     };
     match part {
         Some(part) => Ok(part),
-        None => Err(Stop::Fault(Fault::NoGate)),
+        None => Err(InsideError::Fault(InsideFault::NoGate)),
     }
 }
 
@@ -117,7 +117,7 @@ pub fn gate_named(
     count: usize,
     part: usize,
     name: &Text,
-) -> Result<NamedGate, Stop>
+) -> Result<NamedGate, InsideError>
     ensures value { Tells result (ends.gate_named types.now parts.now count part name.now) }
     ensures within { IfOk result (λ f. f.vector < count) }
 {
@@ -127,7 +127,7 @@ pub fn gate_named(
     };
     match found {
         Some(found) => Ok(found),
-        None => Err(Stop::Fault(Fault::NoGate)),
+        None => Err(InsideError::Fault(InsideFault::NoGate)),
     }
 }
 
@@ -187,13 +187,13 @@ fn unless_taken(
     other: Option<GateId>,
     role: Role,
     id: GateId,
-) -> Result<Taken, Stop>
+) -> Result<Taken, InsideError>
     ensures { Tells result (ends.unless_taken wiring other role id) }
 {
     if wiring.is_open(other, role, id.vector, id.index) {
         Ok(Taken { wiring, id })
     } else {
-        Err(Stop::Fault(Fault::AlreadyConnected))
+        Err(InsideError::Fault(InsideFault::AlreadyConnected))
     }
 }
 
@@ -203,7 +203,7 @@ pub fn at_single(
     other: Option<GateId>,
     role: Role,
     found: NamedGate,
-) -> Result<Taken, Stop>
+) -> Result<Taken, InsideError>
     ensures { Tells result (ends.at_single wiring other role found) }
 {
     let id = GateId {
@@ -221,7 +221,7 @@ fn at_natural(
     role: Role,
     found: NamedGate,
     index: Option<u64>,
-) -> Result<Taken, Stop>
+) -> Result<Taken, InsideError>
     requires { found.vector < length wiring.sizes }
     ensures { Tells result (ends.at_natural wiring other role found index) }
 {
@@ -235,10 +235,10 @@ fn at_natural(
                 };
                 unless_taken(wiring, other, role, id)
             } else {
-                Err(Stop::Fault(Fault::GateSize))
+                Err(InsideError::Fault(InsideFault::GateSize))
             }
         }
-        None => Err(Stop::Fault(Fault::GateSize)),
+        None => Err(InsideError::Fault(InsideFault::GateSize)),
     }
 }
 
@@ -249,11 +249,11 @@ pub fn at_index(
     role: Role,
     found: NamedGate,
     index: i64,
-) -> Result<Taken, Stop>
+) -> Result<Taken, InsideError>
     ensures { Tells result (ends.at_index wiring other role found index) }
 {
     if found.vector >= wiring.count() {
-        return Err(Stop::Fault(Fault::GateSize));
+        return Err(InsideError::Fault(InsideFault::GateSize));
     }
     at_natural(wiring, other, role, found, natural(index))
 }
@@ -264,7 +264,7 @@ pub fn at_next(
     other: Option<GateId>,
     role: Role,
     found: NamedGate,
-) -> Result<Taken, Stop>
+) -> Result<Taken, InsideError>
     requires { found.vector < length wiring.sizes }
     ensures { Tells result (ends.at_next wiring other role found) }
 {
@@ -280,7 +280,7 @@ pub fn at_next(
         return Ok(Taken { wiring, id });
     }
     if found.is_own || index >= 65536 {
-        return Err(Stop::Fault(Fault::GateSize));
+        return Err(InsideError::Fault(InsideFault::GateSize));
     }
     let mut wiring = wiring.note_next(other, role, id)?;
     wiring.extend(vector);

@@ -10,9 +10,9 @@ use Rattle.module_api.specs.declared.reply.Schedule.{Schedule}
 use Rattle.model_questions.specs.Answers.{Answers}
 use Rattle.run_semantics.specs.declared.occasions.Occasion.{Occasion}
 use Rattle.run_semantics.specs.declared.occasions.Occasion.TheVariants as occasion
-use Rattle.run_semantics.specs.declared.outcome.Fault.{Fault}
-use Rattle.run_semantics.specs.declared.outcome.Turn.{Turn}
-use Rattle.run_semantics.specs.declared.outcome.Turn.TheVariants.{GoOn, Stop, Break}
+use Rattle.run_semantics.specs.declared.outcome.RunFault.{RunFault}
+use Rattle.run_semantics.specs.declared.outcome.EventFlow.{EventFlow}
+use Rattle.run_semantics.specs.declared.outcome.EventFlow.TheVariants.{GoOn, Stop, Break}
 use Rattle.run_semantics.specs.declared.traces.Instance.{Instance}
 use Rattle.run_semantics.specs.World.{World, asked}
 use Rattle.event_set.specs.Timers.{has_timer}
@@ -29,7 +29,7 @@ flow_with ms (On w) = On (with_modules ms w)
 flow_with ms (Stopped w) = Stopped (with_modules ms w)
 flow_with ms (Broken w path f) = Broken (with_modules ms w) path f
 
-pub flow_of_with : (ms : List Instance) (turn : Turn) (w : World) → flow_of turn (with_modules ms w) ≡ flow_with ms (flow_of turn w)
+pub flow_of_with : (ms : List Instance) (turn : EventFlow) (w : World) → flow_of turn (with_modules ms w) ≡ flow_with ms (flow_of turn w)
 flow_of_with ms GoOn w = refl
 flow_of_with ms Stop w = refl
 flow_of_with ms (Break path f) w = refl
@@ -64,12 +64,12 @@ deed_apart ms id (SendDirect place message flight) w = refl
 -- ---- what the code of a core does to the world with these modules
 
 -- the fault of a module
-pub broken_is : (ms : List Instance) (id : ℕ) (f : Fault) (core core' : World) (turn : Turn) → core' ≡ core → flow_of turn core ≡ broken id f core → flow_of turn (with_modules ms core') ≡ broken id f (with_modules ms core)
+pub broken_is : (ms : List Instance) (id : ℕ) (f : RunFault) (core core' : World) (turn : EventFlow) → core' ≡ core → flow_of turn core ≡ broken id f core → flow_of turn (with_modules ms core') ≡ broken id f (with_modules ms core)
 broken_is ms id f core core' turn same e =
     ap (λ w. flow_of turn (with_modules ms w)) same ∙ flow_of_with ms turn core ∙ ap (flow_with ms) e
 
 -- a deed
-pub deed_is : (ms : List Instance) (id : ℕ) (action : Action) (core core' : World) (turn : Turn) → flow_of turn core' ≡ deed id action core → flow_of turn (with_modules ms core') ≡ deed id action (with_modules ms core)
+pub deed_is : (ms : List Instance) (id : ℕ) (action : Action) (core core' : World) (turn : EventFlow) → flow_of turn core' ≡ deed id action core → flow_of turn (with_modules ms core') ≡ deed id action (with_modules ms core)
 deed_is ms id action core core' turn e = flow_of_with ms turn core' ∙ ap (flow_with ms) e ∙ sym (deed_apart ms id action core)
 
 -- the questions of reads

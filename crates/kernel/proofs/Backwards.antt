@@ -7,7 +7,7 @@ use Rattle.run_semantics.specs.Run.{standing}
 use Rattle.run_semantics.specs.World.{World}
 use Rattle.kernel.specs.declared.request.Request.{Request}
 use Rattle.kernel.specs.Seats.{request_for}
-use Rattle.kernel_boxes.specs.Seats.{Seat, instance_of, AreOfKinds, AreKept}
+use Rattle.kernel_boxes.specs.Seats.{BoxAt, instance_of, AreOfKinds, AreKept}
 use Rattle.kernel_boxes.specs.Saved.{CanTake}
 use Rattle.kernel_boxes.specs.Staying.{first_without, staying, IdsRise}
 use Rattle.kernel_boxes.proofs.Going.{all_there, kinds_stay}
@@ -18,14 +18,14 @@ none_found f None e = refl
 none_found f (Some x) e = cc
 
 -- the boxes that stay are left, each of its kind
-pub those_left : (b : Behaviour) (saved : List Instance) (old new : List Seat) → new ≡ staying saved old → AreOfKinds b old → AreKept b (staying saved old) new
+pub those_left : (b : Behaviour) (saved : List Instance) (old new : List BoxAt) → new ≡ staying saved old → AreOfKinds b old → AreKept b (staying saved old) new
 those_left b saved old new same kinds = record {
   kinds = subst (AreOfKinds b) (sym same) (kinds_stay b saved old kinds);
   standing_is = ap (λ ts. standing (map instance_of ts)) same;
 }
 
 -- WHERE NONE IS WANTED the boxes can take the states of the position
-pub can_take : (b : Behaviour) (w : World) (saved : List Instance) (below : ℕ) (old new : List Seat) → IdsRise 0 saved → Rise 0 below old → AreStates b saved → AreOfKinds b old → new ≡ staying saved old
+pub can_take : (b : Behaviour) (w : World) (saved : List Instance) (below : ℕ) (old new : List BoxAt) → IdsRise 0 saved → Rise 0 below old → AreStates b saved → AreOfKinds b old → new ≡ staying saved old
     → (wanted : Option Request) → wanted ≡ None → wanted ≡ option_map (request_for w) (first_without (standing (map instance_of new)) (standing saved)) → CanTake b saved new
 can_take b w saved below old new rising rise states kinds same wanted none is =
     let found = none_found (request_for w) (first_without (standing (map instance_of new)) (standing saved)) (sym is ∙ none) in

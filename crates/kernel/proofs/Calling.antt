@@ -2,21 +2,21 @@
 use Rattle.std.proofs.Common.{◌≡◌, ℕ, ◌+◌, ◌≤◌, ◌==◌, Bool, true, false, cond, List, [], ◌∷◌, Option, Some, None, IfOk, Result, Ok, Err, refl, sym, ap, ◌∙◌, subst, map}
 use Rattle.sim_values.specs.declared.NoMemory.{NoMemory}
 use Rattle.module_api.specs.declared.call.Call.{Call}
-use Rattle.module_api.specs.declared.call.Prompt.{Prompt}
+use Rattle.module_api.specs.declared.call.CallReason.{CallReason}
 use Rattle.module_api.specs.declared.reply.Action.{Action}
 use Rattle.module_api.specs.declared.reply.Reply.{Reply}
 use Rattle.module_api.specs.Behaviour.{Behaviour, Replied}
 use Rattle.module_api.specs.Meaning.{Module, IsOfKind}
 use Rattle.model_questions.specs.Answers.{Answers}
 use Rattle.run_semantics.specs.declared.occasions.Occasion.{Occasion}
-use Rattle.run_semantics.specs.declared.outcome.Turn.{Turn}
+use Rattle.run_semantics.specs.declared.outcome.EventFlow.{EventFlow}
 use Rattle.run_semantics.specs.declared.traces.Instance.{Instance}
 use Rattle.run_semantics.specs.World.{World}
 use Rattle.run_semantics.specs.Perform.{Flow, On, flow_of, act, answered}
 use Rattle.run_semantics.specs.Event.{call_of, instance_in, with_state, changed, replied, called, calling, call_at}
 use Rattle.run_semantics.specs.Run.{standing}
 use Rattle.run_semantics.proofs.Sound.{in_flow, in_flow-of, Keeps, act_keeps}
-use Rattle.kernel_boxes.specs.Seats.{Seat, instance_of, module_in, AreOfKinds, AreKept}
+use Rattle.kernel_boxes.specs.Seats.{BoxAt, instance_of, module_in, AreOfKinds, AreKept}
 use Rattle.kernel_boxes.proofs.Keeping.{kind_same, kind_in, kinds_with, standing_with, states_with}
 use Rattle.kernel_actions.specs.Positions.{IsGrownFrom}
 use Rattle.kernel.specs.Seats.{world_of, IsCalled, IsServed}
@@ -30,15 +30,15 @@ ok_step (Err e) p step = tt
 -- ---- what a call leaves
 
 -- WHAT A CALL LEAVES: boxes of their kinds, of the same modules
-pub served_kept : (b : Behaviour) (id : ℕ) (old new : List Seat) (call : Call) (result : Option (Result Reply NoMemory)) → IsServed id old new call result → AreOfKinds b old → AreKept b old new
+pub served_kept : (b : Behaviour) (id : ℕ) (old new : List BoxAt) (call : Call) (result : Option (Result Reply NoMemory)) → IsServed id old new call result → AreOfKinds b old → AreKept b old new
 served_kept b id old new call None s h = rw s.1 (record { kinds = h; standing_is = refl })
 served_kept b id old new call (Some result) s h = record {
   kinds = subst (AreOfKinds b) (sym s.seats) (kinds_with b id s.after old (kind_same b s.before s.after s.same (kind_in b id old s.before s.found h)) h);
-  standing_is = ap (λ (ss : List Seat). standing (map instance_of ss)) s.seats ∙ standing_with id old s.before s.after s.found s.same.kind;
+  standing_is = ap (λ (ss : List BoxAt). standing (map instance_of ss)) s.seats ∙ standing_with id old s.before s.after s.found s.same.kind;
 }
 
 -- whatever the modules are
-pub boxed_grows : (v w : World) (old new : List Seat) → IsGrownFrom v w → IsGrownFrom (world_of v old) (world_of w new)
+pub boxed_grows : (v w : World) (old new : List BoxAt) → IsGrownFrom v w → IsGrownFrom (world_of v old) (world_of w new)
 boxed_grows v w old new g = record {
   records = g.records;
   dead = g.dead;
@@ -52,11 +52,11 @@ boxed_grows v w old new g = record {
 -- ---- what a call does
 
 -- what a box says is what its module says in the definitions
-module _ (b : Behaviour) (m : Answers) (follow : Reply → World → Flow) (id : ℕ) (p : Prompt) (w : World) where
+module _ (b : Behaviour) (m : Answers) (follow : Reply → World → Flow) (id : ℕ) (p : CallReason) (w : World) where
   abbrev reply_by : Module → Replied
   reply_by box = (b.naming box.kind).reply box.state (call_of m id p w)
 
-  found_called : (ss : List Seat) (before : Module) → module_in id ss ≡ Some before → called b m follow id p w (instance_in id (map instance_of ss)) ≡ replied follow id (reply_by before) w
+  found_called : (ss : List BoxAt) (before : Module) → module_in id ss ≡ Some before → called b m follow id p w (instance_in id (map instance_of ss)) ≡ replied follow id (reply_by before) w
   found_called [] before e = cc
   found_called (s ∷ ss) before e = by (s.id == id) (found_called ss before) e
     where
@@ -65,7 +65,7 @@ module _ (b : Behaviour) (m : Answers) (follow : Reply → World → Flow) (id :
       by true later e = let same : s.box ≡ before = cc in ap (λ (x : Module). replied follow id (reply_by x) w) same
       by false later e = later e
 
-  none_called : (ss : List Seat) → module_in id ss ≡ None → On w ≡ called b m follow id p w (instance_in id (map instance_of ss))
+  none_called : (ss : List BoxAt) → module_in id ss ≡ None → On w ≡ called b m follow id p w (instance_in id (map instance_of ss))
   none_called [] e = refl
   none_called (s ∷ ss) e = by (s.id == id) (none_called ss) e
     where
@@ -74,7 +74,7 @@ module _ (b : Behaviour) (m : Answers) (follow : Reply → World → Flow) (id :
       by true later e = cc
       by false later e = later e
 
-module _ (b : Behaviour) (m : Answers) (follow : Reply → World → Flow) (id : ℕ) (p : Prompt) (core : World) (old new : List Seat) (reply : Reply) (kinds : AreOfKinds b old) (s : IsCalled id old new (call_of m id p core) (Ok reply)) where
+module _ (b : Behaviour) (m : Answers) (follow : Reply → World → Flow) (id : ℕ) (p : CallReason) (core : World) (old new : List BoxAt) (reply : Reply) (kinds : AreOfKinds b old) (s : IsCalled id old new (call_of m id p core) (Ok reply)) where
   abbrev said : Replied
   said = reply_by b m follow id p core s.before
 
@@ -97,21 +97,21 @@ module _ (b : Behaviour) (m : Answers) (follow : Reply → World → Flow) (id :
 
 -- A CALL in code is a call of the definitions, where what follows its reply is what follows it
 -- there
-calling_is : (b : Behaviour) (m : Answers) (follow : Reply → World → Flow) (id : ℕ) (p : Prompt) (core left : World) (old new : List Seat) (reply : Reply) (turn : Turn) → AreOfKinds b old → IsCalled id old new (call_of m id p core) (Ok reply)
+calling_is : (b : Behaviour) (m : Answers) (follow : Reply → World → Flow) (id : ℕ) (p : CallReason) (core left : World) (old new : List BoxAt) (reply : Reply) (turn : EventFlow) → AreOfKinds b old → IsCalled id old new (call_of m id p core) (Ok reply)
     → flow_of turn left ≡ follow reply (world_of core new) → flow_of turn left ≡ calling b m follow id p (world_of core old)
 calling_is b m follow id p core left old new reply turn kinds s e =
     e ∙ called_is_step b m follow id p core old new reply kinds s ∙ sym (found_called b m follow id p (world_of core old) old s.before s.found)
 
-calling_none : (b : Behaviour) (m : Answers) (follow : Reply → World → Flow) (id : ℕ) (p : Prompt) (core : World) (old new : List Seat) → (module_in id old ≡ None) × (new ≡ old) → On (world_of core new) ≡ calling b m follow id p (world_of core old)
-calling_none b m follow id p core old new h = ap (λ (ss : List Seat). On (world_of core ss)) h.1 ∙ none_called b m follow id p (world_of core old) old h.0
+calling_none : (b : Behaviour) (m : Answers) (follow : Reply → World → Flow) (id : ℕ) (p : CallReason) (core : World) (old new : List BoxAt) → (module_in id old ≡ None) × (new ≡ old) → On (world_of core new) ≡ calling b m follow id p (world_of core old)
+calling_none b m follow id p core old new h = ap (λ (ss : List BoxAt). On (world_of core ss)) h.1 ∙ none_called b m follow id p (world_of core old) old h.0
 
-pub called_is : (b : Behaviour) (m : Answers) (o : Occasion) (id : ℕ) (p : Prompt) (core left : World) (old new : List Seat) (reply : Reply) (turn : Turn) → AreOfKinds b old → IsCalled id old new (call_of m id p core) (Ok reply)
+pub called_is : (b : Behaviour) (m : Answers) (o : Occasion) (id : ℕ) (p : CallReason) (core left : World) (old new : List BoxAt) (reply : Reply) (turn : EventFlow) → AreOfKinds b old → IsCalled id old new (call_of m id p core) (Ok reply)
     → flow_of turn left ≡ answered b m o id reply (world_of core new) → flow_of turn left ≡ call_at b m o id p (world_of core old)
 called_is b m o id p core left old new reply turn kinds s e = calling_is b m (answered b m o id) id p core left old new reply turn kinds s e
 
-pub passed_over : (b : Behaviour) (m : Answers) (o : Occasion) (id : ℕ) (p : Prompt) (core : World) (old new : List Seat) → (module_in id old ≡ None) × (new ≡ old) → On (world_of core new) ≡ call_at b m o id p (world_of core old)
+pub passed_over : (b : Behaviour) (m : Answers) (o : Occasion) (id : ℕ) (p : CallReason) (core : World) (old new : List BoxAt) → (module_in id old ≡ None) × (new ≡ old) → On (world_of core new) ≡ call_at b m o id p (world_of core old)
 passed_over b m o id p core old new h = calling_none b m (answered b m o id) id p core old new h
 
 -- an action inserts one event at most, by what the code says of it
-pub act_next : (b : Behaviour) (m : Answers) (o : Occasion) (id : ℕ) (action : Action) (turn : Turn) (w v : World) → flow_of turn v ≡ act b m o id action w → v.next ≤ w.next + 1
+pub act_next : (b : Behaviour) (m : Answers) (o : Occasion) (id : ℕ) (action : Action) (turn : EventFlow) (w v : World) → flow_of turn v ≡ act b m o id action w → v.next ≤ w.next + 1
 act_next b m o id action turn w v e = (subst (Keeps 1 w) (ap in_flow (sym e) ∙ in_flow-of turn v) (act_keeps b m o id action w)).next

@@ -4,7 +4,7 @@ use Rattle.std.proofs.lemmas.Bool.Decides.{nat_tests}
 use Rattle.module_api.specs.Meaning.{Module}
 use Rattle.module_tree.specs.Boxes.{Seated, AreRising}
 use Rattle.run_semantics.specs.Run.{Part, standing}
-use Rattle.kernel_boxes.specs.Seats.{Seat, instance_of, module_in}
+use Rattle.kernel_boxes.specs.Seats.{BoxAt, instance_of, module_in}
 use Rattle.kernel.specs.Parts.{part_in}
 use Rattle.kernel_boxes.proofs.Seating.{seat}
 
@@ -95,7 +95,7 @@ left_some n from below ps p r e = left_step n from below ps r ∙ ap (λ (o : Op
 abbrev pub part_for : ℕ → Module → Part
 part_for id box = record { id = id; kind = box.kind }
 
-pub part_standing : (id : ℕ) (ss : List Seat) → part_in id (standing (map instance_of ss)) ≡ option_map (part_for id) (module_in id ss)
+pub part_standing : (id : ℕ) (ss : List BoxAt) → part_in id (standing (map instance_of ss)) ≡ option_map (part_for id) (module_in id ss)
 part_standing id [] = refl
 part_standing id (s ∷ ss) = by (s.id == id) refl (part_standing id ss)
   where

@@ -15,7 +15,7 @@ use Rattle.model_questions.specs.declared.answer.Answer.{Answer}
 use Rattle.model_questions.specs.declared.answer.Question.{Question}
 use Rattle.model_questions.specs.declared.answer.Question.TheVariants.{GateSize, Hop, HopBack}
 use Rattle.model_questions.specs.Answers.{Answers, answer_of}
-use Rattle.run_semantics.specs.declared.outcome.Turn.{Turn}
+use Rattle.run_semantics.specs.declared.outcome.EventFlow.{EventFlow}
 use Rattle.run_semantics.specs.declared.routes.NextHop.{NextHop}
 use Rattle.run_semantics.specs.declared.routes.PassedHop.{PassedHop}
 use Rattle.run_semantics.specs.declared.routes.PlacedGate.{PlacedGate}
@@ -92,13 +92,13 @@ module _ (ms : List Instance) (m : Answers) (id : ℕ) where
 
 -- ---- what the code of a core does to the world with these modules
 
-flow_is : (ms : List Instance) (turn : Turn) (core' : World) (f g : Flow) → flow_of turn core' ≡ f → g ≡ flow_with ms f → flow_of turn (with_modules ms core') ≡ g
+flow_is : (ms : List Instance) (turn : EventFlow) (core' : World) (f g : Flow) → flow_of turn core' ≡ f → g ≡ flow_with ms f → flow_of turn (with_modules ms core') ≡ g
 flow_is ms turn core' f g e h = flow_of_with ms turn core' ∙ ap (flow_with ms) e ∙ sym h
 
-pub sent_is : (ms : List Instance) (m : Answers) (id : ℕ) (gate : OwnGate) (message : Outgoing) (departure : Option ℕ) (core core' : World) (turn : Turn) → flow_of turn core' ≡ sent m id gate message departure core → flow_of turn (with_modules ms core') ≡ sent m id gate message departure (with_modules ms core)
+pub sent_is : (ms : List Instance) (m : Answers) (id : ℕ) (gate : OwnGate) (message : Outgoing) (departure : Option ℕ) (core core' : World) (turn : EventFlow) → flow_of turn core' ≡ sent m id gate message departure core → flow_of turn (with_modules ms core') ≡ sent m id gate message departure (with_modules ms core)
 sent_is ms m id gate message departure core core' turn e = flow_is ms turn core' _ _ e (sent_apart ms m id gate message departure core)
 
-pub direct_is : (ms : List Instance) (m : Answers) (id : ℕ) (place : GatePlace) (message : Outgoing) (flight : Flight) (core core' : World) (turn : Turn) → flow_of turn core' ≡ sent_direct m id place message flight core → flow_of turn (with_modules ms core') ≡ sent_direct m id place message flight (with_modules ms core)
+pub direct_is : (ms : List Instance) (m : Answers) (id : ℕ) (place : GatePlace) (message : Outgoing) (flight : Flight) (core core' : World) (turn : EventFlow) → flow_of turn core' ≡ sent_direct m id place message flight core → flow_of turn (with_modules ms core') ≡ sent_direct m id place message flight (with_modules ms core)
 direct_is ms m id place message flight core core' turn e = flow_is ms turn core' _ _ e (direct_apart ms m id place message flight core)
 
 -- what sends nothing is a deed

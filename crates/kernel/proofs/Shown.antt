@@ -1,46 +1,46 @@
 -- Calls whose modules' paths and parameters come from a table, and the table after them.
 use Rattle.std.proofs.Common.{◌≡◌, ℕ, List, sym, ap, ◌∙◌, subst}
 use Rattle.module_api.specs.declared.call.Call.{Call}
-use Rattle.module_api.specs.declared.call.Prompt.{Prompt}
+use Rattle.module_api.specs.declared.call.CallReason.{CallReason}
 use Rattle.module_api.specs.Behaviour.{Behaviour}
 use Rattle.model_questions.specs.Answers.{Answers}
 use Rattle.model_questions.specs.declared.record.Record.{Record}
 use Rattle.run_semantics.specs.declared.occasions.Occasion.{Occasion}
-use Rattle.run_semantics.specs.declared.outcome.Turn.{Turn}
+use Rattle.run_semantics.specs.declared.outcome.EventFlow.{EventFlow}
 use Rattle.run_semantics.specs.Event.{call_of, call_at}
 use Rattle.run_semantics.specs.Perform.{flow_of}
 use Rattle.run_semantics.specs.World.{World}
-use Rattle.kernel_call_views.specs.declared.Shown.{Shown}
-use Rattle.kernel_call_views.specs.declared.ShownModules.{ShownModules}
+use Rattle.kernel_call_views.specs.declared.CallView.{CallView}
+use Rattle.kernel_call_views.specs.declared.CallViews.{CallViews}
 use Rattle.kernel_call_views.specs.Tables.{shown_of, AreShown, IsShown}
 use Rattle.kernel_call_views.proofs.Showing.{shown_on}
 use Rattle.kernel.specs.Calls.{call_with}
 use Rattle.kernel_actions.specs.Positions.{IsGrownFrom}
 
 -- a call says itself of which module it is, and what for
-pub told_itself : (m : Answers) (id : ℕ) (p : Prompt) (w : World) (call : Call) → call ≡ call_of m id p w → call ≡ call_of m call.id call.prompt w
+pub told_itself : (m : Answers) (id : ℕ) (p : CallReason) (w : World) (call : Call) → call ≡ call_of m id p w → call ≡ call_of m call.id call.prompt w
 told_itself m id p w call e =
     e ∙ (ap (λ i. call_of m i p w) (sym (ap (λ (k : Call). k.id) e)) ∙ ap (λ q. call_of m call.id q w) (sym (ap (λ (k : Call). k.prompt) e)))
 
-pub named_step : (b : Behaviour) (m : Answers) (o : Occasion) (id : ℕ) (p : Prompt) (v w : World) (call : Call) (turn : Turn) → call ≡ call_of m id p v
+pub named_step : (b : Behaviour) (m : Answers) (o : Occasion) (id : ℕ) (p : CallReason) (v w : World) (call : Call) (turn : EventFlow) → call ≡ call_of m id p v
     → flow_of turn w ≡ call_at b m o call.id call.prompt v → flow_of turn w ≡ call_at b m o id p v
 named_step b m o id p v w call turn e step =
     step ∙ (ap (λ i. call_at b m o i call.prompt v) (ap (λ (k : Call). k.id) e) ∙ ap (λ q. call_at b m o id q v) (ap (λ (k : Call). k.prompt) e))
 
 -- a call that shows what was found is the call of the definitions
-pub told_shown : (m : Answers) (id : ℕ) (p : Prompt) (w : World) (shown : Shown) (call : Call) → shown ≡ shown_of m w.records id → call ≡ call_with id p shown w → call ≡ call_of m id p w
-told_shown m id p w shown call found e = e ∙ ap (λ (s : Shown). call_with id p s w) found
+pub told_shown : (m : Answers) (id : ℕ) (p : CallReason) (w : World) (shown : CallView) (call : Call) → shown ≡ shown_of m w.records id → call ≡ call_with id p shown w → call ≡ call_of m id p w
+told_shown m id p w shown call found e = e ∙ ap (λ (s : CallView). call_with id p s w) found
 
 -- what it showed
-abbrev shown_by : Call → Shown
+abbrev shown_by : Call → CallView
 shown_by call = record { path = call.path; parameters = call.parameters; gates = call.gates }
 
 -- and that lasts
-pub lent_shown : (m : Answers) (id : ℕ) (p : Prompt) (w : World) (shown : Shown) (call : Call) (again : Shown) → shown ≡ shown_of m w.records id → call ≡ call_with id p shown w → again ≡ shown_by call
+pub lent_shown : (m : Answers) (id : ℕ) (p : CallReason) (w : World) (shown : CallView) (call : Call) (again : CallView) → shown ≡ shown_of m w.records id → call ≡ call_with id p shown w → again ≡ shown_by call
     → IsShown m w.records id (shown_of m w.records id) → IsShown m w.records id again
 lent_shown m id p w shown call again found e same lasts =
     subst (IsShown m w.records id) (sym (same ∙ (ap shown_by e ∙ found))) lasts
 
 -- where modules are only created, a table stays right
-pub shown_grows : (m : Answers) (v w : World) (table : ShownModules) → IsGrownFrom v w → AreShown m v.records table → AreShown m w.records table
+pub shown_grows : (m : Answers) (v w : World) (table : CallViews) → IsGrownFrom v w → AreShown m v.records table → AreShown m w.records table
 shown_grows m v w table g h = subst (λ (rs : List Record). AreShown m rs table) g.records.1 (shown_on m v.records g.records.0 table h)

@@ -2,23 +2,23 @@
 use Rattle.std.proofs.Common.{◌≡◌, ℕ, zero, suc, ◌+◌, ◌-◌, ◌≤◌, ◌<◌, ◌==◌, nat_lt, max, Bool, true, false, cond, List, [], ◌∷◌, Option, Some, None, is_some, not, unwrap_or, refl, sym, ap, ◌∙◌, add-one, arith, drop, get_or, length, map}
 use Rattle.std.proofs.lemmas.Bool.Decides.{nat_tests}
 use Rattle.module_api.specs.Behaviour.{Behaviour}
-use Rattle.module_api.specs.declared.call.Prompt.TheVariants as prompt
+use Rattle.module_api.specs.declared.call.CallReason.TheVariants as prompt
 use Rattle.module_api.specs.Meaning.{Module}
 use Rattle.model_questions.specs.Answers.{Answers}
-use Rattle.run_semantics.specs.declared.outcome.Turn.{Turn}
-use Rattle.run_semantics.specs.declared.outcome.Turn.TheVariants.{GoOn, Stop, Break}
+use Rattle.run_semantics.specs.declared.outcome.EventFlow.{EventFlow}
+use Rattle.run_semantics.specs.declared.outcome.EventFlow.TheVariants.{GoOn, Stop, Break}
 use Rattle.run_semantics.specs.declared.traces.Instance.{Instance}
 use Rattle.run_semantics.specs.World.{World}
 use Rattle.run_semantics.specs.Perform.{Flow, On, ◌>>=◌, flow_of, for_each}
 use Rattle.run_semantics.specs.Event.{call_module, instance_in}
 use Rattle.run_semantics.specs.Run.{stages_in, most_stages, initialize, one_stage, stages_from}
-use Rattle.kernel_boxes.specs.Seats.{Seat, instance_of, module_in, AreOfKinds}
+use Rattle.kernel_boxes.specs.Seats.{BoxAt, instance_of, module_in, AreOfKinds}
 use Rattle.kernel.specs.Seats.{stages_of}
 
 -- ---- stages
 
 -- the stages that a box tells are those of its module
-pub stages_told : (b : Behaviour) (id : ℕ) (ss : List Seat) → AreOfKinds b ss → unwrap_or (stages_of (module_in id ss)) 0 ≡ stages_in b (instance_in id (map instance_of ss))
+pub stages_told : (b : Behaviour) (id : ℕ) (ss : List BoxAt) → AreOfKinds b ss → unwrap_or (stages_of (module_in id ss)) 0 ≡ stages_in b (instance_in id (map instance_of ss))
 stages_told b id [] h = refl
 stages_told b id (s ∷ ss) h = by (s.id == id) (stages_told b id ss h.1)
   where
@@ -49,7 +49,7 @@ initialize-called b m stage id stages w fl told h f = rw (ap (nat_lt stage) (sym
 -- ---- loops
 
 -- a turn that doesn't go on is the last
-pub stops : (turn : Turn) (w : World) (k : World → Flow) → (turn ≡ GoOn → ⊥) → (flow_of turn w >>= k) ≡ flow_of turn w
+pub stops : (turn : EventFlow) (w : World) (k : World → Flow) → (turn ≡ GoOn → ⊥) → (flow_of turn w >>= k) ≡ flow_of turn w
 stops GoOn w k h = absurd (h refl)
 stops Stop w k h = refl
 stops (Break path f) w k h = refl

@@ -6,7 +6,7 @@ use Rattle.model_questions.specs.Records.{path_of}
 use Rattle.run_semantics.specs.declared.traces.Instance.{Instance}
 use Rattle.run_semantics.specs.Run.{Part, standing}
 use Rattle.run_semantics.specs.Upcoming.{id_at}
-use Rattle.kernel_boxes.specs.Seats.{Seat, instance_of, module_in}
+use Rattle.kernel_boxes.specs.Seats.{BoxAt, instance_of, module_in}
 use Rattle.kernel.specs.Seats.{stands_at}
 use Rattle.kernel.specs.Parts.{part_in}
 use Rattle.kernel.proofs.Rising.{Rise, parts_left, all_left, none_left, left_none, left_some, part_for, part_standing}
@@ -33,7 +33,7 @@ target_at records path n below ps None rise e = ap (id_among records path) (left
 target_at records path n below ps (Some box) rise e = ap (id_among records path) (left_some n 0 below ps (part_for n box) rise e)
 
 -- one id more: it is this one, or it is left
-pub target_step : (records : List Record) (path : List ℕ) (n below : ℕ) (ss : List Seat) (whole : Option ℕ) (here : Bool) → Rise 0 below (standing (map instance_of ss)) → here ≡ stands_at records path n (module_in n ss)
+pub target_step : (records : List Record) (path : List ℕ) (n below : ℕ) (ss : List BoxAt) (whole : Option ℕ) (here : Bool) → Rise 0 below (standing (map instance_of ss)) → here ≡ stands_at records path n (module_in n ss)
     → id_among records path (parts_left n (standing (map instance_of ss))) ≡ whole → (if here then Some n else id_among records path (parts_left (n + 1) (standing (map instance_of ss)))) ≡ whole
 target_step records path n below ss whole here rise is done =
     ap (λ (t : Bool). if t then Some n else id_among records path (parts_left (n + 1) (standing (map instance_of ss)))) is

@@ -8,7 +8,7 @@ use Rattle.event_set.specs.declared.pending.Pending.{Pending}
 use Rattle.run_semantics.specs.declared.traces.Instance.{Instance}
 use Rattle.run_semantics.specs.World.{World}
 use Rattle.run_semantics.specs.Event.{event}
-use Rattle.model_questions.specs.declared.answer.Asked.{Asked}
+use Rattle.model_questions.specs.declared.answer.AskedQuestion.{AskedQuestion}
 use Rattle.run_semantics.specs.Upcoming.{Upcoming, Comes, Nothing, first_of, upcoming, upcoming_in}
 use Rattle.run_semantics.proofs.Looking.{beside}
 use Rattle.run_semantics.specs.Run.{Stage, Running, Over, settled, is_after_limit, next_stage, went}
@@ -58,7 +58,7 @@ pub first_look : (m : Answers) (w : World) (look : Look) → look ≡ record { d
 unfolding upcoming
 first_look m w look e =
     ap (λ (l : Look). upcoming_in (suc (length m.injections)) m w.pending (looked w l)) e
-    ∙ ap (λ (qs : List Asked). upcoming_in (suc (length m.injections)) m w.pending (record w { questions = qs })) (append-nil w.questions)
+    ∙ ap (λ (qs : List AskedQuestion). upcoming_in (suc (length m.injections)) m w.pending (record w { questions = qs })) (append-nil w.questions)
 
 -- an injection was discarded
 pub next_look : (m : Answers) (w : World) (before after : Look) (n : Option Next) (most counter left : ℕ) → counter < most → left + counter ≡ most

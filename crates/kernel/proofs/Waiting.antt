@@ -9,7 +9,7 @@ use Rattle.run_semantics.specs.declared.traces.Instance.{Instance}
 use Rattle.run_semantics.specs.World.{World}
 use Rattle.run_semantics.specs.Perform.{Flow, On, ◌>>=◌}
 use Rattle.run_semantics.specs.Run.{Part, fresh, first_unknown, needs, place_parts, placed, prepared, ready, standing, unless_unknown}
-use Rattle.kernel_boxes.specs.Seats.{Seat, instance_of, AreOfKinds}
+use Rattle.kernel_boxes.specs.Seats.{BoxAt, instance_of, AreOfKinds}
 use Rattle.kernel.specs.Seats.{AreFresh, world_of}
 use Rattle.kernel_boxes.specs.Staying.{first_without, is_held}
 use Rattle.kernel.proofs.Rising.{Rise}
@@ -17,7 +17,7 @@ use Rattle.kernel.proofs.Rising.{Rise}
 -- ---- what they are
 
 -- they are of their modules
-pub fresh_standing : (b : Behaviour) (ps : List Part) (ss : List Seat) → AreFresh b ps ss → standing (map instance_of ss) ≡ ps
+pub fresh_standing : (b : Behaviour) (ps : List Part) (ss : List BoxAt) → AreFresh b ps ss → standing (map instance_of ss) ≡ ps
 fresh_standing b [] [] h = refl
 fresh_standing b [] (s ∷ ss) h = absurd h
 fresh_standing b (p ∷ ps) [] h = absurd h
@@ -27,14 +27,14 @@ fresh_standing b (p ∷ ps) (s ∷ ss) h =
     ∙ ap (λ qs. p ∷ qs) (fresh_standing b ps ss h.2)
 
 -- each is of its kind
-pub fresh_kinds : (b : Behaviour) (ps : List Part) (ss : List Seat) → AreFresh b ps ss → AreOfKinds b ss
+pub fresh_kinds : (b : Behaviour) (ps : List Part) (ss : List BoxAt) → AreFresh b ps ss → AreOfKinds b ss
 fresh_kinds b [] [] h = tt
 fresh_kinds b [] (s ∷ ss) h = absurd h
 fresh_kinds b (p ∷ ps) [] h = absurd h
 fresh_kinds b (p ∷ ps) (s ∷ ss) h = (h.1.of_kind, fresh_kinds b ps ss h.2)
 
 -- what a world holds of them are the modules in their states at first
-pub fresh_instances : (b : Behaviour) (ps : List Part) (ss : List Seat) → AreFresh b ps ss → map instance_of ss ≡ map (fresh b) ps
+pub fresh_instances : (b : Behaviour) (ps : List Part) (ss : List BoxAt) → AreFresh b ps ss → map instance_of ss ≡ map (fresh b) ps
 fresh_instances b [] [] h = refl
 fresh_instances b [] (s ∷ ss) h = absurd h
 fresh_instances b (p ∷ ps) [] h = absurd h
@@ -46,14 +46,14 @@ fresh_instances b (p ∷ ps) (s ∷ ss) h =
     ∙ ap (λ is. fresh b p ∷ is) (fresh_instances b ps ss h.2)
 
 -- no kind is unknown
-pub fresh_known : (b : Behaviour) (ps : List Part) (ss : List Seat) → AreFresh b ps ss → first_unknown b ps ≡ None
+pub fresh_known : (b : Behaviour) (ps : List Part) (ss : List BoxAt) → AreFresh b ps ss → first_unknown b ps ≡ None
 fresh_known b [] [] h = refl
 fresh_known b [] (s ∷ ss) h = absurd h
 fresh_known b (p ∷ ps) [] h = absurd h
 fresh_known b (p ∷ ps) (s ∷ ss) h = let known : b.known p.kind ≡ true = ap b.known (sym h.1.kind) ∙ h.1.of_kind.known in rw known (fresh_known b ps ss h.2)
 
 -- THE START BEGINS where the modules of a network that was set up have their boxes
-pub fresh_ready : (b : Behaviour) (m : Answers) (w : World) (old ss : List Seat) → map instance_of old ≡ [] → On (world_of w old) ≡ prepared m → AreFresh b (needs (world_of w old)) ss → On (world_of w ss) ≡ ready b m
+pub fresh_ready : (b : Behaviour) (m : Answers) (w : World) (old ss : List BoxAt) → map instance_of old ≡ [] → On (world_of w old) ≡ prepared m → AreFresh b (needs (world_of w old)) ss → On (world_of w ss) ≡ ready b m
 fresh_ready b m w old ss none e h =
     let v : World = world_of w old in
     ap (λ is. On (record w { modules = is })) (fresh_instances b (needs v) ss h)
@@ -62,7 +62,7 @@ fresh_ready b m w old ss none e h =
     ∙ ap (λ (fl : Flow). fl >>= place_parts b) e
 
 -- where no module stands there is no box
-pub no_seats : (ss : List Seat) → map instance_of ss ≡ [] → ss ≡ []
+pub no_seats : (ss : List BoxAt) → map instance_of ss ≡ [] → ss ≡ []
 no_seats [] e = refl
 no_seats (s ∷ ss) e = cc
 

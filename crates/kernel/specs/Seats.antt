@@ -10,16 +10,16 @@ use Rattle.model_questions.specs.Records.{path_of}
 use Rattle.run_semantics.specs.World.{World}
 use Rattle.run_semantics.specs.declared.traces.Instance.{Instance}
 use Rattle.run_semantics.specs.Run.{Part, needs, parts_of, standing}
-use Rattle.kernel_boxes.specs.Seats.{Seat, instance_of, module_in, with_module}
+use Rattle.kernel_boxes.specs.Seats.{BoxAt, instance_of, module_in, with_module}
 use Rattle.kernel_boxes.specs.Staying.{first_without, staying}
 use Rattle.kernel.specs.declared.request.Request.{Request}
 
 -- the world of a core and of what its boxes are
-abbrev pub world_of : World → List Seat → World
+abbrev pub world_of : World → List BoxAt → World
 world_of core seats = record core { modules = map instance_of seats }
 
 -- The box of that id answered the call, and no other changed.
-pub record IsCalled (id : ℕ) (old new : List Seat) (call : Call) (result : Result Reply NoMemory) : Type 0 where
+pub record IsCalled (id : ℕ) (old new : List BoxAt) (call : Call) (result : Result Reply NoMemory) : Type 0 where
   pub before : Module
   pub after : Module
   pub found : module_in id old ≡ Some before
@@ -28,7 +28,7 @@ pub record IsCalled (id : ℕ) (old new : List Seat) (call : Call) (result : Res
   pub seats : new ≡ with_module id after old
 
 -- A CALL of the module of that id: its box answers, where it has one, and else nothing happens
-abbrev pub IsServed : ℕ → List Seat → List Seat → Call → Option (Result Reply NoMemory) → Type 0
+abbrev pub IsServed : ℕ → List BoxAt → List BoxAt → Call → Option (Result Reply NoMemory) → Type 0
 IsServed id old new call None = (module_in id old ≡ None) × (new ≡ old)
 IsServed id old new call (Some result) = IsCalled id old new call result
 
@@ -56,20 +56,20 @@ missing_of w boxes = option_map (request_for w) (missing_part w boxes)
 
 -- THE BOX THAT IS WANTED where a run goes back to a position of these modules: that of the first
 -- one of which none stays
-abbrev pub lacking_of : World → List Instance → List Seat → Option Request
+abbrev pub lacking_of : World → List Instance → List BoxAt → Option Request
 lacking_of w saved seats = option_map (request_for w) (first_without (standing (map instance_of (staying saved seats))) (standing saved))
 
 -- ---- boxes that wait for the start of their modules
 
 -- These boxes are of these modules, each of its kind and in its state at first.
-abbrev pub AreFresh : Behaviour → List Part → List Seat → Type 0
+abbrev pub AreFresh : Behaviour → List Part → List BoxAt → Type 0
 AreFresh b [] [] = Unit {0}
 AreFresh b [] (s ∷ ss) = ⊥
 AreFresh b (p ∷ ps) [] = ⊥
 AreFresh b (p ∷ ps) (s ∷ ss) = (s.id ≡ p.id) × IsFresh b p.kind s.box × AreFresh b ps ss
 
 -- those of the first of the modules that need one: they get them by rising ids
-abbrev pub AreFirst : Behaviour → World → List Seat → Type 0
+abbrev pub AreFirst : Behaviour → World → List BoxAt → Type 0
 AreFirst b w ss = AreFresh b (take (length ss) (needs w)) ss
 
 -- no module was started, and none is dead: all simple modules need boxes

@@ -14,15 +14,15 @@ ghost use Rattle.kernel.specs.Setups.{HasBuilt};
 use kernel_actions::core_part::Core;
 use kernel_actions::looks::Look;
 use kernel_actions::reads::{fault_of_read, was_told};
-use kernel_call_views::Shown;
+use kernel_call_views::CallView;
 use model_injections::injection::Injection;
 use model_questions::answer::{Answer, Built, Question};
 use model_questions::record::{MAX_NESTING, index_of};
-use module_api::call::{Call, Prompt};
+use module_api::call::{Call, CallReason};
 use module_api::reply::Read;
 use run_answers::Answers;
 use run_question_log::reads::question_of;
-use run_semantics::outcome::{Fault, Turn};
+use run_semantics::outcome::{EventFlow, RunFault};
 use sim_values::NoMemory;
 use sqlite_items::Items;
 use std::alloc::Global;
@@ -30,7 +30,7 @@ use std::alloc::Global;
 // ---- calls
 
 /// What a module is told, where this is what calls show of it.
-pub fn call_shown(core: &Core, id: u32, prompt: Prompt, shown: Shown) -> Call
+pub fn call_shown(core: &Core, id: u32, prompt: CallReason, shown: CallView) -> Call
     ensures { result ≡ call_with id prompt shown core.now }
 {
     Call {
@@ -56,7 +56,7 @@ fn fault_at<A: Answers>(
     call: &Call,
     place: usize,
     read: &Read,
-) -> Result<Option<Fault>, NoMemory>
+) -> Result<Option<RunFault>, NoMemory>
     requires { call.now.parameters ≡ parameters_of A.answers core.now.records call.now.id }
     ensures { let asks = question_of call.now.id read.now in
         IfOk result (λ found.
@@ -77,7 +77,7 @@ pub fn read_fault<A: Answers>(
     model: &mut A,
     call: &Call,
     reads: &[Read],
-) -> Result<Option<Fault>, NoMemory>
+) -> Result<Option<RunFault>, NoMemory>
     requires { call.now.parameters ≡ parameters_of A.answers core.now.records call.now.id }
     ensures { IfOk result (λ found.
         found ≡ read_fault A.answers core.now.records call.now.id reads.now) }
@@ -112,7 +112,11 @@ pub fn ask_injection<A: Answers>(
 // ---- setup
 
 /// Asks which network is run, and creates it.
-fn ask_root<A: Answers>(core: &mut Core, alloc: Global, model: &mut A) -> Result<Turn, NoMemory>
+fn ask_root<A: Answers>(
+    core: &mut Core,
+    alloc: Global,
+    model: &mut A,
+) -> Result<EventFlow, NoMemory>
     requires { core.old ≡ empty }
     ensures { IfOk result (λ turn. flow_of turn core.new ≡ root_asked A.answers) }
 {
@@ -152,7 +156,7 @@ fn build<A: Answers>(
     alloc: Global,
     model: &mut A,
     id: u32,
-) -> Result<(Turn, Items<u32>), NoMemory>
+) -> Result<(EventFlow, Items<u32>), NoMemory>
     ensures { IfOk result (λ left.
         HasBuilt A.answers id core.old left.0 left.1 core.new) }
 {
@@ -160,10 +164,10 @@ fn build<A: Answers>(
     core.ask(alloc, Question::Build(id))?;
     let last = core.records().len();
     match core.build(alloc, id, &found)? {
-        Turn::GoOn => {
+        EventFlow::GoOn => {
             let _records = core.records();
             let inner = compounds_behind(alloc, last, inside_of(&found))?;
-            Ok((Turn::GoOn, inner))
+            Ok((EventFlow::GoOn, inner))
         }
         turn => Ok((turn, Items::new(alloc))),
     }
@@ -177,34 +181,38 @@ fn set_up<A: Answers>(
     model: &mut A,
     depth: u32,
     id: u32,
-) -> Result<Turn, NoMemory>
+) -> Result<EventFlow, NoMemory>
     ensures { IfOk result (λ turn. flow_of turn core.new ≡ set_up depth A.answers id core.old) }
 {
     if depth == 0 {
-        return Ok(Turn::GoOn);
+        return Ok(EventFlow::GoOn);
     }
     let (turn, inner) = build(core, alloc, model, id)?;
     match turn {
-        Turn::GoOn => {}
+        EventFlow::GoOn => {}
         turn => return Ok(turn),
     }
     for inner_id in inner.as_slice() {
         match set_up(core, alloc, model, depth - 1, *inner_id)? {
-            Turn::GoOn => {}
+            EventFlow::GoOn => {}
             turn => return Ok(turn),
         }
     }
-    Ok(Turn::GoOn)
+    Ok(EventFlow::GoOn)
 }
 
 /// Creates the network and all that is inside of it, as the model answers.
 #[tactic(auto, unfolding(run_semantics::specs::Run::most_nested))]
-pub fn prepare<A: Answers>(core: &mut Core, alloc: Global, model: &mut A) -> Result<Turn, NoMemory>
+pub fn prepare<A: Answers>(
+    core: &mut Core,
+    alloc: Global,
+    model: &mut A,
+) -> Result<EventFlow, NoMemory>
     requires { core.old ≡ empty }
     ensures { IfOk result (λ turn. flow_of turn core.new ≡ prepared A.answers) }
 {
     match ask_root(core, alloc, model)? {
-        Turn::GoOn => set_up(core, alloc, model, MAX_NESTING, 1),
+        EventFlow::GoOn => set_up(core, alloc, model, MAX_NESTING, 1),
         turn => Ok(turn),
     }
 }

@@ -20,7 +20,7 @@ ghost use Rattle.kernel_boxes.specs.Seats.{module_in, AreKept};
 ghost use Rattle.kernel_boxes.specs.Staying.{first_without, staying, IdsRise};
 ghost use Rattle.run_semantics.specs.Laws.{AreStates};
 ghost use Rattle.kernel_boxes.specs.Saved.{CanTake, Takes, instances_held, seats_held};
-ghost use Rattle.kernel.specs.Kernels.{seats_in, world_in, ran_in, HasKinds, IsCallable, KeepsBoxes};
+ghost use Rattle.kernel.specs.Kernels.{boxes_in, world_in, ran_in, HasKinds, IsCallable, KeepsBoxes};
 
 use crate::from_model::{ask_injection, call_shown, prepare, read_fault};
 use crate::request::Request;
@@ -30,18 +30,18 @@ use kernel_actions::looks::{Look, Next};
 use kernel_actions::position::Position;
 use kernel_boxes::boxes_saved::{load_one, save_all};
 use kernel_boxes::going_back::{drop_others, first_lacking};
-use kernel_call_views::{Shown, ShownModules};
+use kernel_call_views::{CallView, CallViews};
 use kernel_sending::sending::{send, send_direct};
 use model_questions::record::{Record, path_of};
-use module_api::call::{Call, Prompt};
+use module_api::call::{Call, CallReason};
 use module_api::catalogue::Catalogue;
 use module_api::reply::{Action, Reply};
 use module_api::simple_module::SimpleModule;
 use module_tree::Tree;
 use run_answers::Answers;
-use run_question_log::entry::Entry;
+use run_question_log::entry::LogEntry;
 use run_semantics::occasions::{Occasion, is_allowed};
-use run_semantics::outcome::{Fault, Outcome, Turn};
+use run_semantics::outcome::{EventFlow, Outcome, RunFault};
 use run_semantics::routes::copy_transmissions;
 use run_semantics::traces::{Emission, Instance, Scalar};
 use sim_time::SimTime;
@@ -111,7 +111,7 @@ impl<C: Catalogue> Kernel<C> {
     }
 
     /// What is noted of the questions that were asked of the model.
-    pub fn questions(&self) -> &[Entry]
+    pub fn questions(&self) -> &[LogEntry]
         ensures { noted_in result.now ≡ (world_in SimpleModule-box self.now).questions }
     {
         self.core.questions()
@@ -140,7 +140,7 @@ impl<C: Catalogue> Kernel<C> {
 
     /// How many boxes it holds: the ids of their modules rise.
     pub fn held(&self) -> usize
-        ensures count { result ≡ length (seats_in SimpleModule-box self.now) }
+        ensures count { result ≡ length (boxes_in SimpleModule-box self.now) }
         ensures rising { IdsRise 0 (world_in SimpleModule-box self.now).modules }
     {
         let _ids_rise = self.boxes.room();
@@ -150,13 +150,13 @@ impl<C: Catalogue> Kernel<C> {
     // ---- setup, up to the boxes
 
     /// What the end of an event makes of the run.
-    fn settle(&self, turn: Turn) -> Option<Outcome>
+    fn settle(&self, turn: EventFlow) -> Option<Outcome>
         ensures { let world = world_in SimpleModule-box self.now in
             stage_of result world ≡ settled (flow_of turn world) }
     {
         match turn {
-            Turn::GoOn | Turn::Stop => None,
-            Turn::Break(path, fault) => Some(Outcome::Fault(self.core.count(), path, fault)),
+            EventFlow::GoOn | EventFlow::Stop => None,
+            EventFlow::Break(path, fault) => Some(Outcome::Fault(self.core.count(), path, fault)),
         }
     }
 
@@ -167,7 +167,7 @@ impl<C: Catalogue> Kernel<C> {
         model: &mut A,
     ) -> Result<Option<Outcome>, NoMemory>
         requires { HasKinds C.behaviour SimpleModule-box self.old }
-        ensures empty { seats_in SimpleModule-box self.new ≡ [] }
+        ensures empty { boxes_in SimpleModule-box self.new ≡ [] }
         ensures kinds { HasKinds C.behaviour SimpleModule-box self.new }
         ensures step { IfOk result (λ over.
             stage_of over (world_in SimpleModule-box self.new) ≡ settled (prepared A.answers)) }
@@ -237,7 +237,7 @@ impl<C: Catalogue> Kernel<C> {
         model: &mut A,
         id: u32,
         action: &Action,
-    ) -> Result<Turn, NoMemory>
+    ) -> Result<EventFlow, NoMemory>
         requires { (world_in SimpleModule-box self.old).next + 1 < 2 ^ 128 }
         ensures boxes { self.new.boxes ≡ self.old.boxes }
         ensures step { IfOk result (λ turn. flow_of turn (world_in SimpleModule-box self.new)
@@ -270,7 +270,7 @@ impl<C: Catalogue> Kernel<C> {
         occasion: Occasion,
         id: u32,
         action: &Action,
-    ) -> Result<Turn, NoMemory>
+    ) -> Result<EventFlow, NoMemory>
         requires { (world_in SimpleModule-box self.old).next + 1 < 2 ^ 128 }
         ensures boxes { self.new.boxes ≡ self.old.boxes }
         ensures step { IfOk result (λ turn. flow_of turn (world_in SimpleModule-box self.new)
@@ -278,10 +278,10 @@ impl<C: Catalogue> Kernel<C> {
         ensures grown { IsGrownFrom self.old.core self.new.core }
     {
         if action.has_large_payload() {
-            return self.core.broken(alloc, id, Fault::PayloadTooLarge);
+            return self.core.broken(alloc, id, RunFault::PayloadTooLarge);
         }
         if !is_allowed(occasion, action) {
-            return self.core.broken(alloc, id, Fault::NotInFinish);
+            return self.core.broken(alloc, id, RunFault::NotInFinish);
         }
         self.perform(alloc, model, id, action)
     }
@@ -294,7 +294,7 @@ impl<C: Catalogue> Kernel<C> {
         occasion: Occasion,
         id: u32,
         actions: &[Action],
-    ) -> Result<Turn, NoMemory>
+    ) -> Result<EventFlow, NoMemory>
         requires { (world_in SimpleModule-box self.old).next + length actions.now < 2 ^ 128 }
         ensures boxes { self.new.boxes ≡ self.old.boxes }
         ensures step { IfOk result (λ turn. flow_of turn (world_in SimpleModule-box self.new)
@@ -303,11 +303,11 @@ impl<C: Catalogue> Kernel<C> {
     {
         for action in actions {
             match self.act(alloc, model, occasion, id, action)? {
-                Turn::GoOn => {}
+                EventFlow::GoOn => {}
                 turn => return Ok(turn),
             }
         }
-        Ok(Turn::GoOn)
+        Ok(EventFlow::GoOn)
     }
 
     /// The actions of a reply, where there are at most 1,000.
@@ -319,7 +319,7 @@ impl<C: Catalogue> Kernel<C> {
         occasion: Occasion,
         id: u32,
         actions: &[Action],
-    ) -> Result<Turn, NoMemory>
+    ) -> Result<EventFlow, NoMemory>
         requires { (world_in SimpleModule-box self.old).next + 1000 < 2 ^ 128 }
         ensures boxes { self.new.boxes ≡ self.old.boxes }
         ensures step { IfOk result (λ turn. flow_of turn (world_in SimpleModule-box self.new)
@@ -327,7 +327,7 @@ impl<C: Catalogue> Kernel<C> {
         ensures grown { IsGrownFrom self.old.core self.new.core }
     {
         if actions.len() > MAX_ACTIONS {
-            return self.core.broken(alloc, id, Fault::TooManyActions);
+            return self.core.broken(alloc, id, RunFault::TooManyActions);
         }
         self.act_all(alloc, model, occasion, id, actions)
     }
@@ -342,7 +342,7 @@ impl<C: Catalogue> Kernel<C> {
         occasion: Occasion,
         call: &Call,
         reply: &Reply,
-    ) -> Result<Turn, NoMemory>
+    ) -> Result<EventFlow, NoMemory>
         requires next { (world_in SimpleModule-box self.old).next + 1000 < 2 ^ 128 }
         requires told { call.now.parameters
             ≡ parameters_of A.answers self.old.core.records call.now.id }
@@ -367,8 +367,8 @@ impl<C: Catalogue> Kernel<C> {
     /// call, and put back after it.
     fn reply_of(&mut self, alloc: Global, call: &Call) -> Option<Result<Reply, NoMemory>>
         ensures core { self.new.core ≡ self.old.core }
-        ensures served { IsServed call.now.id (seats_in SimpleModule-box self.old)
-            (seats_in SimpleModule-box self.new) call.now result }
+        ensures served { IsServed call.now.id (boxes_in SimpleModule-box self.old)
+            (boxes_in SimpleModule-box self.new) call.now result }
     {
         let Some(mut held) = self.boxes.take(call.id) else {
             return None;
@@ -387,7 +387,7 @@ impl<C: Catalogue> Kernel<C> {
         model: &mut A,
         occasion: Occasion,
         call: &Call,
-    ) -> Result<Turn, NoMemory>
+    ) -> Result<EventFlow, NoMemory>
         requires callable { IsCallable C.behaviour SimpleModule-box 1000 self.old }
         requires told { call.now
             ≡ call_of A.answers call.now.id call.now.prompt (world_in SimpleModule-box self.old) }
@@ -399,7 +399,7 @@ impl<C: Catalogue> Kernel<C> {
             (world_in SimpleModule-box self.new) }
     {
         let Some(reply) = self.reply_of(alloc, call) else {
-            return Ok(Turn::GoOn);
+            return Ok(EventFlow::GoOn);
         };
         let reply = reply?;
         self.follow(alloc, model, occasion, call, &reply)
@@ -412,11 +412,11 @@ impl<C: Catalogue> Kernel<C> {
         &mut self,
         alloc: Global,
         model: &mut A,
-        shown: &mut ShownModules,
+        shown: &mut CallViews,
         occasion: Occasion,
         id: u32,
-        prompt: Prompt,
-    ) -> Result<Turn, NoMemory>
+        prompt: CallReason,
+    ) -> Result<EventFlow, NoMemory>
         requires callable { IsCallable C.behaviour SimpleModule-box 1000 self.old }
         requires shown { AreShown A.answers (world_in SimpleModule-box self.old).records shown.old }
         ensures kept { KeepsBoxes C.behaviour SimpleModule-box self.old self.new }
@@ -438,7 +438,7 @@ impl<C: Catalogue> Kernel<C> {
 
     /// How many stages the module of that id has, where it has a box.
     fn stages_at(&self, id: u32) -> Option<u8>
-        ensures { result ≡ stages_of (module_in id (seats_in SimpleModule-box self.now)) }
+        ensures { result ≡ stages_of (module_in id (boxes_in SimpleModule-box self.now)) }
     {
         match self.boxes.get(id) {
             Some(held) => Some(stages_of(held)),
@@ -460,10 +460,10 @@ impl<C: Catalogue> Kernel<C> {
         &mut self,
         alloc: Global,
         model: &mut A,
-        shown: &mut ShownModules,
+        shown: &mut CallViews,
         stage: u8,
         id: u32,
-    ) -> Result<Turn, NoMemory>
+    ) -> Result<EventFlow, NoMemory>
         requires callable { IsCallable C.behaviour SimpleModule-box 1000 self.old }
         requires shown { AreShown A.answers (world_in SimpleModule-box self.old).records shown.old }
         ensures kept { KeepsBoxes C.behaviour SimpleModule-box self.old self.new }
@@ -475,9 +475,9 @@ impl<C: Catalogue> Kernel<C> {
         ensures shown { AreShown A.answers (world_in SimpleModule-box self.new).records shown.new }
     {
         if stage >= self.stages_in(id) {
-            return Ok(Turn::GoOn);
+            return Ok(EventFlow::GoOn);
         }
-        let prompt = Prompt::Initialize(stage);
+        let prompt = CallReason::Initialize(stage);
         let turn = self.call_module(alloc, model, shown, Occasion::Event, id, prompt)?;
         Ok(turn)
     }
@@ -487,10 +487,10 @@ impl<C: Catalogue> Kernel<C> {
         &mut self,
         alloc: Global,
         model: &mut A,
-        shown: &mut ShownModules,
+        shown: &mut CallViews,
         stage: u8,
         ids: &[u32],
-    ) -> Result<Turn, NoMemory>
+    ) -> Result<EventFlow, NoMemory>
         requires callable { IsCallable C.behaviour SimpleModule-box (2 ^ 75) self.old }
         requires shown { AreShown A.answers (world_in SimpleModule-box self.old).records shown.old }
         ensures kept { KeepsBoxes C.behaviour SimpleModule-box self.old self.new }
@@ -503,11 +503,11 @@ impl<C: Catalogue> Kernel<C> {
     {
         for id in ids {
             match self.initialize(alloc, model, shown, stage, *id)? {
-                Turn::GoOn => {}
+                EventFlow::GoOn => {}
                 turn => return Ok(turn),
             }
         }
-        Ok(Turn::GoOn)
+        Ok(EventFlow::GoOn)
     }
 
     /// The greatest number of stages of these modules.
@@ -528,10 +528,10 @@ impl<C: Catalogue> Kernel<C> {
         &mut self,
         alloc: Global,
         model: &mut A,
-        shown: &mut ShownModules,
+        shown: &mut CallViews,
         most: u8,
         ids: &[u32],
-    ) -> Result<Turn, NoMemory>
+    ) -> Result<EventFlow, NoMemory>
         requires next { (world_in SimpleModule-box self.old).next ≡ 0 }
         requires kinds { HasKinds C.behaviour SimpleModule-box self.old }
         requires shown { AreShown A.answers (world_in SimpleModule-box self.old).records shown.old }
@@ -544,11 +544,11 @@ impl<C: Catalogue> Kernel<C> {
     {
         for stage in 0..most {
             match self.one_stage(alloc, model, shown, stage, ids)? {
-                Turn::GoOn => {}
+                EventFlow::GoOn => {}
                 turn => return Ok(turn),
             }
         }
-        Ok(Turn::GoOn)
+        Ok(EventFlow::GoOn)
     }
 
     /// Initializes all modules, where each has its box.
@@ -556,7 +556,7 @@ impl<C: Catalogue> Kernel<C> {
         &mut self,
         alloc: Global,
         model: &mut A,
-        shown: &mut ShownModules,
+        shown: &mut CallViews,
     ) -> Result<Option<Outcome>, NoMemory>
         requires ready { On (world_in SimpleModule-box self.old) ≡ ready C.behaviour A.answers }
         requires next { (world_in SimpleModule-box self.old).next ≡ 0 }
@@ -584,7 +584,7 @@ impl<C: Catalogue> Kernel<C> {
         &mut self,
         alloc: Global,
         model: &mut A,
-        shown: &mut ShownModules,
+        shown: &mut CallViews,
         waiting: &mut Tree<Box<dyn SimpleModule>>,
     ) -> Result<Option<Outcome>, NoMemory>
         requires prepared { On (world_in SimpleModule-box self.old) ≡ prepared A.answers }
@@ -613,7 +613,7 @@ impl<C: Catalogue> Kernel<C> {
     fn stands_at(&self, alloc: Global, id: u32, path: &[u8]) -> Result<bool, NoMemory>
         ensures { let records = (world_in SimpleModule-box self.now).records in
             IfOk result (λ stands. stands
-            ≡ stands_at records path.now id (module_in id (seats_in SimpleModule-box self.now))) }
+            ≡ stands_at records path.now id (module_in id (boxes_in SimpleModule-box self.now))) }
     {
         if self.stages_at(id).is_none() {
             return Ok(false);
@@ -682,7 +682,7 @@ impl<C: Catalogue> Kernel<C> {
         alloc: Global,
         model: &mut A,
         limit: Option<u64>,
-        shown: &mut ShownModules,
+        shown: &mut CallViews,
     ) -> Result<Option<Outcome>, NoMemory>
         requires room { HasRoom (world_in SimpleModule-box self.old) }
         requires count { (world_in SimpleModule-box self.old).count + 1 < 2 ^ 64 }
@@ -705,7 +705,7 @@ impl<C: Catalogue> Kernel<C> {
         match self.core.begin(alloc, limit, look, next)? {
             Ok(event) => {
                 let id = event.id;
-                let prompt = Prompt::Message(message_of(alloc, event));
+                let prompt = CallReason::Message(message_of(alloc, event));
                 let turn = self.call_module(alloc, model, shown, Occasion::Event, id, prompt)?;
                 Ok(self.settle(turn))
             }
@@ -733,9 +733,9 @@ impl<C: Catalogue> Kernel<C> {
         &mut self,
         alloc: Global,
         model: &mut A,
-        shown: &mut ShownModules,
+        shown: &mut CallViews,
         id: u32,
-    ) -> Result<Turn, NoMemory>
+    ) -> Result<EventFlow, NoMemory>
         requires callable { IsCallable C.behaviour SimpleModule-box 1000 self.old }
         requires shown { AreShown A.answers (world_in SimpleModule-box self.old).records shown.old }
         ensures kept { KeepsBoxes C.behaviour SimpleModule-box self.old self.new }
@@ -747,9 +747,9 @@ impl<C: Catalogue> Kernel<C> {
         ensures shown { AreShown A.answers (world_in SimpleModule-box self.new).records shown.new }
     {
         if self.stages_at(id).is_none() {
-            return Ok(Turn::GoOn);
+            return Ok(EventFlow::GoOn);
         }
-        self.call_module(alloc, model, shown, Occasion::End, id, Prompt::Finish)
+        self.call_module(alloc, model, shown, Occasion::End, id, CallReason::Finish)
     }
 
     /// Finishes the module of that id: a simple one is told first, a compound one just counts as
@@ -759,9 +759,9 @@ impl<C: Catalogue> Kernel<C> {
         &mut self,
         alloc: Global,
         model: &mut A,
-        shown: &mut ShownModules,
+        shown: &mut CallViews,
         id: u32,
-    ) -> Result<Turn, NoMemory>
+    ) -> Result<EventFlow, NoMemory>
         requires callable { IsCallable C.behaviour SimpleModule-box 1000 self.old }
         requires shown { AreShown A.answers (world_in SimpleModule-box self.old).records shown.old }
         ensures kept { KeepsBoxes C.behaviour SimpleModule-box self.old self.new }
@@ -775,9 +775,9 @@ impl<C: Catalogue> Kernel<C> {
         ensures shown { AreShown A.answers (world_in SimpleModule-box self.new).records shown.new }
     {
         match self.call_last(alloc, model, shown, id)? {
-            Turn::GoOn => {
+            EventFlow::GoOn => {
                 self.core.mark_finished(id)?;
-                Ok(Turn::GoOn)
+                Ok(EventFlow::GoOn)
             }
             turn => Ok(turn),
         }
@@ -788,9 +788,9 @@ impl<C: Catalogue> Kernel<C> {
         &mut self,
         alloc: Global,
         model: &mut A,
-        shown: &mut ShownModules,
+        shown: &mut CallViews,
         ids: &[u32],
-    ) -> Result<Turn, NoMemory>
+    ) -> Result<EventFlow, NoMemory>
         requires callable { IsCallable C.behaviour SimpleModule-box (2 ^ 75) self.old }
         requires shown { AreShown A.answers (world_in SimpleModule-box self.old).records shown.old }
         ensures kept { KeepsBoxes C.behaviour SimpleModule-box self.old self.new }
@@ -803,11 +803,11 @@ impl<C: Catalogue> Kernel<C> {
     {
         for id in ids {
             match self.finish_one(alloc, model, shown, *id)? {
-                Turn::GoOn => {}
+                EventFlow::GoOn => {}
                 turn => return Ok(turn),
             }
         }
-        Ok(Turn::GoOn)
+        Ok(EventFlow::GoOn)
     }
 
     /// Finishes the modules of a run that ended so, and answers how it ends then. What calls show
@@ -817,7 +817,7 @@ impl<C: Catalogue> Kernel<C> {
         &mut self,
         alloc: Global,
         model: &mut A,
-        shown: &mut ShownModules,
+        shown: &mut CallViews,
         outcome: Outcome,
     ) -> Result<Outcome, NoMemory>
         requires room { HasRoom (world_in SimpleModule-box self.old) }
@@ -837,8 +837,8 @@ impl<C: Catalogue> Kernel<C> {
         }
         let ids = self.core.to_finish(alloc)?;
         match self.finish_all(alloc, model, shown, ids.as_slice())? {
-            Turn::GoOn | Turn::Stop => Ok(outcome),
-            Turn::Break(path, fault) => Ok(Outcome::Fault(self.core.count(), path, fault)),
+            EventFlow::GoOn | EventFlow::Stop => Ok(outcome),
+            EventFlow::Break(path, fault) => Ok(Outcome::Fault(self.core.count(), path, fault)),
         }
     }
 
@@ -868,9 +868,9 @@ impl<C: Catalogue> Kernel<C> {
         requires kinds { HasKinds C.behaviour SimpleModule-box self.old }
         requires rising { IdsRise 0 position.now.modules }
         requires states { AreStates C.behaviour position.now.modules }
-        ensures kept { let before = staying position.now.modules (seats_in SimpleModule-box self.old) in
-            AreKept C.behaviour before (seats_in SimpleModule-box self.new) }
-        ensures wanted { let before = seats_in SimpleModule-box self.old in
+        ensures kept { let before = staying position.now.modules (boxes_in SimpleModule-box self.old) in
+            AreKept C.behaviour before (boxes_in SimpleModule-box self.new) }
+        ensures wanted { let before = boxes_in SimpleModule-box self.old in
             IfOk result (λ wanted.
             wanted ≡ lacking_of (world_in SimpleModule-box self.old) position.now.modules before) }
         ensures ok { IfOk result (λ wanted. wanted ≡ None → world_in SimpleModule-box self.new
@@ -911,7 +911,7 @@ impl<C: Catalogue> Kernel<C> {
     /// Goes back to a position whose modules are those that have boxes: each box takes its state.
     /// After NoMemory the states of the boxes are not known, and all else is as it was.
     fn load_position(&mut self, alloc: Global, position: &Position) -> Result<(), NoMemory>
-        requires { CanTake C.behaviour position.now.modules (seats_in SimpleModule-box self.old) }
+        requires { CanTake C.behaviour position.now.modules (boxes_in SimpleModule-box self.old) }
         ensures kept { KeepsBoxes C.behaviour SimpleModule-box self.old self.new }
         ensures ok { OnOk result (world_in SimpleModule-box self.new
             ≡ world_back position.now (world_in SimpleModule-box self.old)) }
@@ -931,14 +931,14 @@ impl<C: Catalogue> Kernel<C> {
     pub fn cut_back(&mut self, position: &Position)
         ensures world { world_in SimpleModule-box self.new
             ≡ cut_to position.now.lengths (world_in SimpleModule-box self.old) }
-        ensures same { seats_in SimpleModule-box self.new ≡ seats_in SimpleModule-box self.old }
+        ensures same { boxes_in SimpleModule-box self.new ≡ boxes_in SimpleModule-box self.old }
     {
         self.core.cut_to(position.lengths);
     }
 
     /// Each box takes its state.
     fn load_all(&mut self, alloc: Global, saved: &[Instance]) -> Result<(), NoMemory>
-        requires { CanTake C.behaviour saved.now (seats_in SimpleModule-box self.old) }
+        requires { CanTake C.behaviour saved.now (boxes_in SimpleModule-box self.old) }
         ensures core { self.new.core ≡ self.old.core }
         ensures kept { KeepsBoxes C.behaviour SimpleModule-box self.old self.new }
         ensures ok { OnOk result ((world_in SimpleModule-box self.new).modules ≡ saved.now) }
@@ -954,7 +954,7 @@ impl<C: Catalogue> Kernel<C> {
     fn load(&mut self, alloc: Global, saved: &Instance) -> Result<(), NoMemory>
         requires kinds { HasKinds C.behaviour SimpleModule-box self.old }
         requires takes { Takes saved.now.state
-            (module_in saved.now.id (seats_in SimpleModule-box self.old)) }
+            (module_in saved.now.id (boxes_in SimpleModule-box self.old)) }
         ensures core { self.new.core ≡ self.old.core }
         ensures kept { KeepsBoxes C.behaviour SimpleModule-box self.old self.new }
         ensures ok { OnOk result ((world_in SimpleModule-box self.new).modules
@@ -990,14 +990,14 @@ fn serve(held: &mut Box<dyn SimpleModule>, alloc: Global, call: &Call) -> Result
     ensures same { IsSameModule (meaning held.old) (meaning held.new) }
 {
     match &call.prompt {
-        Prompt::Initialize(_) => held.initialize(alloc, call),
-        Prompt::Message(_) => held.handle_message(alloc, call),
-        Prompt::Finish => held.finish(alloc, call),
+        CallReason::Initialize(_) => held.initialize(alloc, call),
+        CallReason::Message(_) => held.handle_message(alloc, call),
+        CallReason::Finish => held.finish(alloc, call),
     }
 }
 
 /// What the call shows of its module that does not change from one call to the next.
-fn shown_in(call: Call) -> Shown
+fn shown_in(call: Call) -> CallView
     ensures { result ≡ record { path = call.path; parameters = call.parameters; gates = call.gates } }
 {
     let Call {
@@ -1010,7 +1010,7 @@ fn shown_in(call: Call) -> Shown
         gates,
         prompt: _,
     } = call;
-    Shown {
+    CallView {
         path,
         parameters,
         gates,

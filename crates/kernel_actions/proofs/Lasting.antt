@@ -11,8 +11,8 @@ use Rattle.module_api.specs.declared.reply.Appointment.{Appointment}
 use Rattle.module_api.specs.declared.reply.Schedule.{Schedule}
 use Rattle.module_api.specs.Names.{is_scalar_name}
 use Rattle.event_set.specs.Timers.{has_timer}
-use Rattle.run_semantics.specs.declared.outcome.Fault.TheVariants as fault
-use Rattle.run_semantics.specs.declared.outcome.Turn.{Turn}
+use Rattle.run_semantics.specs.declared.outcome.RunFault.TheVariants as fault
+use Rattle.run_semantics.specs.declared.outcome.EventFlow.{EventFlow}
 use Rattle.run_semantics.specs.World.{World}
 use Rattle.run_semantics.specs.Perform.{Flow, On, flow_of, broken, with_scalar, scheduled_at, scheduled, appointed, deed}
 use Rattle.run_semantics.proofs.Orderly.{on_same}
@@ -20,7 +20,7 @@ use Rattle.run_semantics.proofs.Sound.{in_flow, in_flow-of}
 use Rattle.kernel_actions.specs.declared.looks.LookedAt.{LookedAt}
 use Rattle.kernel_actions.specs.Positions.{IsGrownFrom}
 use Rattle.kernel_actions.specs.Upcoming.{asked_in}
-use Rattle.model_questions.specs.declared.answer.Asked.{Asked}
+use Rattle.model_questions.specs.declared.answer.AskedQuestion.{AskedQuestion}
 
 -- nothing happened
 pub growth_same : (w : World) → IsGrownFrom w w
@@ -99,15 +99,15 @@ deed_grows id (SendDelayed gate message delay) w = growth_same w
 deed_grows id (SendDirect place message flight) w = growth_same w
 
 -- what a flow leaves, by what the code says of it
-pub flow_grows : (turn : Turn) (w v : World) (fl : Flow) → IsGrownFrom w (in_flow fl) → flow_of turn v ≡ fl → IsGrownFrom w v
+pub flow_grows : (turn : EventFlow) (w v : World) (fl : Flow) → IsGrownFrom w (in_flow fl) → flow_of turn v ≡ fl → IsGrownFrom w v
 flow_grows turn w v fl g e = subst (IsGrownFrom w) (ap in_flow (sym e) ∙ in_flow-of turn v) g
 
 -- a deed, by what the code says of it
-pub done_grows : (turn : Turn) (id : ℕ) (action : Action) (w v : World) → flow_of turn v ≡ deed id action w → IsGrownFrom w v
+pub done_grows : (turn : EventFlow) (id : ℕ) (action : Action) (w v : World) → flow_of turn v ≡ deed id action w → IsGrownFrom w v
 done_grows turn id action w v e = flow_grows turn w v (deed id action w) (deed_grows id action w) e
 
 -- the same where memory may have run out, which leaves the world as it was
-pub deed_left : (result : Result Turn NoMemory) (id : ℕ) (action : Action) (w v : World) → IfOk result (λ turn. flow_of turn v ≡ deed id action w) → OnErr result (v ≡ w) → IsGrownFrom w v
+pub deed_left : (result : Result EventFlow NoMemory) (id : ℕ) (action : Action) (w v : World) → IfOk result (λ turn. flow_of turn v ≡ deed id action w) → OnErr result (v ≡ w) → IsGrownFrom w v
 deed_left (Ok turn) id action w v done same = done_grows turn id action w v done
 deed_left (Err e) id action w v done same = growth_is w v same
 
@@ -121,7 +121,7 @@ split_at index xs x less e =
 
 -- ---- an event that begins
 
-pub noted_grows : (qs : List Asked) (w v : World) → v ≡ record w { questions = w.questions ++ qs } → IsGrownFrom w v
+pub noted_grows : (qs : List AskedQuestion) (w v : World) → v ≡ record w { questions = w.questions ++ qs } → IsGrownFrom w v
 noted_grows qs w v e = subst (IsGrownFrom w) (sym e) (record {
   records = on_same w.records;
   dead = on_same w.dead;
@@ -136,21 +136,21 @@ noted_grows qs w v e = subst (IsGrownFrom w) (sym e) (record {
 pub noted_on : (count index : ℕ) (looks : List LookedAt) (look : LookedAt) (w v whole : World) → index < length looks → look ≡ get_or looks index look → w.count ≡ count → v ≡ record w { questions = w.questions ++ asked_in (w.count + 1) (look ∷ []) }
     → record w { questions = w.questions ++ asked_in (count + 1) (drop index looks) } ≡ whole → record v { questions = v.questions ++ asked_in (count + 1) (drop (index + 1) looks) } ≡ whole
 noted_on count index looks look w v whole less e same step done =
-    let rest : List Asked = asked_in (count + 1) (drop (index + 1) looks) in
+    let rest : List AskedQuestion = asked_in (count + 1) (drop (index + 1) looks) in
     ap (λ (u : World). record u { questions = u.questions ++ rest }) step
     ∙ ap (λ n. record w { questions = (w.questions ++ asked_in (n + 1) (look ∷ [])) ++ rest }) same
-    ∙ ap (λ (qs : List Asked). record w { questions = qs }) (append_assoc w.questions (asked_in (count + 1) (look ∷ [])) rest)
+    ∙ ap (λ (qs : List AskedQuestion). record w { questions = qs }) (append_assoc w.questions (asked_in (count + 1) (look ∷ [])) rest)
     ∙ ap (λ (ls : List LookedAt). record w { questions = w.questions ++ asked_in (count + 1) ls }) (sym (split_at index looks look less e))
     ∙ done
 
 -- after the last one
 pub noted_ends : (count index : ℕ) (looks : List LookedAt) (w whole : World) → length looks ≤ index → record w { questions = w.questions ++ asked_in (count + 1) (drop index looks) } ≡ whole → w ≡ whole
 noted_ends count index looks w whole past done =
-    ap (λ (qs : List Asked). record w { questions = qs }) (sym (append-nil w.questions))
+    ap (λ (qs : List AskedQuestion). record w { questions = qs }) (sym (append-nil w.questions))
     ∙ ap (λ (ls : List LookedAt). record w { questions = w.questions ++ asked_in (count + 1) ls }) (sym (drop_of_length-le looks past))
     ∙ done
 
 -- where there is none, nothing is noted
 pub noted_none : (w : World) (looks : List LookedAt) (first : Option (Bor LookedAt)) → option_copied first ≡ slice_get looks 0 → first ≡ None → w ≡ record w { questions = w.questions ++ asked_in (w.count + 1) looks }
-noted_none w [] first is none = ap (λ (qs : List Asked). record w { questions = qs }) (sym (append-nil w.questions))
+noted_none w [] first is none = ap (λ (qs : List AskedQuestion). record w { questions = qs }) (sym (append-nil w.questions))
 noted_none w (l ∷ ls) first is none = let absent : Some l ≡ None = sym is ∙ ap option_copied none in absurd cc

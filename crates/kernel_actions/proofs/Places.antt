@@ -11,7 +11,7 @@ use Rattle.model_questions.specs.declared.record.Record.{Record}
 use Rattle.model_questions.proofs.HopLemmas.{named_within}
 use Rattle.model_questions.specs.Records.{is_built, is_named, named_from, same_index}
 use Rattle.kernel_actions.specs.Places.{equal, id_at, place_of, AreIdsOf}
-use Rattle.kernel_actions.specs.declared.record_table.Place.{Place}
+use Rattle.kernel_actions.specs.declared.record_table.ModulePlace.{ModulePlace}
 
 -- the one that is found, or else the other
 abbrev or_else : Option ℕ → Option ℕ → Option ℕ
@@ -55,7 +55,7 @@ both true false h = absurd (true≢false (sym h))
 both false b h = absurd (true≢false (sym h))
 
 -- a module of that name stands there
-named_is : (p : Place) (r : Record) → is_named p.parent p.name p.index r ≡ true → place_of r ≡ p
+named_is : (p : ModulePlace) (r : Record) → is_named p.parent p.name p.index r ≡ true → place_of r ≡ p
 named_is p r h =
     let b = both (is_built r.origin) ((r.parent == p.parent) && (bytes_eq r.name p.name && same_index r.index p.index)) h in
     let e = both (r.parent == p.parent) (bytes_eq r.name p.name && same_index r.index p.index) b.1 in
@@ -69,7 +69,7 @@ all_built : (o : Origin) (t : Bool) → t ≡ (is_built o && t)
 all_built origin.Built t = refl
 
 -- the table compares as the definition does
-equal_alike : (r : Record) (p : Place) → equal (place_of r) p ≡ is_named p.parent p.name p.index r
+equal_alike : (r : Record) (p : ModulePlace) → equal (place_of r) p ≡ is_named p.parent p.name p.index r
 equal_alike r p =
     ap (λ t. (r.parent == p.parent) && (bytes_eq r.name p.name && t)) (by r.index p.index)
     ∙ all_built r.origin ((r.parent == p.parent) && (bytes_eq r.name p.name && same_index r.index p.index))
@@ -83,11 +83,11 @@ equal_alike r p =
 -- ---- one more
 
 -- a place has its first module, also after one more
-added_id : (rs : List Record) (r : Record) (p : Place) → id_at (rs ++ r ∷ []) p ≡ or_else (id_at rs p) (one_where (is_named p.parent p.name p.index r) (suc (length rs)))
+added_id : (rs : List Record) (r : Record) (p : ModulePlace) → id_at (rs ++ r ∷ []) p ≡ or_else (id_at rs p) (one_where (is_named p.parent p.name p.index r) (suc (length rs)))
 added_id rs r p = named_behind 1 p.parent p.name p.index rs r ∙ ap (λ k. or_else (id_at rs p) (one_where (is_named p.parent p.name p.index r) k)) (omega arith)
 
 -- where the place is taken the first one stays
-pub ids_stay : {S : Type 0} (rs now : List Record) (r : Record) (ids : HashMap Place ℕ S) → AreIdsOf rs ids → is_some (get equal ids (place_of r)) ≡ true → now ≡ rs ++ r ∷ [] → AreIdsOf now ids
+pub ids_stay : {S : Type 0} (rs now : List Record) (r : Record) (ids : HashMap ModulePlace ℕ S) → AreIdsOf rs ids → is_some (get equal ids (place_of r)) ≡ true → now ≡ rs ++ r ∷ [] → AreIdsOf now ids
 ids_stay rs now r ids k t e p =
     k p ∙ sym (ap (λ (ls : List Record). id_at ls p) e ∙ added_id rs r p ∙ by (is_named p.parent p.name p.index r) refl (id_at rs p) refl)
   where
@@ -100,10 +100,10 @@ ids_stay rs now r ids k t e p =
     by false h None n = refl
 
 -- where it was free it has that one
-pub ids_with : {S T : Type 0} (rs now : List Record) (r : Record) (place : Place) (id : ℕ) (ids : HashMap Place ℕ S) (after : HashMap Place ℕ T) → AreIdsOf rs ids → place ≡ place_of r → is_some (get equal ids place) ≡ false
-    → id ≡ suc (length rs) → now ≡ rs ++ r ∷ [] → ((q : Place) → get equal after q ≡ cond (equal place q) (Some id) (get equal ids q)) → AreIdsOf now after
+pub ids_with : {S T : Type 0} (rs now : List Record) (r : Record) (place : ModulePlace) (id : ℕ) (ids : HashMap ModulePlace ℕ S) (after : HashMap ModulePlace ℕ T) → AreIdsOf rs ids → place ≡ place_of r → is_some (get equal ids place) ≡ false
+    → id ≡ suc (length rs) → now ≡ rs ++ r ∷ [] → ((q : ModulePlace) → get equal after q ≡ cond (equal place q) (Some id) (get equal ids q)) → AreIdsOf now after
 ids_with rs now r place id ids after k same free n e u p =
-    u p ∙ ap (λ (q : Place). cond (equal q p) (Some id) (get equal ids p)) same
+    u p ∙ ap (λ (q : ModulePlace). cond (equal q p) (Some id) (get equal ids p)) same
     ∙ ap (λ b. cond b (Some id) (get equal ids p)) (equal_alike r p)
     ∙ ap (cond (is_named p.parent p.name p.index r) (Some id)) (k p)
     ∙ by (is_named p.parent p.name p.index r) refl
@@ -129,10 +129,10 @@ one_less : (old new : List Record) (last : Record) → old ≡ new ++ last ∷ [
 one_less old new last e = let more : length old ≡ length new + 1 = ap length e ∙ length_push new last in omega (arith, more)
 
 -- the last one was the first at its place, which is free then
-pub ids_without : {S T : Type 0} (old new : List Record) (last : Record) (place : Place) (ids : HashMap Place ℕ S) (after : HashMap Place ℕ T) → AreIdsOf old ids → place ≡ place_of last → old ≡ new ++ last ∷ []
-    → get equal ids place ≡ Some (length old) → ((q : Place) → get equal after q ≡ cond (equal place q) None (get equal ids q)) → AreIdsOf new after
+pub ids_without : {S T : Type 0} (old new : List Record) (last : Record) (place : ModulePlace) (ids : HashMap ModulePlace ℕ S) (after : HashMap ModulePlace ℕ T) → AreIdsOf old ids → place ≡ place_of last → old ≡ new ++ last ∷ []
+    → get equal ids place ≡ Some (length old) → ((q : ModulePlace) → get equal after q ≡ cond (equal place q) None (get equal ids q)) → AreIdsOf new after
 ids_without old new last place ids after k same e first u p =
-    u p ∙ ap (λ (q : Place). cond (equal q p) None (get equal ids p)) same
+    u p ∙ ap (λ (q : ModulePlace). cond (equal q p) None (get equal ids p)) same
     ∙ ap (λ b. cond b None (get equal ids p)) (equal_alike last p)
     ∙ ap (cond (is_named p.parent p.name p.index last) None) (k p ∙ ap (λ (ls : List Record). id_at ls p) e ∙ added_id new last p)
     ∙ by (is_named p.parent p.name p.index last) refl (id_at new p) refl
@@ -153,7 +153,7 @@ ids_without old new last place ids after k same e first u p =
     by false h o f = or_none o
 
 -- it was not: another one was there before
-pub ids_kept : {S : Type 0} (old new : List Record) (last : Record) (place : Place) (ids : HashMap Place ℕ S) → AreIdsOf old ids → place ≡ place_of last → old ≡ new ++ last ∷ []
+pub ids_kept : {S : Type 0} (old new : List Record) (last : Record) (place : ModulePlace) (ids : HashMap ModulePlace ℕ S) → AreIdsOf old ids → place ≡ place_of last → old ≡ new ++ last ∷ []
     → (get equal ids place ≡ Some (length old) → ⊥) → AreIdsOf new ids
 ids_kept old new last place ids k same e other p =
     k p ∙ ap (λ (ls : List Record). id_at ls p) e ∙ added_id new last p ∙ by (is_named p.parent p.name p.index last) refl (id_at new p) refl

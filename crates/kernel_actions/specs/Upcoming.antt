@@ -1,6 +1,6 @@
 -- What comes next in a run, step by step.
 use Rattle.std.specs.Prelude.{◌≡◌, ℕ, ◌+◌, map, Bool, true, false, List, [], ◌∷◌, ◌++◌, Option, Result, Ok, Err}
-use Rattle.model_questions.specs.declared.answer.Asked.{Asked}
+use Rattle.model_questions.specs.declared.answer.AskedQuestion.{AskedQuestion}
 use Rattle.model_questions.specs.declared.answer.Question.TheVariants.{InjectionBefore}
 use Rattle.model_questions.specs.Answers.{is_beyond}
 use Rattle.run_semantics.specs.declared.outcome.Outcome.{Outcome}
@@ -15,7 +15,7 @@ use Rattle.kernel_actions.specs.declared.looks.Next.{Next}
 use Rattle.kernel_actions.specs.declared.looks.Next.TheVariants as next
 
 -- the questions that these looks ask, in that event
-abbrev pub asked_in : ℕ → List LookedAt → List Asked
+abbrev pub asked_in : ℕ → List LookedAt → List AskedQuestion
 asked_in event looks = map (λ (l : LookedAt). record { event = event; question = InjectionBefore l.due l.last }) looks
 
 -- the world in which all is noted that was asked to know what comes next

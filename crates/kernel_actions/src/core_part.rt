@@ -23,7 +23,7 @@ use crate::position::{Lengths, Position};
 use crate::record_table::RecordTable;
 use event_set::pending::{Happening, Pending};
 use event_set::set::EventSet;
-use model_injections::injection::{Due, Injection, Turn as InjectionTurn, injection_before};
+use model_injections::injection::{Due, Injection, InjectionTurn, injection_before};
 use model_questions::answer::{Answer, Built, Question, is_beyond};
 use model_questions::record::{Origin, Record, path_of, submodule_path};
 use module_api::message::Outgoing;
@@ -31,10 +31,10 @@ use module_api::name::Name;
 use module_api::names::is_scalar_name;
 use module_api::reply::{Action, Appointment, Read, Schedule};
 use run_question_log::cutting::cut_items;
-use run_question_log::entry::Entry;
+use run_question_log::entry::LogEntry;
 use run_question_log::noted_questions::NotedQuestions;
 use run_semantics::occasions::{Occasion, is_noted};
-use run_semantics::outcome::{Fault, Outcome, Turn, fault_of};
+use run_semantics::outcome::{EventFlow, Outcome, RunFault, fault_of};
 use run_semantics::routes::{NextHop, PlacedGate, Transmission, copy_transmissions, place_of};
 use run_semantics::signals::SignalNames;
 use run_semantics::traces::{Emission, Instance, Scalar};
@@ -181,7 +181,7 @@ impl Core {
     }
 
     /// What is noted of the questions.
-    pub fn questions(&self) -> &[Entry]
+    pub fn questions(&self) -> &[LogEntry]
         ensures { noted_in result.now ≡ self.now.questions }
     {
         self.questions.entries()
@@ -214,11 +214,11 @@ impl Core {
     // ---- deeds: actions that ask nothing and call no module
 
     /// A fault of the module of that id.
-    pub fn broken(&self, alloc: Global, id: u32, fault: Fault) -> Result<Turn, NoMemory>
+    pub fn broken(&self, alloc: Global, id: u32, fault: RunFault) -> Result<EventFlow, NoMemory>
         ensures { IfOk result (λ turn. flow_of turn self.now ≡ broken id fault self.now) }
     {
         let path = path_of(alloc, self.records.as_slice(), id)?;
-        Ok(Turn::Break(path, fault))
+        Ok(EventFlow::Break(path, fault))
     }
 
     /// Puts a timer among the events to come.
@@ -230,43 +230,48 @@ impl Core {
         priority: i16,
         kind: i16,
         time: SimTime,
-    ) -> Result<Turn, NoMemory>
+    ) -> Result<EventFlow, NoMemory>
         requires { self.old.next + 1 < 2 ^ 128 }
         ensures flow { IfOk result (λ turn. flow_of turn self.new
             ≡ scheduled_at id timer priority kind self.old time) }
         ensures err { OnErr result (self.new ≡ self.old) }
     {
         if self.pending.has_timer(id, timer) {
-            return self.broken(alloc, id, Fault::AlreadyScheduled);
+            return self.broken(alloc, id, RunFault::AlreadyScheduled);
         }
         let what = Happening::Timer(timer, kind);
         self.pending.insert(time, priority, id, what)?;
-        Ok(Turn::GoOn)
+        Ok(EventFlow::GoOn)
     }
 
     /// Sets a timer at a time of the run.
-    fn appoint(&mut self, alloc: Global, id: u32, a: &Appointment) -> Result<Turn, NoMemory>
+    fn appoint(&mut self, alloc: Global, id: u32, a: &Appointment) -> Result<EventFlow, NoMemory>
         requires { self.old.next + 1 < 2 ^ 128 }
         ensures flow { IfOk result (λ turn. flow_of turn self.new
             ≡ deed id (Action.ScheduleAt a.now) self.old) }
         ensures err { OnErr result (self.new ≡ self.old) }
     {
         if a.at < self.clock {
-            return self.broken(alloc, id, Fault::Past);
+            return self.broken(alloc, id, RunFault::Past);
         }
         self.schedule_at(alloc, id, a.timer, a.priority, a.kind, a.at)
     }
 
     /// Takes a timer back, if it is pending.
-    fn cancel(&mut self, id: u32, timer: u32) -> Turn
+    fn cancel(&mut self, id: u32, timer: u32) -> EventFlow
         ensures { flow_of result self.new ≡ deed id (Action.Cancel timer) self.old }
     {
         self.pending.cancel(id, timer);
-        Turn::GoOn
+        EventFlow::GoOn
     }
 
     /// Sets a timer from now on.
-    fn schedule(&mut self, alloc: Global, id: u32, schedule: &Schedule) -> Result<Turn, NoMemory>
+    fn schedule(
+        &mut self,
+        alloc: Global,
+        id: u32,
+        schedule: &Schedule,
+    ) -> Result<EventFlow, NoMemory>
         requires { self.old.next + 1 < 2 ^ 128 }
         ensures flow { IfOk result (λ turn. flow_of turn self.new
             ≡ deed id (Action.ScheduleAfter schedule.now) self.old) }
@@ -281,12 +286,18 @@ impl Core {
                 schedule.kind,
                 time,
             ),
-            Err(_) => self.broken(alloc, id, Fault::TimeOverflow),
+            Err(_) => self.broken(alloc, id, RunFault::TimeOverflow),
         }
     }
 
     /// Notes an emission.
-    fn emit(&mut self, alloc: Global, id: u32, signal: &Name, value: i64) -> Result<Turn, NoMemory>
+    fn emit(
+        &mut self,
+        alloc: Global,
+        id: u32,
+        signal: &Name,
+        value: i64,
+    ) -> Result<EventFlow, NoMemory>
         ensures flow { IfOk result (λ turn. flow_of turn self.new
             ≡ deed id (Action.Emit signal.now value) self.old) }
         ensures err { OnErr result (self.new ≡ self.old) }
@@ -299,25 +310,31 @@ impl Core {
             time: self.clock,
             value,
         })?;
-        Ok(Turn::GoOn)
+        Ok(EventFlow::GoOn)
     }
 
     /// Notes a scalar, where it has a name.
-    fn record(&mut self, alloc: Global, id: u32, name: &Name, value: i64) -> Result<Turn, NoMemory>
+    fn record(
+        &mut self,
+        alloc: Global,
+        id: u32,
+        name: &Name,
+        value: i64,
+    ) -> Result<EventFlow, NoMemory>
         ensures flow { IfOk result (λ turn. flow_of turn self.new
             ≡ deed id (Action.RecordScalar name.now value) self.old) }
         ensures err { OnErr result (self.new ≡ self.old) }
     {
         if !is_scalar_name(name.as_bytes()) {
-            return self.broken(alloc, id, Fault::BadName);
+            return self.broken(alloc, id, RunFault::BadName);
         }
         let name = name.text(alloc)?;
         self.scalars.push(Scalar { id, name, value })?;
-        Ok(Turn::GoOn)
+        Ok(EventFlow::GoOn)
     }
 
     /// One deed of the module of that id.
-    pub fn deed(&mut self, alloc: Global, id: u32, action: &Action) -> Result<Turn, NoMemory>
+    pub fn deed(&mut self, alloc: Global, id: u32, action: &Action) -> Result<EventFlow, NoMemory>
         requires { self.old.next + 1 < 2 ^ 128 }
         ensures flow { IfOk result (λ turn. flow_of turn self.new ≡ deed id action.now self.old) }
         ensures err { OnErr result (self.new ≡ self.old) }
@@ -330,11 +347,11 @@ impl Core {
             Action::Cancel(timer) => Ok(self.cancel(id, *timer)),
             Action::Fail(text) => {
                 let text = text.copy(alloc)?;
-                self.broken(alloc, id, Fault::ModuleFailed(text))
+                self.broken(alloc, id, RunFault::ModuleFailed(text))
             }
             // What is sent asks of gates: it is no deed.
             Action::Send(_, _) | Action::SendDelayed(_, _, _) | Action::SendDirect(_, _, _) => {
-                Ok(Turn::GoOn)
+                Ok(EventFlow::GoOn)
             }
         }
     }
@@ -684,7 +701,7 @@ impl Core {
     // ---- setup
 
     /// Creates the network, as the model answered.
-    pub fn root(&mut self, alloc: Global, found: Answer) -> Result<Turn, NoMemory>
+    pub fn root(&mut self, alloc: Global, found: Answer) -> Result<EventFlow, NoMemory>
         requires no_records { self.old.records ≡ [] }
         ensures flow { IfOk result (λ turn. flow_of turn self.new ≡ rooted found self.old) }
         ensures few { length self.new.records ≤ 1 }
@@ -699,10 +716,10 @@ impl Core {
                     origin: Origin::Built,
                 };
                 self.records.push(alloc, network)?;
-                Ok(Turn::GoOn)
+                Ok(EventFlow::GoOn)
             }
-            Answer::Fault(network, fault) => Ok(Turn::Break(network, fault_of(fault))),
-            _ => Ok(Turn::Break(Text::empty(alloc), Fault::UnknownType)),
+            Answer::Fault(network, fault) => Ok(EventFlow::Break(network, fault_of(fault))),
+            _ => Ok(EventFlow::Break(Text::empty(alloc), RunFault::UnknownType)),
         }
     }
 
@@ -746,27 +763,37 @@ impl Core {
     }
 
     /// Creates the submodules of a module, where they are not too many.
-    fn create_few(&mut self, alloc: Global, parent: u32, inside: &[Built]) -> Result<Turn, NoMemory>
+    fn create_few(
+        &mut self,
+        alloc: Global,
+        parent: u32,
+        inside: &[Built],
+    ) -> Result<EventFlow, NoMemory>
         ensures { IfOk result (λ turn. flow_of turn self.new
             ≡ unless_many parent inside.now self.old (slice_get inside.now (room_in self.old))) }
     {
         if let Some(built) = inside.get(self.room()) {
             let records = self.records.as_slice();
             let path = submodule_path(alloc, records, parent, built.name.as_bytes(), built.index)?;
-            return Ok(Turn::Break(path, Fault::TooManyModules));
+            return Ok(EventFlow::Break(path, RunFault::TooManyModules));
         }
         self.create_all(alloc, parent, inside)?;
-        Ok(Turn::GoOn)
+        Ok(EventFlow::GoOn)
     }
 
     /// Creates what the model answered to be inside of a module.
-    pub fn build(&mut self, alloc: Global, parent: u32, found: &Answer) -> Result<Turn, NoMemory>
+    pub fn build(
+        &mut self,
+        alloc: Global,
+        parent: u32,
+        found: &Answer,
+    ) -> Result<EventFlow, NoMemory>
         ensures { IfOk result (λ turn. flow_of turn self.new ≡ created parent found.now self.old) }
     {
         match found {
             Answer::Inside(inside) => self.create_few(alloc, parent, inside.as_slice()),
-            Answer::Fault(path, fault) => Ok(Turn::Break(path.copy(alloc)?, fault_of(*fault))),
-            _ => self.broken(alloc, parent, Fault::UnknownType),
+            Answer::Fault(path, fault) => Ok(EventFlow::Break(path.copy(alloc)?, fault_of(*fault))),
+            _ => self.broken(alloc, parent, RunFault::UnknownType),
         }
     }
 

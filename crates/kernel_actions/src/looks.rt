@@ -5,7 +5,7 @@ ghost use Rattle.std.specs.Option.{option_copied};
 ghost use Rattle.model_injections.specs.Injections.{turn_of};
 
 use event_set::pending::Pending;
-use model_injections::injection::{Due, Injection, Turn as InjectionTurn};
+use model_injections::injection::{Due, Injection, InjectionTurn};
 use sim_values::NoMemory;
 use sqlite_items::Items;
 use std::alloc::Global;

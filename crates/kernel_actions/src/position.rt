@@ -3,7 +3,7 @@
 ghost use Rattle.std.specs.Prelude.{◌≡◌};
 
 use event_set::set::EventSet;
-use model_injections::injection::Turn as InjectionTurn;
+use model_injections::injection::InjectionTurn;
 use run_semantics::routes::Transmission;
 use run_semantics::traces::Instance;
 use sim_time::SimTime;

@@ -9,7 +9,7 @@ use model_questions::answer::Answer;
 use module_api::call::{Parameter, find_value};
 use module_api::names::are_same;
 use module_api::reply::Read;
-use run_semantics::outcome::{Fault, fault_of};
+use run_semantics::outcome::{RunFault, fault_of};
 use sqlite_items::at;
 
 /// Whether the parameter at that place has the name. Then there is one of that name.
@@ -41,14 +41,14 @@ pub fn was_told(parameters: &[Parameter], place: usize, read: &Read) -> bool
 }
 
 /// What is wrong with a read, by its answer.
-pub fn fault_of_read(read: &Read, answer: &Answer) -> Option<Fault>
+pub fn fault_of_read(read: &Read, answer: &Answer) -> Option<RunFault>
     ensures { result ≡ fault_of_read read.now answer.now }
 {
     match (read, answer) {
         (Read::Gate(_), Answer::Gate(_)) => None,
-        (Read::Gate(_), _) => Some(Fault::NoGate),
+        (Read::Gate(_), _) => Some(RunFault::NoGate),
         (Read::Parameter(_), Answer::Value(_)) => None,
         (Read::Parameter(_), Answer::Fault(_, fault)) => Some(fault_of(*fault)),
-        (Read::Parameter(_), _) => Some(Fault::NoParameter),
+        (Read::Parameter(_), _) => Some(RunFault::NoParameter),
     }
 }

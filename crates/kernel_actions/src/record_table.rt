@@ -20,7 +20,7 @@ use std::marker::Model;
 
 /// Where a module stands: within which one, under which name, and at which index of a vector.
 #[derive(PartialEq, Eq, Hash, Drop)]
-pub struct Place {
+pub struct ModulePlace {
     /// The id of the enclosing module, 0 for the network.
     pub parent: u32,
     pub name: Text,
@@ -28,10 +28,10 @@ pub struct Place {
 }
 
 /// The place of the module of a record.
-fn place_of(alloc: Global, created: &Record) -> Result<Place, AllocError>
+fn place_of(alloc: Global, created: &Record) -> Result<ModulePlace, AllocError>
     ensures { IfOk result (λ place. place ≡ place_of created.now) }
 {
-    Ok(Place {
+    Ok(ModulePlace {
         parent: created.parent,
         name: created.name.copy(alloc)?,
         index: created.index,
@@ -39,7 +39,7 @@ fn place_of(alloc: Global, created: &Record) -> Result<Place, AllocError>
 }
 
 /// Whether a place has that id.
-fn has(ids: &HashMap<Place, u32>, place: &Place, id: usize) -> bool
+fn has(ids: &HashMap<ModulePlace, u32>, place: &ModulePlace, id: usize) -> bool
     ensures { Decides result (get equal ids.now place.now ≡ Some id) }
 {
     match ids.get(place) {
@@ -53,7 +53,7 @@ fn has(ids: &HashMap<Place, u32>, place: &Place, id: usize) -> bool
 pub struct RecordTable {
     records: Items<Record>,
     /// The id of the first module that was built at a place.
-    ids: HashMap<Place, u32>,
+    ids: HashMap<ModulePlace, u32>,
 }
 
 // Written out, so that a crate which drops one need not prove what that does.
@@ -147,7 +147,7 @@ impl RecordTable {
             class: _,
             origin: _,
         } = self.records.pop().unwrap();
-        let place = Place {
+        let place = ModulePlace {
             parent,
             name,
             index,
@@ -168,7 +168,7 @@ impl RecordTable {
     }
 
     /// The first module that was built at that place.
-    fn built_id(&self, place: &Place) -> Option<u32>
+    fn built_id(&self, place: &ModulePlace) -> Option<u32>
         ensures { result ≡ id_at self.now place.now }
     {
         self.ids.get(place).copied()
@@ -186,13 +186,13 @@ impl RecordTable {
             },
             Neighbour::Beside(name, index) => {
                 let parent = record_at(self.as_slice(), id)?.parent;
-                self.built_id(&Place {
+                self.built_id(&ModulePlace {
                     parent,
                     name,
                     index,
                 })
             }
-            Neighbour::Inside(name, index) => self.built_id(&Place {
+            Neighbour::Inside(name, index) => self.built_id(&ModulePlace {
                 parent: id,
                 name,
                 index,

@@ -2,7 +2,7 @@
 
 ghost use Rattle.std.specs.Prelude.{◌≡◌, ◌+◌, ◌^◌, ◌<◌, nat_lt, if◌then◌else◌, IfOk, OnOk};
 ghost use Rattle.channels.specs.Travel.{transmissions};
-ghost use Rattle.run_semantics.specs.declared.outcome.Fault.TheVariants as faults;
+ghost use Rattle.run_semantics.specs.declared.outcome.RunFault.TheVariants as faults;
 ghost use Rattle.run_semantics.specs.Perform.{broken, flow_of, completed, flight_end, sent_over};
 ghost use Rattle.kernel_actions.specs.Positions.{IsGrownFrom};
 
@@ -12,7 +12,7 @@ use channels::{transmissions, travel};
 use model_questions::answer::Channel;
 use module_api::message::Outgoing;
 use module_api::reply::Flight;
-use run_semantics::outcome::{Fault, Turn, fault_on_way};
+use run_semantics::outcome::{EventFlow, RunFault, fault_on_way};
 use run_semantics::routes::{PassedHop, PlacedGate, busy_of, channels_of, transmission_gate};
 use sim_time::SimTime;
 use sim_values::NoMemory;
@@ -49,14 +49,19 @@ fn complete(
 }
 
 /// The fault of a message whose departure is no time.
-fn depart_late(core: &Core, alloc: Global, id: u32, channels: &[Channel]) -> Result<Turn, NoMemory>
+fn depart_late(
+    core: &Core,
+    alloc: Global,
+    id: u32,
+    channels: &[Channel],
+) -> Result<EventFlow, NoMemory>
     ensures { IfOk result (λ turn. flow_of turn core.now
         ≡ broken id (if nat_lt 1 (transmissions channels.now) then faults.TwoTransmissionChannels else faults.TimeOverflow) core.now) }
 {
     if transmissions(channels) > 1 {
-        return core.broken(alloc, id, Fault::TwoTransmissionChannels);
+        return core.broken(alloc, id, RunFault::TwoTransmissionChannels);
     }
-    core.broken(alloc, id, Fault::TimeOverflow)
+    core.broken(alloc, id, RunFault::TimeOverflow)
 }
 
 /// Sends a message of the module of that id over these hops, to the gate at their end.
@@ -68,7 +73,7 @@ pub fn send_over(
     departure: &Option<SimTime>,
     hops: &[PassedHop],
     end: &PlacedGate,
-) -> Result<Turn, NoMemory>
+) -> Result<EventFlow, NoMemory>
     requires { core.old.next + 1 < 2 ^ 128 }
     ensures flow { IfOk result (λ turn. flow_of turn core.new
         ≡ sent_over id message.now departure.now hops.now end.now core.old) }
@@ -83,7 +88,7 @@ pub fn send_over(
     match travel(channels.as_slice(), *departure, message.bits, busy) {
         Ok(found) => {
             complete(core, alloc, message, &from, end, &found)?;
-            Ok(Turn::GoOn)
+            Ok(EventFlow::GoOn)
         }
         Err(fault) => core.broken(alloc, id, fault_on_way(fault)),
     }

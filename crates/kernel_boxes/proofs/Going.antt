@@ -10,13 +10,13 @@ use Rattle.module_api.specs.Meaning.{Module}
 use Rattle.module_tree.specs.Boxes.{Seated, without_box}
 use Rattle.run_semantics.specs.declared.traces.Instance.{Instance}
 use Rattle.run_semantics.specs.Run.{Part, part_of, standing}
-use Rattle.kernel_boxes.specs.Seats.{Seat, instance_of, module_in, AreOfKinds}
+use Rattle.kernel_boxes.specs.Seats.{BoxAt, instance_of, module_in, AreOfKinds}
 use Rattle.kernel_boxes.specs.Staying.{is_of, is_held, first_without, staying, is_first, after_id, stays_at, IdsRise}
 use Rattle.kernel_boxes.proofs.Saving.{Rise}
 use Rattle.kernel_boxes.proofs.Seating.{seat}
 
 -- those of smaller ids that stay, and all others
-abbrev pub passed : ℕ → List Instance → Seat → Bool
+abbrev pub passed : ℕ → List Instance → BoxAt → Bool
 passed n saved s = if nat_lt s.id n then is_of saved s else true
 
 -- of these modules those from an id on
@@ -70,7 +70,7 @@ both_pass p q r (x ∷ xs) h = by (q x) (r x) (h x) (both_pass p q r xs h)
 -- ---- a box that is looked at
 
 -- the boxes without the one of an id
-abbrev pub without : ℕ → List Seat → List Seat
+abbrev pub without : ℕ → List BoxAt → List BoxAt
 without id [] = []
 without id (s ∷ ss) = if s.id == id then ss else s ∷ without id ss
 
@@ -84,13 +84,13 @@ module _ {A : Type 0} (means : A → Module) where
       by false later = ap (λ ts. seat means s ∷ ts) later
 
 -- those of greater ids stay
-greater_stay : (id : ℕ) (saved : List Instance) (from below : ℕ) (ss : List Seat) → Rise from below ss → id < from → filter (stays_at id saved) ss ≡ ss
+greater_stay : (id : ℕ) (saved : List Instance) (from below : ℕ) (ss : List BoxAt) → Rise from below ss → id < from → filter (stays_at id saved) ss ≡ ss
 greater_stay id saved from below [] r h = refl
 greater_stay id saved from below (s ∷ ss) r h = rw (other s.id id (omega (arith, h, r.0))) (ap (λ ts. s ∷ ts) (greater_stay id saved (suc s.id) below ss r.2 (omega (arith, h, r.0))))
 
 -- WHAT BECOMES of the boxes: where the one of the id is of the first module all stay, and else all
 -- but that one
-pub looked_at : (id : ℕ) (saved : List Instance) (from below : ℕ) (ss : List Seat) → Rise from below ss → filter (stays_at id saved) ss ≡ cond (is_first id saved (module_in id ss)) ss (without id ss)
+pub looked_at : (id : ℕ) (saved : List Instance) (from below : ℕ) (ss : List BoxAt) → Rise from below ss → filter (stays_at id saved) ss ≡ cond (is_first id saved (module_in id ss)) ss (without id ss)
 looked_at id saved from below [] r = refl
 looked_at id saved from below (s ∷ ss) r = by (s.id == id) refl (looked_at id saved (suc s.id) below ss r.2)
   where
@@ -112,12 +112,12 @@ looked_at id saved from below (s ∷ ss) r = by (s.id == id) refl (looked_at id 
 -- ---- one id more
 
 -- none of these modules has a smaller id
-none_of : (from : ℕ) (saved : List Instance) (s : Seat) → IdsRise from saved → s.id < from → is_of saved s ≡ false
+none_of : (from : ℕ) (saved : List Instance) (s : BoxAt) → IdsRise from saved → s.id < from → is_of saved s ≡ false
 none_of from [] s r h = refl
 none_of from (i ∷ is) s r h = rw (other i.id s.id (omega (arith, h, r.0))) (none_of (suc i.id) is s r.1 (omega (arith, h, r.0)))
 
 -- of the modules from an id on the first is the one of that id, where there is one
-at_first : (from n : ℕ) (saved : List Instance) (s : Seat) → IdsRise from saved → s.id ≡ n → is_of saved s ≡ is_first n (from_id n saved) (Some s.box)
+at_first : (from n : ℕ) (saved : List Instance) (s : BoxAt) → IdsRise from saved → s.id ≡ n → is_of saved s ≡ is_first n (from_id n saved) (Some s.box)
 at_first from n [] s r e = refl
 at_first from n (i ∷ is) s r e = by (nat_lt i.id n) refl (at_first (suc i.id) n is s r.1 e)
   where
@@ -137,7 +137,7 @@ at_first from n (i ∷ is) s r e = by (nat_lt i.id n) refl (at_first (suc i.id) 
             ap (λ k. cond (i.id == k) (bytes_eq i.kind s.box.kind) (is_of is s)) e ∙ rw u (none_of (suc i.id) is s r.1 (omega (arith, h, e)))
 
 -- a box passes the next id where it passed those before and stays at this one
-pub passes_on : (n : ℕ) (saved : List Instance) (s : Seat) → IdsRise 0 saved → passed (n + 1) saved s ≡ cond (passed n saved s) (stays_at n (from_id n saved) s) false
+pub passes_on : (n : ℕ) (saved : List Instance) (s : BoxAt) → IdsRise 0 saved → passed (n + 1) saved s ≡ cond (passed n saved s) (stays_at n (from_id n saved) s) false
 passes_on n saved s r = by (nat_lt s.id n) (s.id == n) refl refl
   where
     kept : (t : Bool) → t ≡ cond t true false
@@ -172,21 +172,21 @@ next_left from n (i ∷ is) r = by (nat_lt i.id n) (i.id == n) refl refl (next_l
 
 -- ---- the first and the last id
 
-pub first_passed : (saved : List Instance) (ss : List Seat) → filter (passed 0 saved) ss ≡ ss
+pub first_passed : (saved : List Instance) (ss : List BoxAt) → filter (passed 0 saved) ss ≡ ss
 first_passed saved ss = all_pass (passed 0 saved) ss (λ s. rw (not_less s.id 0 (omega arith)) refl)
 
 pub all_from : (saved : List Instance) → from_id 0 saved ≡ saved
 all_from [] = refl
 all_from (i ∷ is) = rw (not_less i.id 0 (omega arith)) refl
 
-pub last_passed : (saved : List Instance) (from below : ℕ) (ss : List Seat) → Rise from below ss → filter (passed below saved) ss ≡ staying saved ss
+pub last_passed : (saved : List Instance) (from below : ℕ) (ss : List BoxAt) → Rise from below ss → filter (passed below saved) ss ≡ staying saved ss
 last_passed saved from below [] r = refl
 last_passed saved from below (s ∷ ss) r = rw (less s.id below r.1) (ap (λ ts. cond (is_of saved s) (s ∷ ts) ts) (last_passed saved (suc s.id) below ss r.2))
 
 -- ---- where the boxes are those of the modules
 
 -- the ids of modules that have boxes rise
-pub ids_rise : (from below : ℕ) (ss : List Seat) (saved : List Instance) → Rise from below ss → standing (map instance_of ss) ≡ standing saved → IdsRise from saved
+pub ids_rise : (from below : ℕ) (ss : List BoxAt) (saved : List Instance) → Rise from below ss → standing (map instance_of ss) ≡ standing saved → IdsRise from saved
 ids_rise from below [] [] r e = tt
 ids_rise from below [] (i ∷ is) r e = cc
 ids_rise from below (s ∷ ss) [] r e = cc
@@ -197,13 +197,13 @@ ids_rise from below (s ∷ ss) (i ∷ is) r e =
     (omega (arith, r.0, id), subst (λ n. IdsRise (suc n) is) id (ids_rise (suc s.id) below ss is r.2 rest))
 
 -- a module of a smaller id says nothing of them
-passed_over : (i : Instance) (from : ℕ) (ss : List Seat) (is : List Instance) → IdsRise from (map instance_of ss) → i.id < from → filter (is_of (i ∷ is)) ss ≡ filter (is_of is) ss
+passed_over : (i : Instance) (from : ℕ) (ss : List BoxAt) (is : List Instance) → IdsRise from (map instance_of ss) → i.id < from → filter (is_of (i ∷ is)) ss ≡ filter (is_of is) ss
 passed_over i from [] is r h = refl
 passed_over i from (s ∷ ss) is r h =
     rw (other_below i.id s.id (omega (arith, h, r.0))) (ap (λ ts. cond (is_of is s) (s ∷ ts) ts) (passed_over i (suc s.id) ss is r.1 (omega (arith, h, r.0))))
 
 -- ALL STAY
-pub all_stay : (from : ℕ) (ss : List Seat) (saved : List Instance) → IdsRise from (map instance_of ss) → standing (map instance_of ss) ≡ standing saved → staying saved ss ≡ ss
+pub all_stay : (from : ℕ) (ss : List BoxAt) (saved : List Instance) → IdsRise from (map instance_of ss) → standing (map instance_of ss) ≡ standing saved → staying saved ss ≡ ss
 all_stay from [] saved r e = refl
 all_stay from (s ∷ ss) [] r e = cc
 all_stay from (s ∷ ss) (i ∷ is) r e =
@@ -226,7 +226,7 @@ rise_alike from (x ∷ xs) (y ∷ ys) e r =
     (omega (arith, r.0, id), subst (λ n. IdsRise (suc n) ys) id (rise_alike (suc x.id) xs ys rest r.1))
 
 -- a module has a box, where it stands among those of boxes
-pub held_is : (id : ℕ) (ss : List Seat) (found : Option Module) → module_in id ss ≡ found → is_held id (standing (map instance_of ss)) ≡ is_some found
+pub held_is : (id : ℕ) (ss : List BoxAt) (found : Option Module) → module_in id ss ≡ found → is_held id (standing (map instance_of ss)) ≡ is_some found
 held_is id [] found e = ap is_some e
 held_is id (s ∷ ss) found e = by (s.id == id) (held_is id ss) e
   where
@@ -278,12 +278,12 @@ lacks_next index saved i boxes less e some =
 
 -- ---- where none is lacking
 
-none_stay : (ss : List Seat) → staying [] ss ≡ []
+none_stay : (ss : List BoxAt) → staying [] ss ≡ []
 none_stay [] = refl
 none_stay (s ∷ ss) = none_stay ss
 
 -- of boxes of greater ids none is that module's
-not_among : (id from below : ℕ) (saved : List Instance) (ss : List Seat) → Rise from below ss → id < from → is_held id (standing (map instance_of (staying saved ss))) ≡ false
+not_among : (id from below : ℕ) (saved : List Instance) (ss : List BoxAt) → Rise from below ss → id < from → is_held id (standing (map instance_of (staying saved ss))) ≡ false
 not_among id from below saved [] r h = refl
 not_among id from below saved (s ∷ ss) r h = by (is_of saved s) (not_among id (suc s.id) below saved ss r.2 (omega (arith, h, r.0)))
   where
@@ -298,7 +298,7 @@ head_passed p boxes from (i ∷ is) r h =
     rw (other_below p.id i.id (omega (arith, h, r.0))) (ap (λ rest. cond (is_held i.id boxes) rest (Some (part_of i))) (head_passed p boxes (suc i.id) is r.1 (omega (arith, h, r.0))))
 
 -- ALL ARE THERE: the boxes that stay are those of the modules
-pub all_there : (from below : ℕ) (saved : List Instance) (ss : List Seat) → IdsRise from saved → Rise from below ss → first_without (standing (map instance_of (staying saved ss))) (standing saved) ≡ None
+pub all_there : (from below : ℕ) (saved : List Instance) (ss : List BoxAt) → IdsRise from saved → Rise from below ss → first_without (standing (map instance_of (staying saved ss))) (standing saved) ≡ None
     → standing (map instance_of (staying saved ss)) ≡ standing saved
 all_there from below [] ss q r e = ap (λ ts. standing (map instance_of ts)) (none_stay ss)
 all_there from below (i ∷ is) [] q r e = cc
@@ -308,7 +308,7 @@ all_there from below (i ∷ is) (s ∷ ss) q r e =
     Same : List Instance → Type 0
     Same saved = first_without (standing (map instance_of (staying saved ss))) (standing saved) ≡ None → standing (map instance_of (staying saved ss)) ≡ standing saved
 
-    parts : List Seat → List Part
+    parts : List BoxAt → List Part
     parts ts = standing (map instance_of ts)
 
     -- the module has no box
@@ -342,7 +342,7 @@ all_there from below (i ∷ is) (s ∷ ss) q r e =
         lost (not_among i.id s.id below (i ∷ is) (s ∷ ss) (omega arith, r.1, r.2) h)
 
 -- those that stay are of their kinds
-pub kinds_stay : (b : Behaviour) (saved : List Instance) (ss : List Seat) → AreOfKinds b ss → AreOfKinds b (staying saved ss)
+pub kinds_stay : (b : Behaviour) (saved : List Instance) (ss : List BoxAt) → AreOfKinds b ss → AreOfKinds b (staying saved ss)
 kinds_stay b saved [] h = tt
 kinds_stay b saved (s ∷ ss) h = by (is_of saved s) (kinds_stay b saved ss h.1)
   where

@@ -6,7 +6,7 @@ use Rattle.module_api.specs.Behaviour.{Behaviour}
 use Rattle.run_semantics.specs.declared.traces.Instance.{Instance}
 use Rattle.run_semantics.specs.Event.{with_state}
 use Rattle.run_semantics.specs.Run.{Part, part_of, standing}
-use Rattle.kernel_boxes.specs.Seats.{Seat, instance_of, module_in, AreOfKinds, AreKept}
+use Rattle.kernel_boxes.specs.Seats.{BoxAt, instance_of, module_in, AreOfKinds, AreKept}
 use Rattle.kernel_boxes.specs.Saved.{Takes, CanTake, with_states}
 use Rattle.run_semantics.specs.Laws.{AreStates}
 use Rattle.kernel_boxes.proofs.Saving.{Rise}
@@ -16,7 +16,7 @@ abbrev pub PartsRise : ℕ → List Part → Type 0
 PartsRise from [] = Unit {0}
 PartsRise from (p ∷ ps) = (from ≤ p.id) × PartsRise (suc p.id) ps
 
-pub parts_rise : (from below : ℕ) (ss : List Seat) → Rise from below ss → PartsRise from (standing (map instance_of ss))
+pub parts_rise : (from below : ℕ) (ss : List BoxAt) → Rise from below ss → PartsRise from (standing (map instance_of ss))
 parts_rise from below [] r = tt
 parts_rise from below (s ∷ ss) r = (r.0, parts_rise (suc s.id) below ss r.2)
 
@@ -36,19 +36,19 @@ later from id (p ∷ ps) h r = (omega (arith, h, r.0), r.1)
 -- ---- what each box takes
 
 -- each of these boxes takes its state
-abbrev pub AllTake : List Instance → List Seat → Type 0
+abbrev pub AllTake : List Instance → List BoxAt → Type 0
 AllTake [] ss = Unit {0}
 AllTake (i ∷ is) ss = Takes i.state (module_in i.id ss) × AllTake is ss
 
 -- a box of a smaller id stands before them
-before : (s : Seat) (ss : List Seat) (is : List Instance) → PartsRise (suc s.id) (standing is) → AllTake is ss → AllTake is (s ∷ ss)
+before : (s : BoxAt) (ss : List BoxAt) (is : List Instance) → PartsRise (suc s.id) (standing is) → AllTake is ss → AllTake is (s ∷ ss)
 before s ss [] r h = tt
 before s ss (i ∷ is) r h = (
   subst (λ t. Takes i.state (cond t (Some s.box) (module_in i.id ss))) (sym (behind_other s.id i.id (omega (arith, r.0)))) h.0,
   before s ss is (later (suc i.id) s.id (standing is) (omega (arith, r.0)) r.1) h.1,
 )
 
-all_take : (b : Behaviour) (from : ℕ) (ss : List Seat) (is : List Instance) → PartsRise from (standing is) → AreOfKinds b ss → standing (map instance_of ss) ≡ standing is → AreStates b is → AllTake is ss
+all_take : (b : Behaviour) (from : ℕ) (ss : List BoxAt) (is : List Instance) → PartsRise from (standing is) → AreOfKinds b ss → standing (map instance_of ss) ≡ standing is → AreStates b is → AllTake is ss
 all_take b from [] [] r k e h = tt
 all_take b from [] (i ∷ is) r k e h = cc
 all_take b from (s ∷ ss) [] r k e h = cc
@@ -63,18 +63,18 @@ all_take b from (s ∷ ss) (i ∷ is) r k e h =
     )
 
 -- a fact of the boxes of all, of one
-one_takes : (index : ℕ) (is : List Instance) (i : Instance) (ss : List Seat) → AllTake (drop index is) ss → index < length is → i ≡ get_or is index i → Takes i.state (module_in i.id ss)
+one_takes : (index : ℕ) (is : List Instance) (i : Instance) (ss : List BoxAt) → AllTake (drop index is) ss → index < length is → i ≡ get_or is index i → Takes i.state (module_in i.id ss)
 one_takes index is i ss h less e =
     let split : drop index is ≡ i ∷ drop (suc index) is = drop-cons is index i less ∙ ap (λ x. x ∷ drop (suc index) is) (sym e) in
     (subst (λ xs. AllTake xs ss) split h).0
 
-drop_take : (index : ℕ) (is : List Instance) (ss : List Seat) → AllTake is ss → AllTake (drop index is) ss
+drop_take : (index : ℕ) (is : List Instance) (ss : List BoxAt) → AllTake is ss → AllTake (drop index is) ss
 drop_take zero is ss h = h
 drop_take (suc n) [] ss h = tt
 drop_take (suc n) (i ∷ is) ss h = drop_take n is ss h.1
 
 -- ONE OF THE BOXES takes its state, whatever others took before it
-pub next_takes : (b : Behaviour) (below index : ℕ) (saved : List Instance) (i : Instance) (old ss : List Seat) → Rise 0 below old → CanTake b saved old → AreKept b old ss → index < length saved → i ≡ get_or saved index i → Takes i.state (module_in i.id ss)
+pub next_takes : (b : Behaviour) (below index : ℕ) (saved : List Instance) (i : Instance) (old ss : List BoxAt) → Rise 0 below old → CanTake b saved old → AreKept b old ss → index < length saved → i ≡ get_or saved index i → Takes i.state (module_in i.id ss)
 next_takes b below index saved i old ss r can kept less e =
     let rises = subst (PartsRise 0) can.same (parts_rise 0 below old r) in
     one_takes index saved i ss (drop_take index saved ss (all_take b 0 ss saved rises kept.kinds (kept.standing_is ∙ can.same) can.states)) less e
@@ -111,13 +111,13 @@ all_loaded from (s ∷ ss) (i ∷ is) r e =
     ∙ passes s ss is r.1
     ∙ ap (λ xs. s ∷ xs) (all_loaded (suc s.id) ss is r.1 rest)
 
-pub modules_loaded : (b : Behaviour) (below : ℕ) (saved : List Instance) (old : List Seat) → Rise 0 below old → CanTake b saved old → with_states saved (map instance_of old) ≡ saved
+pub modules_loaded : (b : Behaviour) (below : ℕ) (saved : List Instance) (old : List BoxAt) → Rise 0 below old → CanTake b saved old → with_states saved (map instance_of old) ≡ saved
 modules_loaded b below saved old r can = all_loaded 0 saved (map instance_of old) (subst (PartsRise 0) can.same (parts_rise 0 below old r)) can.same
 
 -- ---- what stays
 
 -- boxes that are kept can take the states again
-pub can_again : (b : Behaviour) (saved : List Instance) (old new : List Seat) → CanTake b saved old → AreKept b old new → CanTake b saved new
+pub can_again : (b : Behaviour) (saved : List Instance) (old new : List BoxAt) → CanTake b saved old → AreKept b old new → CanTake b saved new
 can_again b saved old new can kept = record {
   kinds = kept.kinds;
   same = kept.standing_is ∙ can.same;

@@ -7,18 +7,18 @@ use Rattle.module_tree.specs.Boxes.{Seated, AreRising}
 use Rattle.run_semantics.specs.declared.traces.Instance.{Instance}
 use Rattle.run_semantics.specs.Event.{with_state}
 use Rattle.run_semantics.specs.Run.{standing}
-use Rattle.kernel_boxes.specs.Seats.{Seat, instance_of, module_in, AreOfKinds, AreKept}
+use Rattle.kernel_boxes.specs.Seats.{BoxAt, instance_of, module_in, AreOfKinds, AreKept}
 use Rattle.kernel_boxes.specs.Saved.{instance_at, listed, Takes, IsLoaded}
 use Rattle.kernel_boxes.proofs.Keeping.{kind_in, kind_same, kinds_with, standing_with, states_with}
 use Rattle.kernel_boxes.proofs.Seating.{seat}
 
 -- those that are left from an id on
-abbrev pub instances_left : ℕ → List Seat → List Instance
+abbrev pub instances_left : ℕ → List BoxAt → List Instance
 instances_left n [] = []
 instances_left n (s ∷ ss) = if nat_lt s.id n then instances_left n ss else instance_of s ∷ map instance_of ss
 
 -- the ids rise, from this number on, and all are below that one
-abbrev pub Rise : ℕ → ℕ → List Seat → Type 0
+abbrev pub Rise : ℕ → ℕ → List BoxAt → Type 0
 Rise from below [] = Unit {0}
 Rise from below (s ∷ ss) = (from ≤ s.id) × (s.id < below) × Rise (suc s.id) below ss
 
@@ -33,22 +33,22 @@ less : (m n : ℕ) → m < n → nat_lt m n ≡ true
 less m n h = grind (arith, nat_tests)
 
 -- all, at first
-pub all_left : (ss : List Seat) → instances_left 0 ss ≡ map instance_of ss
+pub all_left : (ss : List BoxAt) → instances_left 0 ss ≡ map instance_of ss
 all_left [] = refl
 all_left (s ∷ ss) = rw (not_less s.id 0 (omega arith)) refl
 
 -- none, at last
-pub none_left : (from below : ℕ) (ss : List Seat) → Rise from below ss → instances_left below ss ≡ []
+pub none_left : (from below : ℕ) (ss : List BoxAt) → Rise from below ss → instances_left below ss ≡ []
 none_left from below [] r = refl
 none_left from below (s ∷ ss) r = rw (less s.id below r.1) (none_left (suc s.id) below ss r.2)
 
 -- all are left that are greater
-greater_left : (n from below : ℕ) (ss : List Seat) → Rise from below ss → n ≤ from → instances_left n ss ≡ map instance_of ss
+greater_left : (n from below : ℕ) (ss : List BoxAt) → Rise from below ss → n ≤ from → instances_left n ss ≡ map instance_of ss
 greater_left n from below [] r h = refl
 greater_left n from below (s ∷ ss) r h = rw (not_less s.id n (omega (arith, r.0))) refl
 
 -- an id that is smaller is none of theirs
-smaller_none : (n from below : ℕ) (ss : List Seat) → Rise from below ss → n < from → module_in n ss ≡ None
+smaller_none : (n from below : ℕ) (ss : List BoxAt) → Rise from below ss → n < from → module_in n ss ≡ None
 smaller_none n from below [] r h = refl
 smaller_none n from below (s ∷ ss) r h = rw (other s.id n (omega (arith, r.0))) (smaller_none n (suc s.id) below ss r.2 (omega (arith, r.0)))
   where
@@ -56,7 +56,7 @@ smaller_none n from below (s ∷ ss) r h = rw (other s.id n (omega (arith, r.0))
     other m n h = grind (arith, nat_tests)
 
 -- one id more
-left_step : (n from below : ℕ) (ss : List Seat) → Rise from below ss → instances_left n ss ≡ listed (instance_at n (module_in n ss)) ++ instances_left (n + 1) ss
+left_step : (n from below : ℕ) (ss : List BoxAt) → Rise from below ss → instances_left n ss ≡ listed (instance_at n (module_in n ss)) ++ instances_left (n + 1) ss
 left_step n from below [] r = refl
 left_step n from below (s ∷ ss) r = by (nat_lt s.id n) (s.id == n) refl refl (left_step n (suc s.id) below ss r.2)
   where
@@ -83,14 +83,14 @@ left_step n from below (s ∷ ss) r = by (nat_lt s.id n) (s.id == n) refl refl (
         rw (not_less s.id (n + 1) (omega (arith, h)), smaller_none n (suc s.id) below ss r.2 (omega (arith, h))) refl
 
 -- a loop over the ids: what is saved, and what is left, are all
-pub saved_more : (n below : ℕ) (ss : List Seat) (saved more whole : List Instance) → Rise 0 below ss → more ≡ saved ++ listed (instance_at n (module_in n ss)) → saved ++ instances_left n ss ≡ whole → more ++ instances_left (n + 1) ss ≡ whole
+pub saved_more : (n below : ℕ) (ss : List BoxAt) (saved more whole : List Instance) → Rise 0 below ss → more ≡ saved ++ listed (instance_at n (module_in n ss)) → saved ++ instances_left n ss ≡ whole → more ++ instances_left (n + 1) ss ≡ whole
 saved_more n below ss saved more whole r e h =
     ap (λ (xs : List Instance). xs ++ instances_left (n + 1) ss) e
     ∙ append_assoc saved (listed (instance_at n (module_in n ss))) (instances_left (n + 1) ss)
     ∙ sym (ap (λ (xs : List Instance). saved ++ xs) (left_step n 0 below ss r))
     ∙ h
 
-pub saved_last : (n below : ℕ) (ss : List Seat) (saved whole : List Instance) → n ≡ below → Rise 0 below ss → saved ++ instances_left n ss ≡ whole → saved ≡ whole
+pub saved_last : (n below : ℕ) (ss : List BoxAt) (saved whole : List Instance) → n ≡ below → Rise 0 below ss → saved ++ instances_left n ss ≡ whole → saved ≡ whole
 saved_last n below ss saved whole e r h =
     sym (append-nil saved) ∙ sym (ap (λ (xs : List Instance). saved ++ xs) (ap (λ k. instances_left k ss) e ∙ none_left 0 below ss r)) ∙ h
 
@@ -102,13 +102,13 @@ taken means state None h = absurd h
 taken means state (Some x) h = refl
 
 -- the box is still of its kind
-pub loaded_kept : (b : Behaviour) (id : ℕ) (old new : List Seat) → IsLoaded id old new → AreOfKinds b old → AreKept b old new
+pub loaded_kept : (b : Behaviour) (id : ℕ) (old new : List BoxAt) → IsLoaded id old new → AreOfKinds b old → AreKept b old new
 loaded_kept b id old new s h = record {
   kinds = subst (AreOfKinds b) (sym s.seats) (kinds_with b id s.after old (kind_same b s.before s.after s.same (kind_in b id old s.before s.found h)) h);
-  standing_is = ap (λ (ss : List Seat). standing (map instance_of ss)) s.seats ∙ standing_with id old s.before s.after s.found s.same.kind;
+  standing_is = ap (λ (ss : List BoxAt). standing (map instance_of ss)) s.seats ∙ standing_with id old s.before s.after s.found s.same.kind;
 }
 
 -- and in the state that was loaded
-pub loaded_state : {U E : Type 0} (id : ℕ) (state : State) (old new : List Seat) (result : Result U E) → (s : IsLoaded id old new) → OnOk result (s.after.state ≡ state) → OnOk result (map instance_of new ≡ with_state id state (map instance_of old))
+pub loaded_state : {U E : Type 0} (id : ℕ) (state : State) (old new : List BoxAt) (result : Result U E) → (s : IsLoaded id old new) → OnOk result (s.after.state ≡ state) → OnOk result (map instance_of new ≡ with_state id state (map instance_of old))
 loaded_state id state old new (Ok x) s e = ap (map instance_of) s.seats ∙ states_with id old s.before s.after state s.found s.same.kind e
 loaded_state id state old new (Err x) s e = tt

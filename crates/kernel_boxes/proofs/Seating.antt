@@ -5,11 +5,11 @@ use Rattle.module_api.specs.Behaviour.{Behaviour}
 use Rattle.module_api.specs.Meaning.{Module, IsOfKind}
 use Rattle.module_tree.specs.Boxes.{Seated, box_of, with_box, without_box, AreRising}
 use Rattle.module_tree.proofs.Seats.{another_in, same_found, put_again}
-use Rattle.kernel_boxes.specs.Seats.{Seat, instance_of, module_in, with_module, AreBelow, AreOfKinds}
+use Rattle.kernel_boxes.specs.Seats.{BoxAt, instance_of, module_in, with_module, AreBelow, AreOfKinds}
 
 -- what the boxes of a tree are
 module _ {A : Type 0} (means : A → Module) where
-  abbrev pub seat : Seated A → Seat
+  abbrev pub seat : Seated A → BoxAt
   seat s = record { id = s.id; box = means s.box }
 
   -- the box of an id
@@ -63,7 +63,7 @@ module _ {A : Type 0} (means : A → Module) where
   pub instances_supplied : (id : ℕ) (y : A) (ss : List (Seated A)) → AreBelow id (map instance_of (map seat ss)) → map instance_of (map seat (with_box id y ss)) ≡ map instance_of (map seat ss) ++ record { id = id; kind = (means y).kind; state = (means y).state } ∷ []
   instances_supplied id y ss h = ap (map instance_of) (supplied id y ss h) ∙ map_more instance_of (map seat ss) (record { id = id; box = means y })
 
-kinds_more : (b : Behaviour) (ss : List Seat) (s : Seat) → AreOfKinds b ss → IsOfKind b s.box → AreOfKinds b (ss ++ s ∷ [])
+kinds_more : (b : Behaviour) (ss : List BoxAt) (s : BoxAt) → AreOfKinds b ss → IsOfKind b s.box → AreOfKinds b (ss ++ s ∷ [])
 kinds_more b [] s h k = (k, tt)
 kinds_more b (t ∷ ts) s h k = (h.0, kinds_more b ts s h.1 k)
 

@@ -9,11 +9,11 @@ use Rattle.run_semantics.specs.declared.traces.Instance.{Instance}
 use Rattle.run_semantics.specs.Event.{with_state}
 use Rattle.run_semantics.specs.Laws.{AreStates}
 use Rattle.run_semantics.specs.Run.{standing}
-use Rattle.kernel_boxes.specs.Seats.{Seat, instance_of, module_in, with_module, AreOfKinds, Members, seat_of}
+use Rattle.kernel_boxes.specs.Seats.{BoxAt, instance_of, module_in, with_module, AreOfKinds, Members, seat_of}
 
 module _ {X : Type 0} {Y : X → Type 0} where
   -- what the boxes of a tree are, by rising ids
-  abbrev pub seats_held : Members X Y → Held (DynBox X Global Y) → List Seat
+  abbrev pub seats_held : Members X Y → Held (DynBox X Global Y) → List BoxAt
   seats_held members tree = map (seat_of members) tree.seats
 
   -- what a world holds of them
@@ -36,7 +36,7 @@ Takes state None = ⊥
 Takes state (Some box) = IsTrue (box.naming.is_state state)
 
 -- The box of that id is still of its kind and naming, whatever its state, and no other changed.
-pub record IsLoaded (id : ℕ) (old new : List Seat) : Type 0 where
+pub record IsLoaded (id : ℕ) (old new : List BoxAt) : Type 0 where
   pub before : Module
   pub after : Module
   pub found : module_in id old ≡ Some before
@@ -45,7 +45,7 @@ pub record IsLoaded (id : ℕ) (old new : List Seat) : Type 0 where
 
 -- Boxes can be brought into these states: each box is of its kind, they are those of the same
 -- modules, and each state is one of its kind.
-pub record CanTake (b : Behaviour) (saved : List Instance) (seats : List Seat) : Type 0 where
+pub record CanTake (b : Behaviour) (saved : List Instance) (seats : List BoxAt) : Type 0 where
   pub kinds : AreOfKinds b seats
   pub same : standing (map instance_of seats) ≡ standing saved
   pub states : AreStates b saved

@@ -10,31 +10,31 @@ use Rattle.run_semantics.specs.declared.traces.Instance.{Instance}
 use Rattle.run_semantics.specs.Run.{standing}
 
 -- a box, and the id of its module
-pub record Seat : Type 0 where
+pub record BoxAt : Type 0 where
   pub id : ℕ
   pub box : Module
 
 -- what a world holds of a box
-abbrev pub instance_of : Seat → Instance
+abbrev pub instance_of : BoxAt → Instance
 instance_of s = record { id = s.id; kind = s.box.kind; state = s.box.state }
 
 -- each box is of its kind
-abbrev pub AreOfKinds : Behaviour → List Seat → Type 0
+abbrev pub AreOfKinds : Behaviour → List BoxAt → Type 0
 AreOfKinds b [] = Unit {0}
 AreOfKinds b (s ∷ ss) = IsOfKind b s.box × AreOfKinds b ss
 
 -- Each box is of its kind, and the same modules stand as before.
-pub record AreKept (b : Behaviour) (old new : List Seat) : Type 0 where
+pub record AreKept (b : Behaviour) (old new : List BoxAt) : Type 0 where
   pub kinds : AreOfKinds b new
   pub standing_is : standing (map instance_of new) ≡ standing (map instance_of old)
 
 -- what the box of the module of that id is, where it has one
-abbrev pub module_in : ℕ → List Seat → Option Module
+abbrev pub module_in : ℕ → List BoxAt → Option Module
 module_in id [] = None
 module_in id (s ∷ ss) = if s.id == id then Some s.box else module_in id ss
 
 -- it is another
-abbrev pub with_module : ℕ → Module → List Seat → List Seat
+abbrev pub with_module : ℕ → Module → List BoxAt → List BoxAt
 with_module id box [] = []
 with_module id box (s ∷ ss) = if s.id == id then record { id = s.id; box = box } ∷ ss else s ∷ with_module id box ss
 
@@ -50,5 +50,5 @@ Members X Y = (b : DynBox X Global Y) → Ghosts (Y b.vtable)
 
 module _ {X : Type 0} {Y : X → Type 0} where
   -- the box, and the id of its module
-  abbrev pub seat_of : Members X Y → Seated (DynBox X Global Y) → Seat
+  abbrev pub seat_of : Members X Y → Seated (DynBox X Global Y) → BoxAt
   seat_of members s = record { id = s.id; box = (members s.box).meaning s.box.value }

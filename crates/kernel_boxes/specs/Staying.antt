@@ -4,16 +4,16 @@ use Rattle.std.specs.List.{filter, list_any}
 use Rattle.module_api.specs.Meaning.{Module}
 use Rattle.run_semantics.specs.declared.traces.Instance.{Instance}
 use Rattle.run_semantics.specs.Run.{Part}
-use Rattle.kernel_boxes.specs.Seats.{Seat}
+use Rattle.kernel_boxes.specs.Seats.{BoxAt}
 
 -- a box is that of one of these modules: of its id, and of its kind
-abbrev pub is_of : List Instance → Seat → Bool
+abbrev pub is_of : List Instance → BoxAt → Bool
 is_of [] s = false
 is_of (i ∷ is) s = if i.id == s.id then bytes_eq i.kind s.box.kind else is_of is s
 
 -- THE BOXES THAT STAY where a run goes back to these modules: each that is of the id and of the
 -- kind of one of them
-abbrev pub staying : List Instance → List Seat → List Seat
+abbrev pub staying : List Instance → List BoxAt → List BoxAt
 staying saved = filter (is_of saved)
 
 -- whether the module of that id has one of these boxes
@@ -42,5 +42,5 @@ after_id id [] = []
 after_id id (i ∷ is) = if i.id == id then is else i ∷ is
 
 -- whether a box stays when the one of that id is looked at, with these modules left: all others do
-abbrev pub stays_at : ℕ → List Instance → Seat → Bool
+abbrev pub stays_at : ℕ → List Instance → BoxAt → Bool
 stays_at id saved s = if s.id == id then is_first id saved (Some s.box) else true

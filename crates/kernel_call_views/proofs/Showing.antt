@@ -3,10 +3,10 @@
 use Rattle.std.proofs.Common.{◌≡◌, ℕ, zero, suc, ◌==◌, nat_lt, cond, Bool, true, false, List, [], ◌∷◌, ◌++◌, Option, Some, None, Result, Ok, Err, OnOk, OnErr, refl, sym, ap, ◌∙◌, subst, append_assoc, append-nil, slice_get, eqb-true}
 use Rattle.model_questions.specs.declared.record.Record.{Record}
 use Rattle.model_questions.specs.Answers.{Answers, with_values}
-use Rattle.model_questions.specs.Records.{Place, lineage_up, path_along, place_of, record_at, with_those_around}
+use Rattle.model_questions.specs.Records.{Lineage, lineage_up, path_along, place_of, record_at, with_those_around}
 use Rattle.module_tree.proofs.Each.{each_so}
-use Rattle.kernel_call_views.specs.declared.Shown.{Shown}
-use Rattle.kernel_call_views.specs.declared.ShownModules.{ShownModules}
+use Rattle.kernel_call_views.specs.declared.CallView.{CallView}
+use Rattle.kernel_call_views.specs.declared.CallViews.{CallViews}
 use Rattle.kernel_call_views.specs.Tables.{shown_of, whole_by, is_whole, IsShown, AreShown}
 
 -- ---- modules that were created with all that are around them
@@ -49,7 +49,7 @@ lineage_more rs more (suc depth) id h =
 -- ---- what calls show
 
 -- what calls show of the module that stands there
-abbrev shown_at : Answers → Place → Shown
+abbrev shown_at : Answers → Lineage → CallView
 shown_at m p = record { path = path_along p; parameters = with_values (m.value p) (m.names p); gates = m.gates p }
 
 -- it stays
@@ -60,12 +60,12 @@ whole_lasts m rs id h more = ap (shown_at m) (sym (lineage_more rs more 32 id h)
 -- ---- tables
 
 -- more modules are created
-shown_more : (m : Answers) (rs more : List Record) (id : ℕ) (shown : Shown) → IsShown m rs id shown → IsShown m (rs ++ more) id shown
+shown_more : (m : Answers) (rs more : List Record) (id : ℕ) (shown : CallView) → IsShown m rs id shown → IsShown m (rs ++ more) id shown
 shown_more m rs more id shown h others = h (more ++ others) ∙ ap (λ all. shown_of m all id) (sym (append_assoc rs more others))
 
-pub shown_on : (m : Answers) (rs more : List Record) (t : ShownModules) → AreShown m rs t → AreShown m (rs ++ more) t
+pub shown_on : (m : Answers) (rs more : List Record) (t : CallViews) → AreShown m rs t → AreShown m (rs ++ more) t
 shown_on m rs more t h = each_so (IsShown m rs) (IsShown m (rs ++ more)) t.entries.seats (shown_more m rs more) h
 
 -- now
-pub now_shown : (m : Answers) (rs : List Record) (id : ℕ) (shown : Shown) → IsShown m rs id shown → shown ≡ shown_of m rs id
+pub now_shown : (m : Answers) (rs : List Record) (id : ℕ) (shown : CallView) → IsShown m rs id shown → shown ≡ shown_of m rs id
 now_shown m rs id shown h = h [] ∙ ap (λ all. shown_of m all id) (append-nil rs)

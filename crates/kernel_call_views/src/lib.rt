@@ -5,7 +5,7 @@ ghost use Rattle.std.specs.Prelude.{◌≡◌, ◌++◌, ◌⊎◌, [], List, tr
 ghost use Rattle.model_questions.specs.Answers as run;
 ghost use Rattle.model_questions.specs.declared.record.Record.{Record};
 ghost use Rattle.module_tree.specs.Boxes.{with_box, without_box};
-ghost use Rattle.kernel_call_views.specs.declared.ShownModules.{ShownModules};
+ghost use Rattle.kernel_call_views.specs.declared.CallViews.{CallViews};
 ghost use Rattle.kernel_call_views.specs.Tables.{entries_in, is_whole, shown_of, AreShown, IsShown};
 
 use model_questions::record::{MAX_NESTING, Record, path_of, record_at};
@@ -19,7 +19,7 @@ use std::alloc::Global;
 
 /// What calls show of a module that does not change from one call to the next.
 #[derive(Drop)]
-pub struct Shown {
+pub struct CallView {
     /// The module's full path.
     pub path: Text,
     /// All of its own parameters, in the order of their declaration.
@@ -34,10 +34,10 @@ pub fn shown_of<A: Answers>(
     model: &mut A,
     records: &[Record],
     id: u32,
-) -> Result<Shown, NoMemory>
+) -> Result<CallView, NoMemory>
     ensures { IfOk result (λ shown. shown ≡ shown_of A.answers records.now id) }
 {
-    Ok(Shown {
+    Ok(CallView {
         path: path_of(alloc, records, id)?,
         parameters: model.parameters_of(alloc, records, id)?,
         gates: model.gates_of(alloc, records, id)?,
@@ -69,7 +69,7 @@ fn is_whole(depth: u32, records: &[Record], id: u32) -> bool
 /// What calls show of a module, lent for a call.
 #[derive(Drop)]
 pub struct Lent {
-    pub shown: Shown,
+    pub shown: CallView,
     /// It stays the same when more modules are created.
     pub lasts: bool,
 }
@@ -77,17 +77,17 @@ pub struct Lent {
 /// What calls show of some modules of a run. Each entry stands at the number of its module's id, so
 /// none is searched for.
 #[derive(Drop)]
-pub struct ShownModules {
-    entries: Tree<Shown>,
+pub struct CallViews {
+    entries: Tree<CallView>,
 }
 
-impl ShownModules {
+impl CallViews {
     /// A table without entries, which takes no memory.
-    pub fn new(alloc: Global) -> ShownModules
+    pub fn new(alloc: Global) -> CallViews
         ensures none { entries_in result ≡ [] }
         ensures shown { (m : run.Answers) (records : List Record) → AreShown m records result }
     {
-        ShownModules {
+        CallViews {
             entries: Tree::new(alloc),
         }
     }
@@ -120,7 +120,7 @@ impl ShownModules {
 
     /// Puts what was taken out in again, if it lasts. Where there is no memory for its place, the
     /// table goes without it.
-    pub fn put_back(&mut self, lasts: bool, id: u32, shown: Shown)
+    pub fn put_back(&mut self, lasts: bool, id: u32, shown: CallView)
         ensures entries { let rest = without_box id (entries_in self.old) in
             (entries_in self.new ≡ rest) ⊎ (entries_in self.new ≡ with_box id shown rest) }
         ensures shown { (m : run.Answers) (records : List Record) → AreShown m records self.old
@@ -137,6 +137,6 @@ impl ShownModules {
 /// the law.
 #[tactic(auto, using(crate::proofs::Showing::shown_on))]
 pub fn tables_stay_right()
-    ensures { (m : run.Answers) (records more : List Record) (table : ShownModules)
+    ensures { (m : run.Answers) (records more : List Record) (table : CallViews)
         → AreShown m records table → AreShown m (records ++ more) table }
 {}

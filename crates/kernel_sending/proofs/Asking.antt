@@ -6,8 +6,8 @@ use Rattle.module_api.specs.declared.reply.GatePlace.{GatePlace}
 use Rattle.module_api.specs.declared.reply.OwnGate.{OwnGate}
 use Rattle.model_questions.specs.declared.answer.Question.TheVariants.{GateSize, HopBack}
 use Rattle.model_questions.specs.Answers.{Answers}
-use Rattle.run_semantics.specs.declared.outcome.Fault.TheVariants as fault
-use Rattle.run_semantics.specs.declared.outcome.Turn.{Turn}
+use Rattle.run_semantics.specs.declared.outcome.RunFault.TheVariants as fault
+use Rattle.run_semantics.specs.declared.outcome.EventFlow.{EventFlow}
 use Rattle.run_semantics.specs.declared.routes.PlacedGate.{PlacedGate}
 use Rattle.run_semantics.specs.Routes.{is_connected, is_in_gate, is_out_gate, module_at}
 use Rattle.run_semantics.specs.World.{World}
@@ -15,7 +15,7 @@ use Rattle.run_semantics.specs.Perform.{Flow, asking, broken, chain, entered, en
 use Rattle.sim_values.specs.declared.NoMemory.{NoMemory}
 
 -- what a call leads to is that, by what that is
-pub led_to : (result : Result Turn NoMemory) (v : World) (f g : Flow) → f ≡ g → IfOk result (λ turn. flow_of turn v ≡ f) → IfOk result (λ turn. flow_of turn v ≡ g)
+pub led_to : (result : Result EventFlow NoMemory) (v : World) (f g : Flow) → f ≡ g → IfOk result (λ turn. flow_of turn v ≡ f) → IfOk result (λ turn. flow_of turn v ≡ g)
 led_to (Ok turn) v f g e h = h ∙ e
 led_to (Err memory) v f g e h = tt
 
@@ -29,10 +29,10 @@ module _ (m : Answers) (id : ℕ) (message : Outgoing) where
     leaves : sent m id gate message departure w ≡ sends can v
     leaves = asked sends
 
-    pub not_sent : (result : Result Turn NoMemory) → can ≡ false → IfOk result (λ turn. flow_of turn v ≡ broken id fault.NoGate v) → IfOk result (λ turn. flow_of turn v ≡ sent m id gate message departure w)
+    pub not_sent : (result : Result EventFlow NoMemory) → can ≡ false → IfOk result (λ turn. flow_of turn v ≡ broken id fault.NoGate v) → IfOk result (λ turn. flow_of turn v ≡ sent m id gate message departure w)
     not_sent result e h = led_to result v _ _ (sym (leaves ∙ ap (λ b. sends b v) e)) h
 
-    pub sent_on : (result : Result Turn NoMemory) (u : World) (name : List ℕ) → can ≡ true → name ≡ gate.name
+    pub sent_on : (result : Result EventFlow NoMemory) (u : World) (name : List ℕ) → can ≡ true → name ≡ gate.name
         → IfOk result (λ turn. flow_of turn u ≡ chain m id (sent_over id message departure) most_hops (record { id = id; name = name; index = gate.index }) [] v)
         → IfOk result (λ turn. flow_of turn u ≡ sent m id gate message departure w)
     sent_on result u name e f h =
@@ -48,11 +48,11 @@ module _ (m : Answers) (id : ℕ) (message : Outgoing) where
     pub is_free : asking m (HopBack gate.id gate.name gate.index) (entered m id gate message flight) w ≡ enters taken v
     is_free = asked enters
 
-    pub not_free : (result : Result Turn NoMemory) → taken ≡ true → IfOk result (λ turn. flow_of turn v ≡ broken id fault.AlreadyConnected v)
+    pub not_free : (result : Result EventFlow NoMemory) → taken ≡ true → IfOk result (λ turn. flow_of turn v ≡ broken id fault.AlreadyConnected v)
         → IfOk result (λ turn. flow_of turn v ≡ asking m (HopBack gate.id gate.name gate.index) (entered m id gate message flight) w)
     not_free result e h = led_to result v _ _ (sym (is_free ∙ ap (λ b. enters b v) e)) h
 
-    pub entered_on : (result : Result Turn NoMemory) (u : World) (clock : ℕ) (arrival : Option ℕ) → taken ≡ false → clock ≡ v.clock → arrival ≡ flight_end clock flight
+    pub entered_on : (result : Result EventFlow NoMemory) (u : World) (clock : ℕ) (arrival : Option ℕ) → taken ≡ false → clock ≡ v.clock → arrival ≡ flight_end clock flight
         → IfOk result (λ turn. flow_of turn u ≡ entering m id message gate arrival v)
         → IfOk result (λ turn. flow_of turn u ≡ asking m (HopBack gate.id gate.name gate.index) (entered m id gate message flight) w)
     entered_on result u clock arrival e c f h =
@@ -69,10 +69,10 @@ module _ (m : Answers) (id : ℕ) (message : Outgoing) where
     comes : sent_direct m id place message flight w ≡ goes_in can v
     comes = ap (sent_to m id place message flight w) (sym at ∙ some) ∙ asked goes_in
 
-    pub not_entered : (result : Result Turn NoMemory) → can ≡ false → IfOk result (λ turn. flow_of turn v ≡ broken id fault.NoGate v) → IfOk result (λ turn. flow_of turn v ≡ sent_direct m id place message flight w)
+    pub not_entered : (result : Result EventFlow NoMemory) → can ≡ false → IfOk result (λ turn. flow_of turn v ≡ broken id fault.NoGate v) → IfOk result (λ turn. flow_of turn v ≡ sent_direct m id place message flight w)
     not_entered result e h = led_to result v _ _ (sym (comes ∙ ap (λ b. goes_in b v) e)) h
 
-    pub direct_on : (result : Result Turn NoMemory) (u : World) (name : List ℕ) → can ≡ true → name ≡ place.name
+    pub direct_on : (result : Result EventFlow NoMemory) (u : World) (name : List ℕ) → can ≡ true → name ≡ place.name
         → IfOk result (λ turn. flow_of turn u ≡ asking m (HopBack target name place.index) (entered m id (gate_by name) message flight) v)
         → IfOk result (λ turn. flow_of turn u ≡ sent_direct m id place message flight w)
     direct_on result u name e f h =

@@ -1,7 +1,7 @@
 -- One turn of following a chain of hops.
 use Rattle.std.proofs.Common.{◌≡◌, ℕ, zero, suc, ◌+◌, ◌-◌, ◌<◌, ◌≤◌, true, false, List, Option, Some, None, sym, ap, ◌∙◌, arith, if◌then◌else◌}
 use Rattle.model_questions.specs.Answers.{Answers}
-use Rattle.run_semantics.specs.declared.outcome.Fault.TheVariants as fault
+use Rattle.run_semantics.specs.declared.outcome.RunFault.TheVariants as fault
 use Rattle.run_semantics.specs.declared.routes.NextHop.{NextHop}
 use Rattle.run_semantics.specs.declared.routes.PassedHop.{PassedHop}
 use Rattle.run_semantics.specs.declared.routes.PlacedGate.{PlacedGate}

@@ -20,7 +20,7 @@ use model_questions::answer::{Answer, Question};
 use module_api::message::Outgoing;
 use module_api::reply::{Flight, GatePlace, OwnGate};
 use run_answers::Answers;
-use run_semantics::outcome::{Fault, Turn};
+use run_semantics::outcome::{EventFlow, RunFault};
 use run_semantics::routes::{
     NextHop, PassedHop, PlacedGate, is_connected, is_in_gate, is_out_gate, is_simple,
 };
@@ -35,7 +35,7 @@ pub enum Way {
     /// To a gate of a simple module, over these hops.
     Reached(Items<PassedHop>, PlacedGate),
     /// Nowhere.
-    Ended(Turn),
+    Ended(EventFlow),
 }
 
 /// Asks a question about modules, and notes it. Whatever goes on, goes on with this answer.
@@ -101,7 +101,7 @@ fn follow<A: Answers>(
     let limit = most_hops();
     for _done in 0..limit {
         let Some(hop) = next_hop(core, alloc, model, &place)? else {
-            let turn = core.broken(alloc, id, Fault::NotConnected)?;
+            let turn = core.broken(alloc, id, RunFault::NotConnected)?;
             return Ok(Way::Ended(turn));
         };
         let NextHop { to, channel } = hop;
@@ -114,8 +114,8 @@ fn follow<A: Answers>(
         place = to;
     }
     match next_hop(core, alloc, model, &place)? {
-        Some(_) => Ok(Way::Ended(core.broken(alloc, id, Fault::TooManyHops)?)),
-        None => Ok(Way::Ended(core.broken(alloc, id, Fault::NotConnected)?)),
+        Some(_) => Ok(Way::Ended(core.broken(alloc, id, RunFault::TooManyHops)?)),
+        None => Ok(Way::Ended(core.broken(alloc, id, RunFault::NotConnected)?)),
     }
 }
 
@@ -128,7 +128,7 @@ fn send_on<A: Answers>(
     gate: PlacedGate,
     message: &Outgoing,
     departure: &Option<SimTime>,
-) -> Result<Turn, NoMemory>
+) -> Result<EventFlow, NoMemory>
     requires { core.old.next + 1 < 2 ^ 128 }
     ensures flow { IfOk result (λ turn. flow_of turn core.new
         ≡ chain A.answers id (sent_over id message.now departure.now) most_hops gate [] core.old) }
@@ -170,7 +170,7 @@ pub fn send<A: Answers>(
     gate: &OwnGate,
     message: &Outgoing,
     departure: &Option<SimTime>,
-) -> Result<Turn, NoMemory>
+) -> Result<EventFlow, NoMemory>
     requires { core.old.next + 1 < 2 ^ 128 }
     ensures flow { IfOk result (λ turn. flow_of turn core.new
         ≡ sent A.answers id gate.now message.now departure.now core.old) }
@@ -183,7 +183,7 @@ pub fn send<A: Answers>(
         let from = PlacedGate { id, name, index };
         send_on(core, alloc, model, id, from, message, departure)
     } else {
-        core.broken(alloc, id, Fault::NoGate)
+        core.broken(alloc, id, RunFault::NoGate)
     }
 }
 
@@ -196,20 +196,20 @@ fn enter<A: Answers>(
     gate: PlacedGate,
     message: &Outgoing,
     arrival: &Option<SimTime>,
-) -> Result<Turn, NoMemory>
+) -> Result<EventFlow, NoMemory>
     requires { core.old.next + 1 < 2 ^ 128 }
     ensures flow { IfOk result (λ turn. flow_of turn core.new
         ≡ entering A.answers id message.now gate arrival.now core.old) }
     ensures grown { IsGrownFrom core.old core.new }
 {
     let Some(time) = arrival else {
-        return core.broken(alloc, id, Fault::TimeOverflow);
+        return core.broken(alloc, id, RunFault::TimeOverflow);
     };
     if !is_simple(core.records(), gate.id) {
         return send_on(core, alloc, model, id, gate, message, arrival);
     }
     core.arrive(alloc, &gate, message, *time)?;
-    Ok(Turn::GoOn)
+    Ok(EventFlow::GoOn)
 }
 
 /// Asks whether something is connected to a gate from outside. Whatever goes on, goes on with this.
@@ -238,7 +238,7 @@ fn send_free<A: Answers>(
     gate: PlacedGate,
     message: &Outgoing,
     flight: &Flight,
-) -> Result<Turn, NoMemory>
+) -> Result<EventFlow, NoMemory>
     requires { core.old.next + 1 < 2 ^ 128 }
     ensures flow { IfOk result (λ turn. flow_of turn core.new
         ≡ asking A.answers (HopBack gate.id gate.name gate.index)
@@ -247,7 +247,7 @@ fn send_free<A: Answers>(
 {
     let taken = is_taken(core, alloc, model, &gate)?;
     if taken {
-        return core.broken(alloc, id, Fault::AlreadyConnected);
+        return core.broken(alloc, id, RunFault::AlreadyConnected);
     }
     let arrival = flight_end(core.clock(), flight);
     enter(core, alloc, model, id, gate, message, &arrival)
@@ -281,14 +281,14 @@ pub fn send_direct<A: Answers>(
     place: &GatePlace,
     message: &Outgoing,
     flight: &Flight,
-) -> Result<Turn, NoMemory>
+) -> Result<EventFlow, NoMemory>
     requires { core.old.next + 1 < 2 ^ 128 }
     ensures flow { IfOk result (λ turn. flow_of turn core.new
         ≡ sent_direct A.answers id place.now message.now flight.now core.old) }
     ensures grown { IsGrownFrom core.old core.new }
 {
     let Some(target) = core.module_at(alloc, place.path.as_bytes())? else {
-        return core.broken(alloc, id, Fault::NoModule);
+        return core.broken(alloc, id, RunFault::NoModule);
     };
     let can = can_enter(core, alloc, model, target, place)?;
     if can {
@@ -301,6 +301,6 @@ pub fn send_direct<A: Answers>(
         };
         send_free(core, alloc, model, id, gate, message, flight)
     } else {
-        core.broken(alloc, id, Fault::NoGate)
+        core.broken(alloc, id, RunFault::NoGate)
     }
 }

@@ -1,7 +1,7 @@
 -- Questions about what two models have in common.
 use Rattle.std.proofs.Common.{◌≡◌, Bool, true, false, ◌&&◌, List, [], ◌∷◌, ap}
 use Rattle.model_questions.specs.declared.answer.Answer.TheVariants as answer
-use Rattle.model_questions.specs.declared.answer.Asked.{Asked}
+use Rattle.model_questions.specs.declared.answer.AskedQuestion.{AskedQuestion}
 use Rattle.model_questions.specs.declared.answer.Question.{Question}
 use Rattle.model_questions.specs.declared.answer.Question.TheVariants.{Root, Build, Param, GateSize, Hop, HopBack, BeyondLimit, InjectionBefore}
 use Rattle.model_injections.specs.declared.injection.Injection.{Injection}
@@ -29,7 +29,7 @@ both true false e = cc
 both false b e = cc
 
 -- and so to all of them
-pub all_alike : (m n : Answers) (c : Common) (rs : List Record) (asked : List Asked) → IsCommon m n c → are_about c asked ≡ true → Agrees m n rs asked
+pub all_alike : (m n : Answers) (c : Common) (rs : List Record) (asked : List AskedQuestion) → IsCommon m n c → are_about c asked ≡ true → Agrees m n rs asked
 all_alike m n c rs [] h e = tt
 all_alike m n c rs (a ∷ rest) h e =
     let parts = both (is_about c a.question) (are_about c rest) e in (alike m n c rs a.question h parts.0, all_alike m n c rs rest h parts.1)

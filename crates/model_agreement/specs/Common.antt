@@ -1,6 +1,6 @@
 -- What two models have in common.
 use Rattle.std.specs.Prelude.{◌≡◌, Bool, true, false, ◌&&◌, List, [], ◌∷◌}
-use Rattle.model_questions.specs.declared.answer.Asked.{Asked}
+use Rattle.model_questions.specs.declared.answer.AskedQuestion.{AskedQuestion}
 use Rattle.model_questions.specs.declared.answer.Question.{Question}
 use Rattle.model_questions.specs.declared.answer.Question.TheVariants.{Root, Build, Param, GateSize, Hop, HopBack, BeyondLimit, InjectionBefore}
 use Rattle.model_questions.specs.Answers.{Answers}
@@ -23,6 +23,6 @@ is_about c (BeyondLimit time) = c.limit
 is_about c (InjectionBefore due last) = c.injections
 
 -- whether these questions are
-abbrev pub are_about : Common → List Asked → Bool
+abbrev pub are_about : Common → List AskedQuestion → Bool
 are_about c [] = true
 are_about c (a ∷ rest) = is_about c a.question && are_about c rest

@@ -17,7 +17,7 @@ use model_answers::plain::PlainAnswers;
 use model_injections::injection::Due;
 use model_questions::answer::Question;
 use model_questions::record::Record;
-use run_question_log::entry::{Entry, first_injection};
+use run_question_log::entry::{LogEntry, first_injection};
 use sim_values::NoMemory;
 use std::alloc::Global;
 
@@ -74,7 +74,7 @@ fn agrees_on(
     one: &PlainAnswers<'_>,
     other: &PlainAnswers<'_>,
     records: &[Record],
-    entry: &Entry,
+    entry: &LogEntry,
 ) -> Result<bool, NoMemory>
     requires { IsCommon (answers_of one.now) (answers_of other.now) common }
     ensures { IfOk result (λ same. Decides same (Agrees (answers_of one.now) (answers_of other.now) records.now (asked_in entry.now))) }
@@ -83,22 +83,22 @@ fn agrees_on(
         return Ok(true);
     }
     match entry {
-        Entry::BeyondLimit { time, .. } => {
+        LogEntry::BeyondLimit { time, .. } => {
             let question = Question::BeyondLimit(*time);
             agrees(alloc, common, one, other, records, &question)
         }
-        Entry::FirstInjection { time, priority, .. } => {
+        LogEntry::FirstInjection { time, priority, .. } => {
             let question = first_injection(*time, *priority);
             agrees(alloc, common, one, other, records, &question)
         }
-        Entry::Both { time, priority, .. } => {
+        LogEntry::Both { time, priority, .. } => {
             let due = Due {
                 time: *time,
                 priority: *priority,
             };
             agrees_on_both(alloc, common, one, other, records, due)
         }
-        Entry::Other { question, .. } => {
+        LogEntry::Other { question, .. } => {
             agrees(alloc, common, one, other, records, question.get())
         }
     }
@@ -112,7 +112,7 @@ fn narrowed(
     one: &PlainAnswers<'_>,
     other: &PlainAnswers<'_>,
     records: &[Record],
-    entry: &Entry,
+    entry: &LogEntry,
     valid: u64,
 ) -> Result<Option<u64>, NoMemory>
     requires { IsCommon (answers_of one.now) (answers_of other.now) common }
@@ -138,7 +138,7 @@ fn agreed_up_to(
     one: &PlainAnswers<'_>,
     other: &PlainAnswers<'_>,
     records: &[Record],
-    asked: &[Entry],
+    asked: &[LogEntry],
     last: u64,
 ) -> Result<Option<u64>, NoMemory>
     ensures { IfOk result (λ valid. IsAgreement (answers_of one.now) (answers_of other.now) records.now last (noted_in asked.now) valid) }
@@ -162,7 +162,7 @@ pub fn agreement(
     one: &EvaluatedModel,
     other: &EvaluatedModel,
     records: &[Record],
-    asked: &[Entry],
+    asked: &[LogEntry],
     last: u64,
 ) -> Result<Option<u64>, NoMemory>
     ensures { IfOk result (λ valid. IsAgreement (answers_of one.now) (answers_of other.now) records.now last (noted_in asked.now) valid) }

@@ -8,7 +8,7 @@ ghost use Rattle.model_agreement.specs.Common.{is_about, are_about, IsCommon};
 use crate::same::same_injections;
 use model_answers::plain::PlainAnswers;
 use model_questions::answer::Question;
-use run_question_log::entry::Entry;
+use run_question_log::entry::LogEntry;
 
 /// What two models have in common. A run asks about it for each event, and such a question needs no
 /// look at the models.
@@ -33,14 +33,14 @@ impl Common {
     }
 
     /// Whether all questions that are noted so are about that alone.
-    pub fn is_about_all(self, entry: &Entry) -> bool
+    pub fn is_about_all(self, entry: &LogEntry) -> bool
         ensures { result ≡ are_about self (asked_in entry.now) }
     {
         match entry {
-            Entry::BeyondLimit { .. } => self.limit,
-            Entry::FirstInjection { .. } => self.injections,
-            Entry::Both { .. } => self.injections && self.limit,
-            Entry::Other { question, .. } => self.is_about(question.get()),
+            LogEntry::BeyondLimit { .. } => self.limit,
+            LogEntry::FirstInjection { .. } => self.injections,
+            LogEntry::Both { .. } => self.injections && self.limit,
+            LogEntry::Other { question, .. } => self.is_about(question.get()),
         }
     }
 }

@@ -6,11 +6,11 @@ use Rattle.param_following.specs.Edits.{answer_of}
 use Rattle.param_engine.specs.Tables.{Entries, IsKept, known}
 use Rattle.param_engine.proofs.Going.{kept_value}
 use Rattle.param_engine.proofs.Order.{closed}
-use Rattle.inside_parts.specs.declared.fault.Fault.{Fault}
-use Rattle.inside_keys.specs.Asked.{Asked}
+use Rattle.inside_parts.specs.declared.fault.InsideFault.{InsideFault}
+use Rattle.inside_keys.specs.Asked.{KeyAsking}
 use Rattle.inside_keys.specs.Blamed.{blamed, placed, placed_by}
 use Rattle.inside_keys.specs.Keys.{key, same_key}
-use Rattle.inside_keys.specs.Settings.{Setting, Standing}
+use Rattle.inside_keys.specs.Settings.{ModuleRules, Whereabouts}
 use Rattle.inside_keys.specs.Values.{asking_of, rules_of, value_at}
 use Rattle.inside_keys.specs.declared.found.Found.{Found}
 use Rattle.inside_keys.specs.declared.key.Key.{Key}
@@ -22,25 +22,25 @@ use Rattle.inside_run.specs.Same.{equal}
 use Rattle.model_answers.specs.Insides.{inside_found}
 use Rattle.model_answers.specs.Keyed.{module_at}
 
-pub found_at : (s : Setting) (path : List ℕ) (site : Module) (around : Option Module) (stands : Standing) → site ≡ module_at path → stands ≡ s.stands site → around ≡ stands.around
+pub found_at : (s : ModuleRules) (path : List ℕ) (site : Module) (around : Option Module) (stands : Whereabouts) → site ≡ module_at path → stands ≡ s.stands site → around ≡ stands.around
     → placed (value_at s) site around (asking_of s (key site what.Inside)) ≡ inside_found s path
 found_at s path site around stands e f g =
-    ap (λ (a : Option Module). placed (value_at s) site a (asking_of s (key site what.Inside))) (g ∙ ap (λ (t : Standing). t.around) f)
+    ap (λ (a : Option Module). placed (value_at s) site a (asking_of s (key site what.Inside))) (g ∙ ap (λ (t : Whereabouts). t.around) f)
     ∙ ap (λ (m : Module). placed (value_at s) m (s.stands m).around (asking_of s (key m what.Inside))) e
 
-abbrev is_ok : Option (Result Found Fault) → Bool
+abbrev is_ok : Option (Result Found InsideFault) → Bool
 is_ok (Some (Ok v)) = true
 is_ok (Some (Err e)) = false
 is_ok None = false
 
-abbrev value_or : Found → Option (Result Found Fault) → Found
+abbrev value_or : Found → Option (Result Found InsideFault) → Found
 value_or d (Some (Ok v)) = v
 value_or d (Some (Err e)) = d
 value_or d None = d
 
 -- with the values that are known an inside comes to what it comes to with all values
-module _ (s : Setting) (m : Module) (around : Option Module) (knows : Key → Option Found) (right : (j : Key) (u : Found) → knows j ≡ Some u → value_at s j ≡ Ok u) where
-  pub placed_of : (t : Asked) (f : Found) → outcome (λ j. answer_of (knows j)) t ≡ Some (Ok f) → placed (value_at s) m around t ≡ Ok f
+module _ (s : ModuleRules) (m : Module) (around : Option Module) (knows : Key → Option Found) (right : (j : Key) (u : Found) → knows j ≡ Some u → value_at s j ≡ Ok u) where
+  pub placed_of : (t : KeyAsking) (f : Found) → outcome (λ j. answer_of (knows j)) t ≡ Some (Ok f) → placed (value_at s) m around t ≡ Ok f
   placed_of (Done (Ok g)) f h = ap Ok (ap (value_or f) h)
   placed_of (Done (Err e)) f h = absurd (true≢false (sym (ap is_ok h)))
   placed_of (Ask k rest) f h = go (λ u. placed_of (rest u) f) (knows k) refl h
@@ -51,7 +51,7 @@ module _ (s : Setting) (m : Module) (around : Option Module) (knows : Key → Op
       go later (Some u) e h = ap (λ r. placed_by (blamed m around k) r (λ v. placed (value_at s) m around (rest v))) (right k u e) ∙ later u h
 
 -- an inside that is kept is what comes of it
-pub kept_placed : (s : Setting) (es : Entries Key Found) (path : List ℕ) (k : Key) (f : Found) → IsKept (rules_of s) es → length es < 2 ^ 63
+pub kept_placed : (s : ModuleRules) (es : Entries Key Found) (path : List ℕ) (k : Key) (f : Found) → IsKept (rules_of s) es → length es < 2 ^ 63
     → k ≡ key (module_at path) what.Inside → known equal es k ≡ Some f → inside_found s path ≡ Ok f
 kept_placed s es path k f kept small same found =
     let there = ap (known same_key es) (sym same) ∙ known_alike es k ∙ found in

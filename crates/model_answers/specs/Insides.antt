@@ -7,7 +7,7 @@ use Rattle.ned_trees.specs.declared.declarations.Submodule.{Submodule}
 use Rattle.ned_trees.specs.declared.declarations.TypeDeclaration.{TypeDeclaration}
 use Rattle.ned_trees.specs.declared.declarations.TypeKind.{TypeKind}
 use Rattle.ned_trees.specs.declared.declarations.TypeKind.TheVariants.{Simple, Module, Network, Channel, ModuleInterface, ChannelInterface}
-use Rattle.inside_parts.specs.declared.fault.Fault.{Fault}
+use Rattle.inside_parts.specs.declared.fault.InsideFault.{InsideFault}
 use Rattle.inside_parts.specs.declared.gates.TypeGate.{TypeGate}
 use Rattle.inside_parts.specs.declared.parts.Part.{Part}
 use Rattle.inside_parts.specs.Gates as type_gates
@@ -22,7 +22,7 @@ use Rattle.inside_keys.specs.Blamed.{placed}
 use Rattle.inside_keys.specs.Inside.{submodule_names}
 use Rattle.inside_keys.specs.Keys.{child, key}
 use Rattle.inside_keys.specs.Unconnected.{unconnected}
-use Rattle.inside_keys.specs.Settings.{Setting, Standing, declarer}
+use Rattle.inside_keys.specs.Settings.{ModuleRules, Whereabouts, declarer}
 use Rattle.inside_keys.specs.Settings as settings
 use Rattle.inside_keys.specs.Values.{asking_of, value_at}
 use Rattle.model_inside.specs.Built.{built_parts, name_of_part}
@@ -46,21 +46,21 @@ child_path path lines p = (child (module_at path) (name_of_part lines p) p.index
 
 -- a fault where a part has a gate that has to be connected and isn't, with the module's own path as
 -- of all its connections, or else the submodules
-abbrev pub connected_answer : Setting → List ℕ → TypeDeclaration → Inside → Option ℕ → Answer
+abbrev pub connected_answer : ModuleRules → List ℕ → TypeDeclaration → Inside → Option ℕ → Answer
 connected_answer s path t i None = answer.Inside (built_parts s.types t.submodules i.parts.parts)
 connected_answer s path t i (Some n) = answer.Fault path Unconnected
 
-abbrev pub built_answer : Setting → List ℕ → TypeDeclaration → Result Found (List ℕ × Fault) → Answer
+abbrev pub built_answer : ModuleRules → List ℕ → TypeDeclaration → Result Found (List ℕ × InsideFault) → Answer
 built_answer s path t (Ok (found.Inside i)) = connected_answer s path t i (unconnected t (settings.type_gates s) i)
 built_answer s path t (Ok (found.Value v)) = answer.Absent
 built_answer s path t (Ok (found.Carrier c)) = answer.Absent
 built_answer s path t (Err f) = answer.Fault f.0 (told_as f.1)
 
 -- the inside of the module of that path, or its first fault with the path that it is told with
-abbrev pub inside_found : Setting → List ℕ → Result Found (List ℕ × Fault)
+abbrev pub inside_found : ModuleRules → List ℕ → Result Found (List ℕ × InsideFault)
 inside_found s path = placed (value_at s) (module_at path) (s.stands (module_at path)).around (asking_of s (key (module_at path) what.Inside))
 
-abbrev pub inside_by : Setting → List ℕ → TypeDeclaration → TypeKind → Answer
+abbrev pub inside_by : ModuleRules → List ℕ → TypeDeclaration → TypeKind → Answer
 inside_by s path t Network = built_answer s path t (inside_found s path)
 inside_by s path t Module = built_answer s path t (inside_found s path)
 inside_by s path t Simple = answer.Absent
@@ -71,7 +71,7 @@ inside_by s path t ChannelInterface = answer.Absent
 -- WHAT IS INSIDE of the compound module of that path and type: its submodules in the order in which
 -- they are created, or its first fault; after all else comes the first of its parts with a gate
 -- that has to be connected and isn't
-abbrev pub inside_answer : Setting → List ℕ → Option TypeDeclaration → Answer
+abbrev pub inside_answer : ModuleRules → List ℕ → Option TypeDeclaration → Answer
 inside_answer s path t = typed t (λ u. inside_by s path u u.kind)
 
 -- ---- a module among the parts of the module around it
@@ -82,58 +82,58 @@ pub record Seat : Type 0 where
   pub inside : Inside
   pub part : ℕ
 
-abbrev pub inside_in : Result Found Fault → Option Inside
+abbrev pub inside_in : Result Found InsideFault → Option Inside
 inside_in (Ok (found.Inside i)) = Some i
 inside_in (Ok (found.Value v)) = None
 inside_in (Ok (found.Carrier c)) = None
 inside_in (Err f) = None
 
-abbrev pub maybe_inside : Option (Result Found Fault) → Option Inside
+abbrev pub maybe_inside : Option (Result Found InsideFault) → Option Inside
 maybe_inside None = None
 maybe_inside (Some found) = inside_in found
 
 -- the inside of the module of that path, where it has one
-abbrev pub inside_of : Setting → List ℕ → Option Inside
+abbrev pub inside_of : ModuleRules → List ℕ → Option Inside
 inside_of s path = inside_in (value_of s path what.Inside)
 
 abbrev pub seat_at : TypeDeclaration → Inside → ℕ → Seat
 seat_at t i part = record { of_type = t; inside = i; part = part }
 
-abbrev pub seat_among : Standing → TypeDeclaration → Option Inside → Option Seat
+abbrev pub seat_among : Whereabouts → TypeDeclaration → Option Inside → Option Seat
 seat_among stands t None = None
 seat_among stands t (Some i) = option_map (seat_at t i) (result_ok (part_named (submodule_names t) i.parts stands.name stands.index))
 
-abbrev pub seat_typed : Standing → Option TypeDeclaration → Option Inside → Option Seat
+abbrev pub seat_typed : Whereabouts → Option TypeDeclaration → Option Inside → Option Seat
 seat_typed stands None i = None
 seat_typed stands (Some t) i = seat_among stands t i
 
-abbrev pub seat_by : Setting → Standing → Option key_module.Module → Option Seat
+abbrev pub seat_by : ModuleRules → Whereabouts → Option key_module.Module → Option Seat
 seat_by s stands None = None
 seat_by s stands (Some around) = seat_typed stands (type_of s around.path) (inside_of s around.path)
 
 -- the part that the module of that path is, in the inside of the module around it; the network is
 -- none
-abbrev pub seat_of : Setting → List ℕ → Option Seat
+abbrev pub seat_of : ModuleRules → List ℕ → Option Seat
 seat_of s path = seat_by s (s.stands (module_at path)) (declarer s (module_at path))
 
 -- ---- gates
 
-abbrev pub size_in : Result Found Fault → Option ℕ
+abbrev pub size_in : Result Found InsideFault → Option ℕ
 size_in (Ok (found.Value v)) = result_ok (sized_by v)
 size_in (Ok (found.Carrier c)) = None
 size_in (Ok (found.Inside i)) = None
 size_in (Err f) = None
 
-abbrev pub maybe_size : Option (Result Found Fault) → Option ℕ
+abbrev pub maybe_size : Option (Result Found InsideFault) → Option ℕ
 maybe_size None = None
 maybe_size (Some found) = size_in found
 
 -- the declared size of a gate vector
-abbrev pub declared_size : Setting → List ℕ → List ℕ → Option ℕ
+abbrev pub declared_size : ModuleRules → List ℕ → List ℕ → Option ℕ
 declared_size s path g = size_in (value_of s path (what.Declared g))
 
 -- the finished size of a gate vector of a module that stands there
-abbrev pub seated_size : Setting → Option Seat → List ℕ → Option ℕ
+abbrev pub seated_size : ModuleRules → Option Seat → List ℕ → Option ℕ
 seated_size s None g = None
 seated_size s (Some t) g = finished_size (settings.type_gates s) t.inside.parts t.inside.wiring t.part g
 
@@ -154,37 +154,37 @@ abbrev pub gates_of_type : TypeDeclaration → List TypeGate
 gates_of_type t = (type_gates.gates_of t.gates).gates
 
 -- nothing is connected around the network, whose sizes are the declared ones
-abbrev pub gates_in : Setting → List ℕ → Option key_module.Module → List TypeGate → List Gate
+abbrev pub gates_in : ModuleRules → List ℕ → Option key_module.Module → List TypeGate → List Gate
 gates_in s path None gs = sized_gates (declared_size s path) gs
 gates_in s path (Some around) gs = sized_gates (seated_size s (seat_of s path)) gs
 
 -- THE GATES of the module of that path and type, in the order of their declaration, each with its
 -- direction and size, which is 1 of a single gate. One that has no size is left out.
-abbrev pub gates_answer : Setting → List ℕ → Option TypeDeclaration → List Gate
+abbrev pub gates_answer : ModuleRules → List ℕ → Option TypeDeclaration → List Gate
 gates_answer s path None = []
 gates_answer s path (Some t) = gates_in s path (declarer s (module_at path)) (gates_of_type t)
 
 -- ---- hops
 
 -- outwards by the links of the module around
-abbrev pub next_outwards : Setting → Way → List ℕ → ℕ → Option Seat → Option NextGate
+abbrev pub next_outwards : ModuleRules → Way → List ℕ → ℕ → Option Seat → Option NextGate
 next_outwards s way g index None = None
 next_outwards s way g index (Some t) = next_in (settings.type_gates s) t.of_type.submodules t.inside.parts t.inside.wiring (FromOutside t.part) way g index
 
 -- inwards by the links of its own inside
-abbrev pub next_inwards : Setting → TypeDeclaration → Way → List ℕ → ℕ → Option Inside → Option NextGate
+abbrev pub next_inwards : ModuleRules → TypeDeclaration → Way → List ℕ → ℕ → Option Inside → Option NextGate
 next_inwards s t way g index None = None
 next_inwards s t way g index (Some i) = next_in (settings.type_gates s) t.submodules i.parts i.wiring FromInside way g index
 
-abbrev pub next_by : Setting → List ℕ → TypeDeclaration → Way → Half → List ℕ → ℕ → Option NextGate
+abbrev pub next_by : ModuleRules → List ℕ → TypeDeclaration → Way → Half → List ℕ → ℕ → Option NextGate
 next_by s path t way half g index =
     if is_outwards way half then next_outwards s way g index (seat_of s path) else next_inwards s t way g index (inside_of s path)
 
-abbrev pub hop_by : Setting → List ℕ → TypeDeclaration → Way → ℕ → Option (List ℕ × Half) → Answer
+abbrev pub hop_by : ModuleRules → List ℕ → TypeDeclaration → Way → ℕ → Option (List ℕ × Half) → Answer
 hop_by s path t way index None = answer.Absent
 hop_by s path t way index (Some h) = answer.Next (next_by s path t way h.1 h.0 index)
 
 -- THE NEXT GATE after a gate of the module of that path and type, or the one from which messages
 -- come to it: none where it is not connected
-abbrev pub hop_answer : Setting → Way → List ℕ → Option TypeDeclaration → List ℕ → ℕ → Answer
+abbrev pub hop_answer : ModuleRules → Way → List ℕ → Option TypeDeclaration → List ℕ → ℕ → Answer
 hop_answer s way path t name index = typed t (λ u. hop_by s path u way index (half_named name (gates_of_type u)))

@@ -6,7 +6,7 @@ use Rattle.ned_trees.specs.declared.declarations.SectionLine.{SectionLine}
 use Rattle.ned_trees.specs.declared.declarations.SectionLine.TheVariants as line
 use Rattle.ned_trees.specs.declared.declarations.TypeDeclaration.{TypeDeclaration}
 use Rattle.ned_types.specs.Flat.{or_else}
-use Rattle.inside_parts.specs.declared.fault.Fault.{Fault}
+use Rattle.inside_parts.specs.declared.fault.InsideFault.{InsideFault}
 use Rattle.inside_parts.specs.declared.gates.TypeGate.{TypeGate}
 use Rattle.inside_parts.specs.declared.gates.TypeGates.{TypeGates}
 use Rattle.inside_parts.specs.Gates as type_gates
@@ -18,7 +18,7 @@ use Rattle.inside_keys.specs.declared.key.What.TheVariants as what
 use Rattle.inside_keys.specs.Asked.{numbered_by}
 use Rattle.inside_keys.specs.Given.{misplaced}
 use Rattle.inside_keys.specs.Keys.{key}
-use Rattle.inside_keys.specs.Settings.{Setting}
+use Rattle.inside_keys.specs.Settings.{ModuleRules}
 use Rattle.inside_keys.specs.Values.{value_at}
 use Rattle.module_api.specs.declared.call.Parameter.{Parameter}
 use Rattle.model_questions.specs.declared.answer.Answer.{Answer}
@@ -26,7 +26,7 @@ use Rattle.model_questions.specs.declared.answer.Answer.TheVariants as answer
 use Rattle.model_questions.specs.declared.answer.ModelFault.{ModelFault}
 use Rattle.model_questions.specs.declared.record.Record.{Record}
 use Rattle.model_questions.specs.Answers.{is_declared, with_values}
-use Rattle.model_questions.specs.Records.{Place, path_along, record_there}
+use Rattle.model_questions.specs.Records.{Lineage, path_along, record_there}
 use Rattle.model_inside.specs.Told.{told_as}
 
 -- the module of that path: none was created while the model ran
@@ -34,18 +34,18 @@ abbrev pub module_at : List ℕ → Module
 module_at path = record { created = 0; path = path }
 
 -- what something of the module of that path has as its value
-abbrev pub value_of : Setting → List ℕ → What → Result Found Fault
+abbrev pub value_of : ModuleRules → List ℕ → What → Result Found InsideFault
 value_of s path w = value_at s (key (module_at path) w)
 
 -- ---- types
 
-abbrev pub number_in : Result Found Fault → Option ℕ
+abbrev pub number_in : Result Found InsideFault → Option ℕ
 number_in (Ok (found.Value v)) = result_ok (numbered_by v)
 number_in (Ok (found.Carrier c)) = None
 number_in (Ok (found.Inside i)) = None
 number_in (Err f) = None
 
-abbrev pub maybe_number : Option (Result Found Fault) → Option ℕ
+abbrev pub maybe_number : Option (Result Found InsideFault) → Option ℕ
 maybe_number None = None
 maybe_number (Some found) = number_in found
 
@@ -54,11 +54,11 @@ type_at_number types None = None
 type_at_number types (Some n) = slice_get types n
 
 -- the type of the module of that path, none where it has none
-abbrev pub type_of : Setting → List ℕ → Option TypeDeclaration
+abbrev pub type_of : ModuleRules → List ℕ → Option TypeDeclaration
 type_of s path = type_at_number s.types (number_in (value_of s path what.Type))
 
 -- THE TYPE of the module of a place, where there is such a module
-abbrev pub type_in : Setting → Place → Option TypeDeclaration
+abbrev pub type_in : ModuleRules → Lineage → Option TypeDeclaration
 type_in s p = option_and_then (λ (r : Record). type_of s (path_along p)) (record_there p)
 
 -- the lines of a type, where there is one
@@ -82,41 +82,41 @@ typed (Some t) answered = answered t
 
 -- ---- parameters
 
-abbrev pub value_answer : List ℕ → Result Found Fault → Answer
+abbrev pub value_answer : List ℕ → Result Found InsideFault → Answer
 value_answer path (Ok (found.Value v)) = answer.Value v
 value_answer path (Err f) = answer.Fault path (told_as f)
 value_answer path (Ok _) = answer.Absent
 
 -- the value of a parameter of the module of that path, or its fault, which has the module's path
-abbrev pub value_in : Setting → List ℕ → List ℕ → Answer
+abbrev pub value_in : ModuleRules → List ℕ → List ℕ → Answer
 value_in s path name = value_answer path (value_of s path (what.Param name))
 
 -- THE VALUE OF A PARAMETER of the module of that path and type
-abbrev pub param_answer : Setting → List ℕ → Option TypeDeclaration → List ℕ → Answer
+abbrev pub param_answer : ModuleRules → List ℕ → Option TypeDeclaration → List ℕ → Answer
 param_answer s path None name = answer.Absent
 param_answer s path (Some t) name = value_in s path name
 
 -- the same, where its type declares one of that name
-abbrev pub declared_answer : Setting → List ℕ → Option TypeDeclaration → List ℕ → Answer
+abbrev pub declared_answer : ModuleRules → List ℕ → Option TypeDeclaration → List ℕ → Answer
 declared_answer s path t name = if is_declared name (names_in (lines_of t)) then param_answer s path t name else answer.Absent
 
 -- the parameters of the module of that path and type that have values, in the order of their
 -- declaration
-abbrev pub parameters_by : Setting → List ℕ → Option TypeDeclaration → List Parameter
+abbrev pub parameters_by : ModuleRules → List ℕ → Option TypeDeclaration → List Parameter
 parameters_by s path t = with_values (param_answer s path t) (names_in (lines_of t))
 
 -- ---- the network
 
-abbrev pub fault_in : Result Found Fault → Option ModelFault
+abbrev pub fault_in : Result Found InsideFault → Option ModelFault
 fault_in (Ok v) = None
 fault_in (Err f) = Some (told_as f)
 
-abbrev pub maybe_fault : Option (Result Found Fault) → Option ModelFault
+abbrev pub maybe_fault : Option (Result Found InsideFault) → Option ModelFault
 maybe_fault None = None
 maybe_fault (Some found) = fault_in found
 
 -- the fault of the parameter that a line declares of the module of that path
-abbrev pub fault_of_line : Setting → List ℕ → SectionLine → Option ModelFault
+abbrev pub fault_of_line : ModuleRules → List ℕ → SectionLine → Option ModelFault
 fault_of_line s path (line.Declaration d) = fault_in (value_of s path (what.Param d.name))
 fault_of_line s path (line.Assignment a) = None
 fault_of_line s path (line.Statistic t) = None
@@ -124,31 +124,31 @@ fault_of_line s path (line.Class name) = None
 fault_of_line s path line.Ignored = None
 
 -- the first fault of the parameters that these lines declare
-abbrev pub fault_of_lines : Setting → List ℕ → List SectionLine → Option ModelFault
+abbrev pub fault_of_lines : ModuleRules → List ℕ → List SectionLine → Option ModelFault
 fault_of_lines s path [] = None
 fault_of_lines s path (l ∷ ls) = or_else (fault_of_line s path l) (fault_of_lines s path ls)
 
 -- the fault of the declared size of a gate
-abbrev pub fault_of_size : Setting → List ℕ → TypeGate → Option ModelFault
+abbrev pub fault_of_size : ModuleRules → List ℕ → TypeGate → Option ModelFault
 fault_of_size s path g = if g.kind.is_vector then fault_in (value_of s path (what.Declared g.name)) else None
 
 -- the first fault of the declared sizes of these gates
-abbrev pub fault_of_sizes : Setting → List ℕ → List TypeGate → Option ModelFault
+abbrev pub fault_of_sizes : ModuleRules → List ℕ → List TypeGate → Option ModelFault
 fault_of_sizes s path [] = None
 fault_of_sizes s path (g ∷ gs) = or_else (fault_of_size s path g) (fault_of_sizes s path gs)
 
 -- the fault of a size that is given to what is no gate vector
-abbrev pub fault_of_misplaced : Setting → List ℕ → Option (List ℕ) → Option ModelFault
+abbrev pub fault_of_misplaced : ModuleRules → List ℕ → Option (List ℕ) → Option ModelFault
 fault_of_misplaced s path None = None
 fault_of_misplaced s path (Some name) = fault_in (value_of s path (what.Declared name))
 
 -- the first fault of the sizes that a type gives its gates
-abbrev pub fault_of_gates : Setting → List ℕ → TypeDeclaration → TypeGates → Option ModelFault
+abbrev pub fault_of_gates : ModuleRules → List ℕ → TypeDeclaration → TypeGates → Option ModelFault
 fault_of_gates s path t gates = or_else (fault_of_misplaced s path (misplaced gates t.gates)) (fault_of_sizes s path gates.gates)
 
 -- the first fault of the network of that type: of its parameters, and then of the sizes of its
 -- gates
-abbrev pub fault_of_network : Setting → TypeDeclaration → Option ModelFault
+abbrev pub fault_of_network : ModuleRules → TypeDeclaration → Option ModelFault
 fault_of_network s t = or_else (fault_of_lines s t.name t.lines) (fault_of_gates s t.name t (type_gates.gates_of t.gates))
 
 abbrev pub root_without : TypeDeclaration → Option ModelFault → Answer
@@ -156,6 +156,6 @@ root_without t (Some fault) = answer.Fault t.name fault
 root_without t None = answer.Root t.name
 
 -- WHICH NETWORK IS RUN, or its first fault: its path is its name
-abbrev pub root_answer : Setting → Option TypeDeclaration → Answer
+abbrev pub root_answer : ModuleRules → Option TypeDeclaration → Answer
 root_answer s None = answer.Absent
 root_answer s (Some t) = root_without t (fault_of_network s t)

@@ -3,16 +3,16 @@ use Rattle.std.specs.Prelude.{◌≡◌, ℕ, List, Option, Some, None, Result, 
 use Rattle.std.specs.Borrow.{Bor}
 use Rattle.ned_trees.specs.declared.declarations.TypeDeclaration.{TypeDeclaration}
 use Rattle.param_engine.specs.Tables.{Entries, IsKept, said, value_at}
-use Rattle.inside_parts.specs.declared.fault.Fault.{Fault}
+use Rattle.inside_parts.specs.declared.fault.InsideFault.{InsideFault}
 use Rattle.inside_keys.specs.declared.found.Found.{Found}
 use Rattle.inside_keys.specs.declared.key.Key.{Key}
-use Rattle.inside_keys.specs.Settings.{Setting}
+use Rattle.inside_keys.specs.Settings.{ModuleRules}
 use Rattle.inside_keys.specs.Values.{rules_of}
 use Rattle.model_settings.specs.Standings.{setting_of}
 use Rattle.inside_run.specs.Scenes.{standing_by}
 use Rattle.model_answers.specs.Insides.{Seat, maybe_inside, seat_at, seat_typed}
 use Rattle.model_answers.specs.declared.keyed.Typed.{Typed}
-use Rattle.model_answers.specs.declared.seats.Seat as code_seat
+use Rattle.model_answers.specs.declared.seats.PartAt as code_seat
 use Rattle.model_answers.specs.declared.seats.Sought.{Sought}
 use Rattle.model_questions.specs.declared.record.Record.{Record}
 use Rattle.model_questions.specs.Records.{path_of, place_of, record_there}
@@ -21,7 +21,7 @@ use Rattle.model_answers.specs.declared.reading.Spot.{Spot}
 use Rattle.model_answers.specs.declared.reading.Spot.TheVariants.{Kept, Own}
 
 -- what the values of the model rest on
-abbrev pub settings_of : Sources → Setting
+abbrev pub settings_of : Sources → ModuleRules
 settings_of s = setting_of s.setting.now
 
 -- what is kept are values of the model
@@ -34,7 +34,7 @@ standing_at s own (Kept place) = value_at s.kept.now.entries place
 standing_at s own (Own place) = value_at own place
 
 -- what an answer says
-abbrev pub spotted : Sources → Entries Key Found → Result Spot Fault → Option (Result Found Fault)
+abbrev pub spotted : Sources → Entries Key Found → Result Spot InsideFault → Option (Result Found InsideFault)
 spotted s own (Ok spot) = said (standing_at s own spot)
 spotted s own (Err f) = Some (Err f)
 
@@ -44,21 +44,21 @@ type_by None = None
 type_by (Some t) = Some t.declared.now
 
 -- it is the type of that number
-abbrev pub IsNumbered : Setting → Typed → Type 0
+abbrev pub IsNumbered : ModuleRules → Typed → Type 0
 IsNumbered s t = slice_get s.types t.number ≡ Some t.declared.now
 
 -- what was found, after the reference
-abbrev pub result_copied : Result (Bor Found) Fault → Result Found Fault
+abbrev pub result_copied : Result (Bor Found) InsideFault → Result Found InsideFault
 result_copied (Ok r) = Ok r.now
 result_copied (Err f) = Err f
 
-abbrev pub maybe_copied : Option (Result (Bor Found) Fault) → Option (Result Found Fault)
+abbrev pub maybe_copied : Option (Result (Bor Found) InsideFault) → Option (Result Found InsideFault)
 maybe_copied None = None
 maybe_copied (Some r) = Some (result_copied r)
 
 -- ---- a module among the parts of the module around it, as the code has it
 
-abbrev pub maybe_seat : Option code_seat.Seat → Option Seat
+abbrev pub maybe_seat : Option code_seat.PartAt → Option Seat
 maybe_seat None = None
 maybe_seat (Some t) = Some (seat_at t.of_type.now t.inside.now t.part)
 

@@ -18,7 +18,7 @@ use crate::keyed::{param_answer, parameters_by, root_answer, type_of, value_answ
 use crate::named::gate_named;
 use crate::reading::{Sources, own_table};
 use model_data::model::Model;
-use model_injections::injection::{Due, Turn, injection_before};
+use model_injections::injection::{Due, InjectionTurn, injection_before};
 use model_inside::hops::Way;
 use model_questions::answer::{Answer, Question, is_beyond};
 use model_questions::record::{Record, path_of, record_at};
@@ -93,7 +93,7 @@ fn injection_answer(
     alloc: Global,
     model: &Model,
     due: Option<Due>,
-    last: Option<Turn>,
+    last: Option<InjectionTurn>,
 ) -> Result<Answer, NoMemory>
     ensures { IfOk result (λ found. found
         ≡ answer.Injection (injection_before due last model.now.injections)) }

@@ -14,12 +14,12 @@ ghost use Rattle.model_answers.specs.Reading.{maybe_copied, maybe_seat, settings
 
 use crate::keyed::{Typed, type_of};
 use crate::reading::{Sources, own_table, said, value_of};
-use crate::seats::{Seat, declarer_of, inside_in, seat_of, seek, stands_of};
+use crate::seats::{PartAt, declarer_of, inside_in, seat_of, seek, stands_of};
 use inside_keys::found::{Found, Inside};
 use inside_keys::key::{Key, What};
-use inside_parts::fault::{Fault, Stop};
+use inside_parts::fault::{InsideError, InsideFault};
 use inside_parts::gates::{TypeGate, TypeGates};
-use inside_run::scene::Scene;
+use inside_run::scene::ModuleSource;
 use inside_walk::submodules::size;
 use model_inside::hops::{Seen, Way, half_named, is_outwards, next_in};
 use model_inside::sized::{direction_of, finished_size};
@@ -42,13 +42,13 @@ fn told_size(value: &Value) -> Result<Option<u32>, NoMemory>
 {
     match size(value) {
         Ok(size) => Ok(Some(size)),
-        Err(Stop::Fault(_)) => Ok(None),
-        Err(Stop::Memory(error)) => Err(error),
+        Err(InsideError::Fault(_)) => Ok(None),
+        Err(InsideError::Memory(error)) => Err(error),
     }
 }
 
 /// The size that was found, if one was.
-fn size_in(found: Option<Result<&Found, Fault>>) -> Result<Option<u32>, NoMemory>
+fn size_in(found: Option<Result<&Found, InsideFault>>) -> Result<Option<u32>, NoMemory>
     ensures { IfOk result (λ size. size ≡ insides.maybe_size (maybe_copied found.entry)) }
 {
     match found {
@@ -79,7 +79,7 @@ fn declared_size(
 /// The finished size of a gate vector of a module that stands there.
 fn seated_size(
     from: Sources<'_>,
-    seat: Option<Seat<'_>>,
+    seat: Option<PartAt<'_>>,
     name: &Text,
 ) -> Result<Option<u32>, NoMemory>
     ensures { IfOk result (λ size. size ≡ insides.seated_size (settings_of from.entry) (maybe_seat seat.entry) name.now) }
@@ -123,7 +123,7 @@ fn push_seated(
     gates: &mut Items<Gate>,
     alloc: Global,
     from: Sources<'_>,
-    seat: Option<Seat<'_>>,
+    seat: Option<PartAt<'_>>,
     gate: &TypeGate,
 ) -> Result<(), NoMemory>
     ensures { OnOk result (gates.new ≡ gates.old ++ insides.with_size gate.now
@@ -141,7 +141,7 @@ fn push_all_seated(
     gates: &mut Items<Gate>,
     alloc: Global,
     from: Sources<'_>,
-    seat: Option<Seat<'_>>,
+    seat: Option<PartAt<'_>>,
     of_type: &[TypeGate],
 ) -> Result<(), NoMemory>
     ensures { OnOk result (gates.new ≡ gates.old ++ insides.sized_gates
@@ -272,7 +272,7 @@ pub fn gates_answer(alloc: Global, from: Sources<'_>, path: &[u8]) -> Result<Ite
 fn next_outwards(
     alloc: Global,
     from: Sources<'_>,
-    seat: Option<Seat<'_>>,
+    seat: Option<PartAt<'_>>,
     way: Way,
     gate: &Text,
     index: u32,

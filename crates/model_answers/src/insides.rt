@@ -15,10 +15,10 @@ use crate::reading::{Sources, module_of, own_table};
 use inside_keys::found::{Found, Inside};
 use inside_keys::key::{Key, Module, What};
 use inside_keys::unconnected::unconnected;
-use inside_parts::fault::Fault;
+use inside_parts::fault::InsideFault;
 use inside_parts::parts::Part;
 use inside_run::placed::placed;
-use inside_run::scene::Scene;
+use inside_run::scene::ModuleSource;
 use model_inside::built::{built_parts, name_of_part};
 use model_inside::told::told_as;
 use model_questions::answer::{Answer, ModelFault};
@@ -73,7 +73,7 @@ fn built_answer(
     from: Sources<'_>,
     path: &[u8],
     declared: &TypeDeclaration,
-    found: Result<Found, (Text, Fault)>,
+    found: Result<Found, (Text, InsideFault)>,
 ) -> Result<Answer, NoMemory>
     ensures { IfOk result (λ answer. answer ≡ insides.built_answer (settings_of from.entry) path.now declared.now found) }
 {
@@ -91,7 +91,7 @@ fn inside_found(
     from: Sources<'_>,
     own: &mut Table<Key, Found>,
     path: &[u8],
-) -> Result<Result<Found, (Text, Fault)>, NoMemory>
+) -> Result<Result<Found, (Text, InsideFault)>, NoMemory>
     requires { IsKept (rules_of (settings_of from)) own.old.entries }
     ensures { IfOk result (λ found. found ≡ insides.inside_found (settings_of from.entry) path.now) }
 {

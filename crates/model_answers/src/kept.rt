@@ -11,7 +11,7 @@ use crate::reading::module_of;
 use inside_keys::found::Found;
 use inside_keys::key::{Key, What};
 use inside_parts::parts::Part;
-use inside_run::scene::Scene;
+use inside_run::scene::ModuleSource;
 use inside_run::values::{empty_table, value_of};
 use model_settings::setting::ModelSetting;
 use ned_trees::declarations::{TypeDeclaration, TypeKind};

@@ -16,9 +16,9 @@ use crate::reading::{Sources, own_table, said, value_of};
 use inside_keys::found::Found;
 use inside_keys::key::{Key, What};
 use inside_keys::sizes::misplaced;
-use inside_parts::fault::{Fault, Stop};
+use inside_parts::fault::{InsideError, InsideFault};
 use inside_parts::gates::{TypeGate, gates_of};
-use inside_run::scene::Scene;
+use inside_run::scene::ModuleSource;
 use inside_walk::submodules::number;
 use model_inside::told::told_as;
 use model_questions::answer::{Answer, ModelFault};
@@ -40,13 +40,13 @@ fn told_number(value: &Value) -> Result<Option<usize>, NoMemory>
 {
     match number(value) {
         Ok(number) => Ok(Some(number)),
-        Err(Stop::Fault(_)) => Ok(None),
-        Err(Stop::Memory(error)) => Err(error),
+        Err(InsideError::Fault(_)) => Ok(None),
+        Err(InsideError::Memory(error)) => Err(error),
     }
 }
 
 /// The number that was found, if one was.
-fn number_in(found: Option<Result<&Found, Fault>>) -> Result<Option<usize>, NoMemory>
+fn number_in(found: Option<Result<&Found, InsideFault>>) -> Result<Option<usize>, NoMemory>
     ensures { IfOk result (λ number. number ≡ keyed.maybe_number (maybe_copied found.entry)) }
 {
     match found {
@@ -96,7 +96,11 @@ pub fn type_of<'a>(
 // ---- parameters
 
 /// What a value answers, of the module of that path.
-fn answer_by(alloc: Global, path: &[u8], found: Result<&Found, Fault>) -> Result<Answer, NoMemory>
+fn answer_by(
+    alloc: Global,
+    path: &[u8],
+    found: Result<&Found, InsideFault>,
+) -> Result<Answer, NoMemory>
     ensures { IfOk result (λ answer. answer ≡ keyed.value_answer path.now (result_copied found.entry)) }
 {
     match found {
@@ -256,7 +260,7 @@ pub fn parameters_by(
 // ---- the network
 
 /// The fault that was found.
-fn fault_in(found: Option<Result<&Found, Fault>>) -> Option<ModelFault>
+fn fault_in(found: Option<Result<&Found, InsideFault>>) -> Option<ModelFault>
     ensures { result ≡ keyed.maybe_fault (maybe_copied found.entry) }
 {
     match found {

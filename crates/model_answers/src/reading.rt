@@ -10,7 +10,7 @@ ghost use Rattle.model_answers.specs.Reading.{maybe_copied, settings_of, spotted
 
 use inside_keys::found::Found;
 use inside_keys::key::{Key, Module, What};
-use inside_parts::fault::Fault;
+use inside_parts::fault::InsideFault;
 use inside_run::values;
 use model_settings::setting::ModelSetting;
 use param_engine::table::Table;
@@ -47,7 +47,7 @@ pub fn find(
     from: Sources<'_>,
     own: &mut Table<Key, Found>,
     key: Key,
-) -> Result<Result<Spot, Fault>, NoMemory>
+) -> Result<Result<Spot, InsideFault>, NoMemory>
     requires right { IsRight from }
     requires own { IsKept (rules_of (settings_of from)) own.old.entries }
     ensures value { IfOk result (λ found. spotted from.entry own.new.entries found ≡ Some (value_at (settings_of from.entry) key)) }
@@ -76,8 +76,8 @@ fn read<'a>(from: Sources<'a>, own: &'a Table<Key, Found>, spot: Spot) -> Option
 pub fn said<'a>(
     from: Sources<'a>,
     own: &'a Table<Key, Found>,
-    found: Result<Spot, Fault>,
-) -> Option<Result<&'a Found, Fault>>
+    found: Result<Spot, InsideFault>,
+) -> Option<Result<&'a Found, InsideFault>>
     ensures { maybe_copied result ≡ spotted from.entry own.now.entries found }
 {
     match found {
@@ -106,7 +106,7 @@ pub fn value_of(
     own: &mut Table<Key, Found>,
     path: &[u8],
     what: What,
-) -> Result<Result<Spot, Fault>, NoMemory>
+) -> Result<Result<Spot, InsideFault>, NoMemory>
     requires right { IsRight from }
     requires own { IsKept (rules_of (settings_of from)) own.old.entries }
     ensures value { IfOk result (λ found. spotted from.entry own.new.entries found ≡ Some (keyed.value_of (settings_of from.entry) path.now what)) }

@@ -16,9 +16,9 @@ use crate::keyed::{Typed, type_of};
 use crate::reading::{Sources, Spot, module_of, said, value_of};
 use inside_keys::found::{Found, Inside};
 use inside_keys::key::{Key, Module, What};
-use inside_parts::fault::{Fault, Stop};
+use inside_parts::fault::{InsideError, InsideFault};
 use inside_parts::names::Names;
-use inside_run::scene::{Scene, Stands};
+use inside_run::scene::{ModuleSource, Stands};
 use inside_wiring::ends::part_named;
 use ned_trees::declarations::TypeDeclaration;
 use param_engine::table::Table;
@@ -28,7 +28,7 @@ use std::alloc::Global;
 /// A module among the parts of the module around it: the type of that module, its inside, and the
 /// number of the part.
 #[derive(Clone, Copy)]
-pub struct Seat<'a> {
+pub struct PartAt<'a> {
     pub of_type: &'a TypeDeclaration,
     pub inside: &'a Inside,
     pub part: usize,
@@ -40,7 +40,7 @@ pub struct Seat<'a> {
 pub struct Sought<'a> {
     pub stands: Stands,
     pub of_type: Option<Typed<'a>>,
-    pub inside: Result<Spot, Fault>,
+    pub inside: Result<Spot, InsideFault>,
 }
 
 /// Where the module of that path stands.
@@ -63,7 +63,7 @@ pub fn declarer_of(stands: &Stands) -> Option<&Module>
 }
 
 /// The inside that was found, if one was.
-pub fn inside_in<'a>(found: Option<Result<&'a Found, Fault>>) -> Option<&'a Inside>
+pub fn inside_in<'a>(found: Option<Result<&'a Found, InsideFault>>) -> Option<&'a Inside>
     ensures { option_copied result ≡ insides.maybe_inside (maybe_copied found.entry) }
 {
     match found {
@@ -125,8 +125,8 @@ fn part_at(names: &Names, inside: &Inside, stands: &Stands) -> Result<Option<usi
 {
     match part_named(names, &inside.parts, &stands.name, stands.index) {
         Ok(part) => Ok(Some(part)),
-        Err(Stop::Fault(_)) => Ok(None),
-        Err(Stop::Memory(error)) => Err(error),
+        Err(InsideError::Fault(_)) => Ok(None),
+        Err(InsideError::Memory(error)) => Err(error),
     }
 }
 
@@ -136,7 +136,7 @@ fn seat_in<'a>(
     stands: &Stands,
     of_type: Typed<'a>,
     inside: &'a Inside,
-) -> Result<Option<Seat<'a>>, NoMemory>
+) -> Result<Option<PartAt<'a>>, NoMemory>
     requires { IsNumbered (settings_of from) of_type }
     ensures { IfOk result (λ seat. maybe_seat seat ≡ insides.seat_among (standing_by stands.now) of_type.entry.declared.now (Some inside.now)) }
 {
@@ -144,7 +144,7 @@ fn seat_in<'a>(
         return Ok(None);
     };
     match part_at(names, inside, stands)? {
-        Some(part) => Ok(Some(Seat {
+        Some(part) => Ok(Some(PartAt {
             of_type: of_type.declared,
             inside,
             part,
@@ -158,7 +158,7 @@ pub fn seat_of<'a>(
     from: Sources<'a>,
     own: &'a Table<Key, Found>,
     sought: &Sought<'a>,
-) -> Result<Option<Seat<'a>>, NoMemory>
+) -> Result<Option<PartAt<'a>>, NoMemory>
     requires { IfSome sought.now.of_type (λ t. IsNumbered (settings_of from) t) }
     ensures { IfOk result (λ seat. maybe_seat seat ≡ sought_seat from.entry own.now.entries (Some sought.now)) }
 {

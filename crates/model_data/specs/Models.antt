@@ -1,7 +1,7 @@
 -- What the model says of types.
 use Rattle.std.specs.Prelude.{ℕ, ◌==◌, List, Option, Some, None, if◌then◌else◌}
 use Rattle.std.specs.Option.{option_and_then}
-use Rattle.ini_trees.specs.declared.lines.Entry.{Entry}
+use Rattle.ini_trees.specs.declared.lines.IniEntry.{IniEntry}
 use Rattle.ini_trees.specs.Entries.{last_name, network_entry, time_limit_entry}
 use Rattle.ini_trees.specs.Sections.{entries_along}
 use Rattle.ned_trees.specs.declared.declarations.Submodule.{Submodule}
@@ -15,7 +15,7 @@ use Rattle.model_questions.specs.declared.record.Record.{Record}
 use Rattle.model_questions.specs.Records.{record_at}
 
 -- the entries that count, in their order: those of the sections of the configuration's chain
-abbrev pub entries_in : Model → List Entry
+abbrev pub entries_in : Model → List IniEntry
 entries_in m = entries_along m.chain m.ini
 
 abbrev pub of_kind : TypeKind → TypeDeclaration → Option TypeDeclaration

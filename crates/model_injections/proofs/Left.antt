@@ -1,7 +1,7 @@
 -- Delivering the first of the injections that are left leaves all others.
 use Rattle.std.proofs.Common.{◌≡◌, ◌⊎◌, inl, inr, ℕ, suc, ◌≤◌, ◌<◌, Bool, true, false, true≢false, List, [], ◌∷◌, Option, Some, None, length, refl, sym, ◌∙◌, subst, arith, if◌then◌else◌}
 use Rattle.model_injections.specs.declared.injection.Injection.{Injection}
-use Rattle.model_injections.specs.declared.injection.Turn.{Turn}
+use Rattle.model_injections.specs.declared.injection.InjectionTurn.{InjectionTurn}
 use Rattle.model_injections.specs.Injections.{goes_before, turn_of, is_undelivered, sooner, first_undelivered, DeliversOne, OfEach}
 use Rattle.model_injections.proofs.Turns.{never_itself, one_way, before_trans, behind_trans, other_way}
 
@@ -16,16 +16,16 @@ IsIn f [] = ⊥
 IsIn f (i ∷ is) = (i ≡ f) ⊎ IsIn f is
 
 -- it is not delivered, and one of these
-abbrev IsLeft : Option Turn → Injection → List Injection → Type 0
+abbrev IsLeft : Option InjectionTurn → Injection → List Injection → Type 0
 IsLeft last f is = (is_undelivered last f ≡ true) × IsIn f is
 
-left_more : (last : Option Turn) (f i : Injection) (is : List Injection) → IsLeft last f is → IsLeft last f (i ∷ is)
+left_more : (last : Option InjectionTurn) (f i : Injection) (is : List Injection) → IsLeft last f is → IsLeft last f (i ∷ is)
 left_more last f i is h = (h.0, inr h.1)
 
-left_here : (last : Option Turn) (f i : Injection) (is : List Injection) → is_undelivered last i ≡ true → i ≡ f → IsLeft last f (i ∷ is)
+left_here : (last : Option InjectionTurn) (f i : Injection) (is : List Injection) → is_undelivered last i ≡ true → i ≡ f → IsLeft last f (i ∷ is)
 left_here last f i is u e = (subst (λ (j : Injection). is_undelivered last j ≡ true) e u, inl e)
 
-pub first_is_left : (last : Option Turn) (is : List Injection) (f : Injection) → first_undelivered last is ≡ Some f → IsLeft last f is
+pub first_is_left : (last : Option InjectionTurn) (is : List Injection) (f : Injection) → first_undelivered last is ≡ Some f → IsLeft last f is
 first_is_left last [] f e = cc
 first_is_left last (i ∷ is) f e = by (λ o. first_is_left last is f o) (is_undelivered last i) (first_undelivered last is) refl refl e
   where
@@ -41,7 +41,7 @@ first_is_left last (i ∷ is) f e = by (λ o. first_is_left last is f o) (is_und
     by rest true (Some j) u e h = chosen rest j (goes_before (turn_of j) (turn_of i)) u e h
 
 -- where there is none, none is left
-pub none_is_left : (last : Option Turn) (is : List Injection) → first_undelivered last is ≡ None → OfEach (λ i. is_undelivered last i ≡ false) is
+pub none_is_left : (last : Option InjectionTurn) (is : List Injection) → first_undelivered last is ≡ None → OfEach (λ i. is_undelivered last i ≡ false) is
 none_is_left last [] e = tt
 none_is_left last (i ∷ is) e = by (λ o. none_is_left last is o) (is_undelivered last i) (first_undelivered last is) refl refl e
   where
@@ -56,18 +56,18 @@ none_is_left last (i ∷ is) e = by (λ o. none_is_left last is o) (is_undeliver
     by rest true (Some j) u e h = never j (goes_before (turn_of j) (turn_of i)) h
 
 -- none that is left goes before it
-abbrev IsBehind : Option Turn → Injection → Injection → Type 0
+abbrev IsBehind : Option InjectionTurn → Injection → Injection → Type 0
 IsBehind last f i = is_undelivered last i ≡ true → goes_before (turn_of i) (turn_of f) ≡ false
 
-none_behind : (last : Option Turn) (f : Injection) (is : List Injection) → OfEach (λ i. is_undelivered last i ≡ false) is → OfEach (IsBehind last f) is
+none_behind : (last : Option InjectionTurn) (f : Injection) (is : List Injection) → OfEach (λ i. is_undelivered last i ≡ false) is → OfEach (IsBehind last f) is
 none_behind last f [] h = tt
 none_behind last f (i ∷ is) h = ((λ u. absurd (true≢false (sym u ∙ h.0))), none_behind last f is h.1)
 
-behind_other : (last : Option Turn) (f g : Injection) (is : List Injection) → goes_before (turn_of g) (turn_of f) ≡ false → OfEach (IsBehind last g) is → OfEach (IsBehind last f) is
+behind_other : (last : Option InjectionTurn) (f g : Injection) (is : List Injection) → goes_before (turn_of g) (turn_of f) ≡ false → OfEach (IsBehind last g) is → OfEach (IsBehind last f) is
 behind_other last f g [] b h = tt
 behind_other last f g (i ∷ is) b h = ((λ u. behind_trans (turn_of i) (turn_of g) (turn_of f) (h.0 u) b), behind_other last f g is b h.1)
 
-pub first_goes_first : (last : Option Turn) (is : List Injection) (f : Injection) → first_undelivered last is ≡ Some f → OfEach (IsBehind last f) is
+pub first_goes_first : (last : Option InjectionTurn) (is : List Injection) (f : Injection) → first_undelivered last is ≡ Some f → OfEach (IsBehind last f) is
 first_goes_first last [] f e = tt
 first_goes_first last (i ∷ is) f e = by (λ g o. first_goes_first last is g o) (is_undelivered last i) (first_undelivered last is) refl refl e
   where
@@ -92,29 +92,29 @@ first_goes_first last (i ∷ is) f e = by (λ g o. first_goes_first last is g o)
 -- ---- it is delivered
 
 -- what is left after it was left before
-stays_left : (last : Option Turn) (f i : Injection) → is_undelivered last f ≡ true → is_undelivered (Some (turn_of f)) i ≡ true → is_undelivered last i ≡ true
+stays_left : (last : Option InjectionTurn) (f i : Injection) → is_undelivered last f ≡ true → is_undelivered (Some (turn_of f)) i ≡ true → is_undelivered last i ≡ true
 stays_left None f i u h = refl
 stays_left (Some l) f i u h = before_trans l (turn_of f) (turn_of i) u h
 
 other_than : (f i : Injection) → is_undelivered (Some (turn_of f)) i ≡ true → turn_of i ≡ turn_of f → ⊥
-other_than f i h e = true≢false (sym h ∙ subst (λ (t : Turn). goes_before (turn_of f) t ≡ false) (sym e) (never_itself (turn_of f)))
+other_than f i h e = true≢false (sym h ∙ subst (λ (t : InjectionTurn). goes_before (turn_of f) t ≡ false) (sym e) (never_itself (turn_of f)))
 
-each_one : (last : Option Turn) (f : Injection) (is : List Injection) → is_undelivered last f ≡ true → OfEach (IsBehind last f) is → OfEach (DeliversOne last f) is
+each_one : (last : Option InjectionTurn) (f : Injection) (is : List Injection) → is_undelivered last f ≡ true → OfEach (IsBehind last f) is → OfEach (DeliversOne last f) is
 each_one last f [] u h = tt
 each_one last f (i ∷ is) u h =
     (((λ l. (stays_left last f i u l, other_than f i l)), (λ b. other_way (turn_of i) (turn_of f) b.1 (h.0 b.0))), each_one last f is u h.1)
 
 -- ONE MORE IS DELIVERED, and no other
-pub one_more : (last : Option Turn) (is : List Injection) (f : Injection) → first_undelivered last is ≡ Some f → OfEach (DeliversOne last f) is
+pub one_more : (last : Option InjectionTurn) (is : List Injection) (f : Injection) → first_undelivered last is ≡ Some f → OfEach (DeliversOne last f) is
 one_more last is f e = each_one last f is (first_is_left last is f e).0 (first_goes_first last is f e)
 
 -- ---- so fewer are left
 
-abbrev pub left_in : Option Turn → List Injection → ℕ
+abbrev pub left_in : Option InjectionTurn → List Injection → ℕ
 left_in last [] = 0
 left_in last (i ∷ is) = if is_undelivered last i then suc (left_in last is) else left_in last is
 
-pub left_within : (last : Option Turn) (is : List Injection) → left_in last is ≤ length is
+pub left_within : (last : Option InjectionTurn) (is : List Injection) → left_in last is ≤ length is
 left_within last [] = omega arith
 left_within last (i ∷ is) = by (is_undelivered last i) (left_within last is)
   where
@@ -122,7 +122,7 @@ left_within last (i ∷ is) = by (is_undelivered last i) (left_within last is)
     by true h = omega (arith, h)
     by false h = omega (arith, h)
 
-no_more : (last : Option Turn) (f : Injection) (is : List Injection) → is_undelivered last f ≡ true → left_in (Some (turn_of f)) is ≤ left_in last is
+no_more : (last : Option InjectionTurn) (f : Injection) (is : List Injection) → is_undelivered last f ≡ true → left_in (Some (turn_of f)) is ≤ left_in last is
 no_more last f [] u = omega arith
 no_more last f (i ∷ is) u = by (is_undelivered (Some (turn_of f)) i) (is_undelivered last i) refl refl (no_more last f is u)
   where
@@ -133,7 +133,7 @@ no_more last f (i ∷ is) u = by (is_undelivered (Some (turn_of f)) i) (is_undel
     by false true a b h = omega (arith, h)
     by false false a b h = h
 
-fewer_in : (last : Option Turn) (f : Injection) (is : List Injection) → is_undelivered last f ≡ true → IsIn f is → left_in (Some (turn_of f)) is < left_in last is
+fewer_in : (last : Option InjectionTurn) (f : Injection) (is : List Injection) → is_undelivered last f ≡ true → IsIn f is → left_in (Some (turn_of f)) is < left_in last is
 fewer_in last f [] u h = absurd h
 fewer_in last f (i ∷ is) u (inl e) = rw (subst (λ (j : Injection). is_undelivered (Some (turn_of f)) j ≡ false) (sym e) (never_itself (turn_of f)), subst (λ (j : Injection). is_undelivered last j ≡ true) (sym e) u) (let l = no_more last f is u in omega (arith, l))
 fewer_in last f (i ∷ is) u (inr h) = by (is_undelivered (Some (turn_of f)) i) (is_undelivered last i) refl refl (fewer_in last f is u h)
@@ -146,5 +146,5 @@ fewer_in last f (i ∷ is) u (inr h) = by (is_undelivered (Some (turn_of f)) i) 
     by false false a b h = h
 
 -- FEWER ARE LEFT
-pub fewer : (last : Option Turn) (is : List Injection) (f : Injection) → first_undelivered last is ≡ Some f → left_in (Some (turn_of f)) is < left_in last is
+pub fewer : (last : Option InjectionTurn) (is : List Injection) (f : Injection) → first_undelivered last is ≡ Some f → left_in (Some (turn_of f)) is < left_in last is
 fewer last is f e = let h = first_is_left last is f e in fewer_in last f is h.0 h.1

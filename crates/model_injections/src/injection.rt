@@ -20,7 +20,7 @@ pub struct Due {
 /// Where an injection stands in the order in which injections go: by when they are due, then by
 /// number.
 #[derive(Clone, Copy, PartialEq, Eq, Hash)]
-pub struct Turn {
+pub struct InjectionTurn {
     pub due: Due,
     pub number: u32,
 }
@@ -54,7 +54,7 @@ fn due_before(one: Due, other: Due) -> bool
 }
 
 /// Whether one injection goes before the other: by when they are due, then by number.
-fn goes_before(one: Turn, other: Turn) -> bool
+fn goes_before(one: InjectionTurn, other: InjectionTurn) -> bool
     ensures { result ≡ goes_before one other }
 {
     due_before(one.due, other.due) || !due_before(other.due, one.due) && one.number < other.number
@@ -62,10 +62,10 @@ fn goes_before(one: Turn, other: Turn) -> bool
 
 impl Injection {
     /// Where it stands in the order in which injections go.
-    pub fn turn(&self) -> Turn
+    pub fn turn(&self) -> InjectionTurn
         ensures { result ≡ turn_of self.now }
     {
-        Turn {
+        InjectionTurn {
             due: self.due,
             number: self.number,
         }
@@ -87,7 +87,7 @@ impl Injection {
 }
 
 /// Whether an injection is not delivered, where this one was delivered last.
-fn is_undelivered(last: Option<&Turn>, injection: &Injection) -> bool
+fn is_undelivered(last: Option<&InjectionTurn>, injection: &Injection) -> bool
     ensures { result ≡ is_undelivered (option_copied last.entry) injection.now }
 {
     match last {
@@ -109,7 +109,7 @@ fn sooner<'a>(injection: &'a Injection, other: Option<&'a Injection>) -> Option<
 /// The one that goes first of two, where it is not delivered.
 fn sooner_undelivered<'a>(
     injection: &'a Injection,
-    last: Option<&Turn>,
+    last: Option<&InjectionTurn>,
     other: Option<&'a Injection>,
 ) -> Option<&'a Injection>
     ensures { option_copied result
@@ -123,7 +123,10 @@ fn sooner_undelivered<'a>(
 }
 
 /// The first of these injections that is not delivered, where this one was delivered last.
-fn first_undelivered<'a>(injections: &'a [Injection], last: Option<&Turn>) -> Option<&'a Injection>
+fn first_undelivered<'a>(
+    injections: &'a [Injection],
+    last: Option<&InjectionTurn>,
+) -> Option<&'a Injection>
     ensures { option_copied result ≡ first_undelivered (option_copied last.entry) injections.now }
 {
     let mut first = None;
@@ -138,7 +141,7 @@ fn first_undelivered<'a>(injections: &'a [Injection], last: Option<&Turn>) -> Op
 pub fn injection_before(
     injections: &[Injection],
     due: Option<Due>,
-    last: Option<Turn>,
+    last: Option<InjectionTurn>,
 ) -> Option<&Injection>
     ensures { option_copied result ≡ injection_before due last injections.now }
 {

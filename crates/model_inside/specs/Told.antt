@@ -1,11 +1,11 @@
 -- Faults of values and insides, as a model tells them.
-use Rattle.inside_parts.specs.declared.fault.Fault.{Fault}
-use Rattle.inside_parts.specs.declared.fault.Fault.TheVariants as fault
+use Rattle.inside_parts.specs.declared.fault.InsideFault.{InsideFault}
+use Rattle.inside_parts.specs.declared.fault.InsideFault.TheVariants as fault
 use Rattle.model_questions.specs.declared.answer.ModelFault.{ModelFault}
 use Rattle.model_questions.specs.declared.answer.ModelFault.TheVariants as told
 
 -- the fault of that name
-abbrev pub told_as : Fault → ModelFault
+abbrev pub told_as : InsideFault → ModelFault
 told_as fault.UnknownType = told.UnknownType
 told_as fault.Interface = told.Interface
 told_as fault.Unassigned = told.Unassigned

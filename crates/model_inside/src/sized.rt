@@ -3,7 +3,7 @@
 ghost use Rattle.std.specs.Prelude.{◌≡◌, ◌<◌, IfOk, IfSome, length};
 ghost use Rattle.model_inside.specs.Sized.{direction_of, finished_size, vector_of};
 
-use inside_parts::fault::Stop;
+use inside_parts::fault::InsideError;
 use inside_parts::gates::TypeGates;
 use inside_parts::parts::{NamedGate, Parts};
 use inside_wiring::ends::gate_named;
@@ -27,8 +27,8 @@ pub fn vector_of(
     let count = wiring.count();
     match gate_named(gates, parts, count, part, name) {
         Ok(found) => Ok(Some(found)),
-        Err(Stop::Fault(_)) => Ok(None),
-        Err(Stop::Memory(error)) => Err(error),
+        Err(InsideError::Fault(_)) => Ok(None),
+        Err(InsideError::Memory(error)) => Err(error),
     }
 }
 

@@ -3,27 +3,27 @@
 ghost use Rattle.std.specs.Prelude.{◌≡◌};
 ghost use Rattle.model_inside.specs.Told.{told_as};
 
-use inside_parts::fault::Fault;
+use inside_parts::fault::InsideFault;
 use model_questions::answer::ModelFault;
 
 /// The fault of that name.
-pub fn told_as(fault: Fault) -> ModelFault
+pub fn told_as(fault: InsideFault) -> ModelFault
     ensures { result ≡ told_as fault }
 {
     match fault {
-        Fault::UnknownType => ModelFault::UnknownType,
-        Fault::Interface => ModelFault::Interface,
-        Fault::Unassigned => ModelFault::Unassigned,
-        Fault::Circle => ModelFault::Circle,
-        Fault::Overflow => ModelFault::Overflow,
-        Fault::Inexact => ModelFault::Inexact,
-        Fault::Mismatch => ModelFault::Mismatch,
-        Fault::GateSize => ModelFault::GateSize,
-        Fault::NoGate => ModelFault::NoGate,
-        Fault::AlreadyConnected => ModelFault::AlreadyConnected,
-        Fault::Unconnected => ModelFault::Unconnected,
-        Fault::TooManyTurns => ModelFault::TooManyTurns,
-        Fault::TooManyModules => ModelFault::TooManyModules,
-        Fault::TooDeep => ModelFault::TooDeep,
+        InsideFault::UnknownType => ModelFault::UnknownType,
+        InsideFault::Interface => ModelFault::Interface,
+        InsideFault::Unassigned => ModelFault::Unassigned,
+        InsideFault::Circle => ModelFault::Circle,
+        InsideFault::Overflow => ModelFault::Overflow,
+        InsideFault::Inexact => ModelFault::Inexact,
+        InsideFault::Mismatch => ModelFault::Mismatch,
+        InsideFault::GateSize => ModelFault::GateSize,
+        InsideFault::NoGate => ModelFault::NoGate,
+        InsideFault::AlreadyConnected => ModelFault::AlreadyConnected,
+        InsideFault::Unconnected => ModelFault::Unconnected,
+        InsideFault::TooManyTurns => ModelFault::TooManyTurns,
+        InsideFault::TooManyModules => ModelFault::TooManyModules,
+        InsideFault::TooDeep => ModelFault::TooDeep,
     }
 }

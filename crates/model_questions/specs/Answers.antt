@@ -10,7 +10,7 @@ use Rattle.model_questions.specs.declared.answer.Question.{Question}
 use Rattle.model_questions.specs.declared.answer.Question.TheVariants as question
 use Rattle.model_questions.specs.declared.record.Record.{Record}
 use Rattle.model_questions.specs.Gates.{gate_named}
-use Rattle.model_questions.specs.Records.{Place, place_of}
+use Rattle.model_questions.specs.Records.{Lineage, place_of}
 
 -- THE ANSWERS of a model are all that a run takes from it: which network is run; what is inside of
 -- a module, which parameters it declares, by their names and in their order, the value of one of
@@ -20,12 +20,12 @@ use Rattle.model_questions.specs.Records.{Place, place_of}
 -- in picoseconds; and the injections.
 pub record Answers : Type 0 where
   pub root : Answer
-  pub inside : Place → Answer
-  pub names : Place → List (List ℕ)
-  pub value : Place → List ℕ → Answer
-  pub gates : Place → List Gate
-  pub hop : Place → List ℕ → ℕ → Answer
-  pub hop_back : Place → List ℕ → ℕ → Answer
+  pub inside : Lineage → Answer
+  pub names : Lineage → List (List ℕ)
+  pub value : Lineage → List ℕ → Answer
+  pub gates : Lineage → List Gate
+  pub hop : Lineage → List ℕ → ℕ → Answer
+  pub hop_back : Lineage → List ℕ → ℕ → Answer
   pub time_limit : Option ℕ
   pub injections : List Injection
 
@@ -35,7 +35,7 @@ is_declared name [] = false
 is_declared name (n ∷ ns) = if bytes_eq n name then true else is_declared name ns
 
 -- the value of a parameter of the module that stands there
-abbrev pub value_at : Answers → Place → List ℕ → Answer
+abbrev pub value_at : Answers → Lineage → List ℕ → Answer
 value_at a p name = if is_declared name (a.names p) then a.value p name else answer.Absent
 
 -- whether a time is later than the limit, where there is one: a time equal to it is not

@@ -18,8 +18,8 @@ index_of (Some r) = r.index
 -- A PLACE, where a module stands: its record and those of the modules around it, from the inside
 -- outwards, the last one that of the network; empty where there is no such module. No more of the
 -- records is known to what answers about the module.
-abbrev pub Place : Type 0
-Place = List Record
+abbrev pub Lineage : Type 0
+Lineage = List Record
 
 -- a module's record, and those of the modules around it
 abbrev pub with_those_around : (ℕ → List Record) → Option Record → List Record
@@ -32,16 +32,16 @@ lineage_up zero records id = []
 lineage_up (suc depth) records id = with_those_around (lineage_up depth records) (record_at records id)
 
 -- where the module of that id stands: modules are nested at most 32 deep
-unfoldable pub place_of : List Record → ℕ → Place
+unfoldable pub place_of : List Record → ℕ → Lineage
 place_of records id = lineage_up 32 records id
 
 -- the record of the module that stands there, if any
-abbrev pub record_there : Place → Option Record
+abbrev pub record_there : Lineage → Option Record
 record_there [] = None
 record_there (r ∷ rs) = Some r
 
 -- where the module around it stands
-abbrev pub place_around : Place → Place
+abbrev pub place_around : Lineage → Lineage
 place_around [] = []
 place_around (r ∷ rs) = rs
 
@@ -58,7 +58,7 @@ path_under path name = path ++ 46 ∷ name
 
 -- THE PATH of the module that stands there: the names of its line, from the outermost one to its
 -- own, with dots between them
-abbrev pub path_along : Place → List ℕ
+abbrev pub path_along : Lineage → List ℕ
 path_along [] = []
 path_along (r ∷ []) = own_name r.name r.index
 path_along (r ∷ (s ∷ rs)) = path_under (path_along (s ∷ rs)) (own_name r.name r.index)

@@ -3,7 +3,7 @@
 ghost use Rattle.std.specs.Prelude.{◌≡◌, IfOk};
 ghost use Rattle.model_questions.specs.Answers.{is_beyond};
 
-use model_injections::injection::{Due, Injection, Turn};
+use model_injections::injection::{Due, Injection, InjectionTurn};
 use module_api::call::Gate;
 use sim_time::SimTime;
 use sim_values::text::Text;
@@ -33,7 +33,7 @@ pub enum Question {
     BeyondLimit(u64),
     /// The injection that goes before an event that is due then, or that goes where no event is
     /// left; of those after this one, which was delivered last.
-    InjectionBefore(Option<Due>, Option<Turn>),
+    InjectionBefore(Option<Due>, Option<InjectionTurn>),
 }
 
 impl Question {
@@ -58,7 +58,7 @@ impl Question {
 
 /// A question, with the number of the event in which it was asked.
 #[derive(Drop)]
-pub struct Asked {
+pub struct AskedQuestion {
     pub event: u64,
     pub question: Question,
 }

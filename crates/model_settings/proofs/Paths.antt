@@ -11,7 +11,7 @@ use Rattle.std.specs.Str.Parse.{AllDigits, digits_value, digits_value_after}
 use Rattle.ini_trees.proofs.ScanLaws.{last_name_is}
 use Rattle.ini_trees.specs.Entries.{last_name}
 use Rattle.inside_keys.specs.Keys.{child, own_name}
-use Rattle.inside_keys.specs.Settings.{Standing}
+use Rattle.inside_keys.specs.Settings.{Whereabouts}
 use Rattle.inside_keys.specs.declared.key.Module.{Module}
 use Rattle.model_settings.specs.Standings.{before_last, bracket_of, index_after, index_behind, index_in, name_before, name_in, standing_of, ChildrenStand, HasFewBits, IsPlain}
 
@@ -159,7 +159,7 @@ stands_by m name own index dots named indexed =
     ∙ ap (λ (n : List ℕ). made (Some m) n (index_in own)) named
     ∙ ap (λ (i : Option ℕ). made (Some m) name i) indexed
   where
-    made : Option Module → List ℕ → Option ℕ → Standing
+    made : Option Module → List ℕ → Option ℕ → Whereabouts
     made around n i = record { around = around; name = n; index = option_map pos i; is_declared = true }
 
 pub children_stand : ChildrenStand

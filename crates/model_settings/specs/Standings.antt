@@ -10,7 +10,7 @@ use Rattle.inside_parts.specs.Names.{position_of, with_name}
 use Rattle.inside_keys.specs.Inside.{submodule_names}
 use Rattle.inside_keys.specs.Keys.{child}
 use Rattle.inside_keys.specs.declared.key.Module.{Module}
-use Rattle.inside_keys.specs.Settings.{Setting, Standing}
+use Rattle.inside_keys.specs.Settings.{ModuleRules, Whereabouts}
 use Rattle.model_data.specs.declared.model.Model.{Model}
 use Rattle.model_data.specs.Models.{entries_in, network_of}
 
@@ -54,7 +54,7 @@ around_of m = option_map (λ path. record { created = m.created; path = path }) 
 -- WHERE A MODULE STANDS: what is before the last dot of its path is the module around, after it are
 -- its name and its index. The network's path has no dot. Each is declared: none is created while a
 -- model runs yet.
-abbrev pub standing_of : Module → Standing
+abbrev pub standing_of : Module → Whereabouts
 standing_of m = record {
   around = around_of m;
   name = name_in (last_name m.path);
@@ -80,7 +80,7 @@ abbrev pub number_of : List TypeDeclaration → TypeDeclaration → Option ℕ
 number_of types t = position_of t.name (names_of_types types)
 
 -- ALL THAT THE VALUES OF A MODEL REST ON
-unfoldable pub setting_of : Model → Setting
+unfoldable pub setting_of : Model → ModuleRules
 setting_of m = record {
   stands = standing_of;
   root = λ site. option_and_then (number_of m.types) (network_of m);

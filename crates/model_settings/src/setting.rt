@@ -13,7 +13,7 @@ use ini_trees::speaks::last_name;
 use inside_keys::key::Module;
 use inside_parts::gates::{TypeGates, gates_of};
 use inside_parts::names::Names;
-use inside_run::scene::{Scene, Stands};
+use inside_run::scene::{ModuleSource, Stands};
 use model_data::model::Model;
 use ned_channels::built_in::BuiltInChannels;
 use ned_trees::declarations::{Submodule, TypeDeclaration};
@@ -155,7 +155,7 @@ impl<'m> ModelSetting<'m> {
     }
 }
 
-impl<'m> Scene for ModelSetting<'m> {
+impl<'m> ModuleSource for ModelSetting<'m> {
     ghost use Rattle.model_settings.specs.Standings.{setting_of};
 
     ghost setting = { setting_of };

@@ -2,7 +2,7 @@
 use Rattle.std.proofs.Common.{◌≡◌, Bool, true, false, Some, List, [], ◌∷◌, codes, refl}
 use Rattle.module_api.specs.Behaviour.{Behaviour}
 use Rattle.module_api.specs.Laws.{IsLawful}
-use Rattle.module_parts.specs.Catalogues.{Entry, entry, catalogue}
+use Rattle.module_parts.specs.Catalogues.{CatalogueEntry, entry, catalogue}
 use Rattle.module_parts.specs.CatalogueLaws.{entry_lawful, catalogue_lawful}
 use Rattle.module_parts.specs.ScriptLaws.{KeepsOwn, keeps_all}
 use Rattle.module_examples.specs.Pulse.{byte_of, read_byte, pulse_script}
@@ -15,7 +15,7 @@ pulse_keeps : KeepsOwn pulse_script (λ p. Unit {0})
 unfolding pulse_script
 pulse_keeps = keeps_all pulse_script (λ p. byte_reads_back p.has_pulsed)
 
-abbrev pub entries : List Entry
+abbrev pub entries : List CatalogueEntry
 entries = entry (codes "Pulse") pulse_script ∷ []
 
 unfoldable pub pulses : Behaviour

@@ -2,7 +2,7 @@
 
 ghost use Rattle.std.specs.Prelude.{List};
 ghost use Rattle.module_api.specs.Laws.{law_of_reads, IsLawful};
-ghost use Rattle.module_parts.specs.Catalogues.{Entry, catalogue};
+ghost use Rattle.module_parts.specs.Catalogues.{CatalogueEntry, catalogue};
 ghost use Rattle.module_parts.specs.CatalogueLaws.{AllLawful};
 ghost use Rattle.module_parts.specs.Scripts.{naming_of};
 
@@ -16,5 +16,5 @@ pub fn scripts_read_by_listing<S: Scripted>()
 
 /// A catalogue of lawful kinds is lawful, at kinds that it doesn't know too.
 pub fn lawful_kinds_make_a_catalogue()
-    ensures { (entries : List Entry) → AllLawful entries → IsLawful (catalogue entries) }
+    ensures { (entries : List CatalogueEntry) → AllLawful entries → IsLawful (catalogue entries) }
 {}

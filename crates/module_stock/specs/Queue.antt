@@ -1,7 +1,7 @@
 -- What a Queue is. It holds the messages that come while one is served, up to its capacity.
 use Rattle.std.specs.Prelude.{pos, int_le, Bool, true, false, List, [], ◌∷◌, ◌++◌, length, codes}
-use Rattle.module_api.specs.declared.call.Prompt.{Prompt}
-use Rattle.module_api.specs.declared.call.Prompt.TheVariants as prompt
+use Rattle.module_api.specs.declared.call.CallReason.{CallReason}
+use Rattle.module_api.specs.declared.call.CallReason.TheVariants as prompt
 use Rattle.module_api.specs.declared.message.Message.{Message}
 use Rattle.module_api.specs.declared.message.Outgoing.{Outgoing}
 use Rattle.module_api.specs.declared.reply.Action.{Action}
@@ -59,7 +59,7 @@ abbrev pub heard : Bool → List Outgoing → Message → Asking (List Outgoing)
 heard true held m = joined_if (can_be_held m) held (kept m)
 heard false held m = served_if (is_timer m.origin) held
 
-abbrev pub told_by : Prompt → List Outgoing → Asking (List Outgoing)
+abbrev pub told_by : CallReason → List Outgoing → Asking (List Outgoing)
 told_by (prompt.Initialize stage) held = quiet held
 told_by (prompt.Message m) held = heard (is_from (codes "in") m.origin) held m
 told_by prompt.Finish held = quiet held

@@ -1,7 +1,7 @@
 -- The laws of a Queue.
 use Rattle.std.proofs.Common.{◌≡◌, pos, int_le, ◌<◌, Bool, true, false, IsTrue, List, [], ◌∷◌, ◌++◌, length, drop, codes, refl, arith}
-use Rattle.module_api.specs.declared.call.Prompt.{Prompt}
-use Rattle.module_api.specs.declared.call.Prompt.TheVariants as prompt
+use Rattle.module_api.specs.declared.call.CallReason.{CallReason}
+use Rattle.module_api.specs.declared.call.CallReason.TheVariants as prompt
 use Rattle.module_api.specs.declared.message.Message.{Message}
 use Rattle.module_api.specs.declared.message.Outgoing.{Outgoing}
 use Rattle.module_parts.specs.declared.looks.Verdict.{Verdict}
@@ -53,7 +53,7 @@ heard-fits : (hears : Bool) (held : List Outgoing) (m : Message) → AllFit held
 heard-fits true held m fit = joined_if-fits (can_be_held m) held m (can_be_held-fits m) fit
 heard-fits false held m fit = served_if-fits (is_timer m.origin) held fit
 
-told_by-fits : (p : Prompt) (held : List Outgoing) → AllFit held → Leaves AllFit (told_by p held)
+told_by-fits : (p : CallReason) (held : List Outgoing) → AllFit held → Leaves AllFit (told_by p held)
 told_by-fits (prompt.Initialize stage) held fit = fit
 told_by-fits (prompt.Message m) held fit = heard-fits (is_from (codes "in") m.origin) held m fit
 told_by-fits prompt.Finish held fit = fit

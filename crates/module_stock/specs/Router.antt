@@ -1,8 +1,8 @@
 -- What a Router is. It sends each message on through the port that the first byte of the payload
 -- names, without that byte, and remembers nothing.
 use Rattle.std.specs.Prelude.{ℕ, nat_lt, Bool, true, false, List, [], ◌∷◌, codes, if◌then◌else◌}
-use Rattle.module_api.specs.declared.call.Prompt.{Prompt}
-use Rattle.module_api.specs.declared.call.Prompt.TheVariants as prompt
+use Rattle.module_api.specs.declared.call.CallReason.{CallReason}
+use Rattle.module_api.specs.declared.call.CallReason.TheVariants as prompt
 use Rattle.module_api.specs.declared.message.Message.{Message}
 use Rattle.module_api.specs.declared.message.Outgoing.{Outgoing}
 use Rattle.module_api.specs.declared.reply.Action.{Action}
@@ -33,7 +33,7 @@ abbrev pub routed_unless : Bool → Router → Message → Asking Router
 routed_unless true r m = quiet r
 routed_unless false r m = routed r m m.payload
 
-abbrev pub told_by : Prompt → Router → Asking Router
+abbrev pub told_by : CallReason → Router → Asking Router
 told_by (prompt.Initialize stage) r = quiet r
 told_by (prompt.Message message) r = routed_unless (is_timer message.origin) r message
 told_by prompt.Finish r = quiet r

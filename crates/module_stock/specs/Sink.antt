@@ -1,7 +1,7 @@
 -- What a Sink is. It emits how long the messages are that reach it, and remembers nothing.
 use Rattle.std.specs.Prelude.{ℕ, Bool, true, false, [], codes}
-use Rattle.module_api.specs.declared.call.Prompt.{Prompt}
-use Rattle.module_api.specs.declared.call.Prompt.TheVariants.{Initialize, Message, Finish}
+use Rattle.module_api.specs.declared.call.CallReason.{CallReason}
+use Rattle.module_api.specs.declared.call.CallReason.TheVariants.{Initialize, Message, Finish}
 use Rattle.module_parts.specs.Asking.{Asking}
 use Rattle.module_parts.specs.Cues.{is_from}
 use Rattle.module_parts.specs.Looking.{simply, quiet}
@@ -15,7 +15,7 @@ heard true length s = simply (received length) s
 heard false length s = quiet s
 
 -- it hears those of its gate `in` and those from outside
-abbrev pub told_by : Prompt → Sink → Asking Sink
+abbrev pub told_by : CallReason → Sink → Asking Sink
 told_by (Initialize stage) s = quiet s
 told_by (Message message) s = heard (is_from (codes "in") message.origin) message.bits s
 told_by Finish s = quiet s

@@ -10,7 +10,7 @@ ghost use Rattle.module_parts.specs.Replies.{timer_set};
 ghost use Rattle.module_stock.specs.Queue.{length_emitted, joined, joined_if, front_sent, served, queue_script};
 
 use crate::held::{add_message, can_be_held, front_of, kept};
-use module_api::call::{Call, Prompt};
+use module_api::call::{Call, CallReason};
 use module_api::message::{Message, Outgoing};
 use module_api::reply::{Action, Reply};
 use module_parts::cues::{is_from, is_timer};
@@ -56,7 +56,7 @@ impl Scripted for Queue {
 
     #[tactic(auto, unfolding(crate::specs::Queue::queue_script))]
     fn answer(&mut self, alloc: Global, call: &Call) -> Result<Reply, NoMemory> {
-        if let Prompt::Message(message) = &call.prompt {
+        if let CallReason::Message(message) = &call.prompt {
             if is_from("in", &message.origin) {
                 return self.join(alloc, call, message);
             }

@@ -5,7 +5,7 @@ ghost use Rattle.module_parts.specs.Asking.{told};
 ghost use Rattle.module_stock.specs.Router.{stripped, passed, routed, router_script};
 
 use crate::arrivals::received;
-use module_api::call::{Call, Prompt};
+use module_api::call::{Call, CallReason};
 use module_api::message::{Message, Outgoing};
 use module_api::reply::{Action, Reply};
 use module_parts::cues::is_timer;
@@ -33,7 +33,7 @@ impl Scripted for Router {
 
     #[tactic(auto, unfolding(crate::specs::Router::router_script))]
     fn answer(&mut self, alloc: Global, call: &Call) -> Result<Reply, NoMemory> {
-        if let Prompt::Message(message) = &call.prompt {
+        if let CallReason::Message(message) = &call.prompt {
             if !is_timer(&message.origin) {
                 return self.route(alloc, call, message);
             }

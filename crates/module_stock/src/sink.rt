@@ -4,7 +4,7 @@ ghost use Rattle.std.specs.Prelude.{codes};
 ghost use Rattle.module_stock.specs.Sink.{sink_script};
 
 use crate::arrivals::received;
-use module_api::call::{Call, Prompt};
+use module_api::call::{Call, CallReason};
 use module_api::reply::Reply;
 use module_parts::cues::is_from;
 use module_parts::player::Scripted;
@@ -29,7 +29,7 @@ impl Scripted for Sink {
 
     #[tactic(auto, unfolding(crate::specs::Sink::sink_script))]
     fn answer(&mut self, alloc: Global, call: &Call) -> Result<Reply, NoMemory> {
-        if let Prompt::Message(message) = &call.prompt {
+        if let CallReason::Message(message) = &call.prompt {
             if is_from("in", &message.origin) {
                 return Ok(simply(alloc, received(alloc, message.bits)?));
             }

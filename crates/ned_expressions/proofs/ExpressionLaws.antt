@@ -16,9 +16,9 @@ use Rattle.ned_leaves.specs.Grammar.{is_mark, plain_literal, word, mark, name}
 use Rattle.ned_leaves.proofs.GrammarLaws.{word-lawful, mark-lawful, name-lawful, plain_literal-lawful}
 use Rattle.ned_trees.specs.declared.expressions.Expression.{Expression}
 use Rattle.ned_trees.specs.declared.expressions.Choice.{Choice}
-use Rattle.ned_expressions.specs.declared.levels.Place.{Place}
-use Rattle.ned_expressions.specs.declared.levels.Place.TheVariants as place
-use Rattle.ned_expressions.specs.declared.chains.Step.{Step}
+use Rattle.ned_expressions.specs.declared.levels.GrammarPlace.{GrammarPlace}
+use Rattle.ned_expressions.specs.declared.levels.GrammarPlace.TheVariants as place
+use Rattle.ned_expressions.specs.declared.chains.ChainStep.{ChainStep}
 use Rattle.ned_expressions.specs.declared.atoms.Kind.{Kind}
 use Rattle.ned_expressions.specs.declared.atoms.Kind.TheVariants as kinds
 use Rattle.ned_expressions.specs.declared.operands.ChoiceTail.TheVariants as choice_tails
@@ -277,56 +277,56 @@ module _ (at : Rule Expression) (ia : IsIndex at) where
 
 -- ---- operands with parts
 
-module _ (d : ℕ) (li : (p : Place) (l : ℕ) → Lawful (expression_within d p l)) where
+module _ (d : ℕ) (li : (p : GrammarPlace) (l : ℕ) → Lawful (expression_within d p l)) where
   abbrev pub inner : Inner
   inner p l = expression_within d p l
 
-  close_bracket : (p : Place) (t : Token) → (mark m.RightBracket).starts t ≡ true → continues p 0 t ≡ false
+  close_bracket : (p : GrammarPlace) (t : Token) → (mark m.RightBracket).starts t ≡ true → continues p 0 t ≡ false
   unfolding mark
   close_bracket p (token.Mark m.RightBracket) e = refl
   close_bracket p (token.Mark _) e = absurd (false≢true e)
   close_bracket p _ e = absurd (false≢true e)
 
-  close_paren : (p : Place) (t : Token) → (mark m.RightParen).starts t ≡ true → continues p 0 t ≡ false
+  close_paren : (p : GrammarPlace) (t : Token) → (mark m.RightParen).starts t ≡ true → continues p 0 t ≡ false
   unfolding mark
   close_paren p (token.Mark m.RightParen) e = refl
   close_paren p (token.Mark _) e = absurd (false≢true e)
   close_paren p _ e = absurd (false≢true e)
 
-  comma : (p : Place) (t : Token) → (mark m.Comma).starts t ≡ true → continues p 0 t ≡ false
+  comma : (p : GrammarPlace) (t : Token) → (mark m.Comma).starts t ≡ true → continues p 0 t ≡ false
   unfolding mark
   comma p (token.Mark m.Comma) e = refl
   comma p (token.Mark _) e = absurd (false≢true e)
   comma p _ e = absurd (false≢true e)
 
-  colon : (p : Place) (t : Token) → (mark m.Colon).starts t ≡ true → continues p 0 t ≡ false
+  colon : (p : GrammarPlace) (t : Token) → (mark m.Colon).starts t ≡ true → continues p 0 t ≡ false
   unfolding mark
   colon p (token.Mark m.Colon) e = refl
   colon p (token.Mark _) e = absurd (false≢true e)
   colon p _ e = absurd (false≢true e)
 
-  pub brackets-lawful : (p : Place) → Lawful (brackets (expression_within d p 0))
+  pub brackets-lawful : (p : GrammarPlace) → Lawful (brackets (expression_within d p 0))
   unfolding brackets mark
   brackets-lawful p = before (mark-lawful m.LeftBracket) (after (li p 0) (mark-lawful m.RightBracket) (close_bracket p)) (λ t e. refl)
 
-  pub element-lawful : (p : Place) → Lawful (element (expression_within d p 0))
+  pub element-lawful : (p : GrammarPlace) → Lawful (element (expression_within d p 0))
   unfolding element brackets mark
   element-lawful p = mapped (then (brackets-lawful p) (before (mark-lawful m.Dot) name-lawful (λ t e. refl)) (λ t e. refl))
 
-  element_apart : (p : Place) (t : Token) → (element (expression_within d p 0)).starts t ≡ true → member.starts t ≡ false
+  element_apart : (p : GrammarPlace) (t : Token) → (element (expression_within d p 0)).starts t ≡ true → member.starts t ≡ false
   unfolding element brackets member mark
   element_apart p (token.Mark m.LeftBracket) e = refl
   element_apart p (token.Mark _) e = absurd (false≢true e)
   element_apart p _ e = absurd (false≢true e)
 
-  tail_outside : (p : Place) (t : Token) → begins_tail t ≡ false → (either member (element (expression_within d p 0))).starts t ≡ false
+  tail_outside : (p : GrammarPlace) (t : Token) → begins_tail t ≡ false → (either member (element (expression_within d p 0))).starts t ≡ false
   unfolding element brackets member mark
   tail_outside p (token.Mark m.Dot) e = absurd (true≢false e)
   tail_outside p (token.Mark m.LeftBracket) e = absurd (true≢false e)
   tail_outside p (token.Mark _) e = refl
   tail_outside p _ e = refl
 
-  pub tail-lawful : (p : Place) → Lawful (tail (expression_within d p 0))
+  pub tail-lawful : (p : GrammarPlace) → Lawful (tail (expression_within d p 0))
   unfolding tail element brackets member mark name
   tail-lawful p =
       sealed-lawful begins_tail nothing (either member (element (expression_within d p 0)))
@@ -340,27 +340,27 @@ module _ (d : ℕ) (li : (p : Place) (l : ℕ) → Lawful (expression_within d p
       (then (li place.Anywhere 0) (before (mark-lawful m.Comma) (after (li place.Anywhere 0) (mark-lawful m.RightParen) (close_paren place.Anywhere)) (λ t e. refl)) (λ t e. comma place.Anywhere t (or_none _ e)))
       (λ t e. refl))
 
-  pair_apart : (p : Place) (t : Token) → (made choice_tails.Plain (tail (expression_within d p 0))).starts t ≡ true → (pair (expression_within d place.Anywhere 0)).starts t ≡ false
+  pair_apart : (p : GrammarPlace) (t : Token) → (made choice_tails.Plain (tail (expression_within d p 0))).starts t ≡ true → (pair (expression_within d place.Anywhere 0)).starts t ≡ false
   unfolding pair tail mark
   pair_apart p (token.Mark m.LeftParen) e = absurd (false≢true e)
   pair_apart p (token.Mark _) e = refl
   pair_apart p _ e = refl
 
-  choice_outside : (p : Place) (t : Token) → is_tail t ≡ false → (either (pair (expression_within d place.Anywhere 0)) (made choice_tails.Plain (tail (expression_within d p 0)))).starts t ≡ false
+  choice_outside : (p : GrammarPlace) (t : Token) → is_tail t ≡ false → (either (pair (expression_within d place.Anywhere 0)) (made choice_tails.Plain (tail (expression_within d p 0)))).starts t ≡ false
   unfolding pair tail mark
   choice_outside p t e = rw (no_paren t e, no_tail t e) refl
 
-  pub choice_tail-lawful : (p : Place) → Lawful (choice_tail inner p)
+  pub choice_tail-lawful : (p : GrammarPlace) → Lawful (choice_tail inner p)
   unfolding choice_tail pair tail mark
   choice_tail-lawful p =
       sealed-lawful is_tail nothing (either (pair (expression_within d place.Anywhere 0)) (made choice_tails.Plain (tail (expression_within d p 0))))
       (either-lawful (pair (expression_within d place.Anywhere 0)) (made choice_tails.Plain (tail (expression_within d p 0))) pair-lawful (mapped (tail-lawful p)) refl refl (pair_apart p)) refl (choice_outside p) (λ t e. refl)
 
-  pub named-lawful : (p : Place) → Lawful (named inner p)
+  pub named-lawful : (p : GrammarPlace) → Lawful (named inner p)
   unfolding named tail
   named-lawful p = mapped (then (token-lawful plain_name_of) (optional-lawful (tail (expression_within d p 0)) (tail-lawful p) refl) (λ t e. refl))
 
-  named_outside : (p : Place) (t : Token) → is_kind kinds.Named t ≡ false → (named inner p).starts t ≡ false
+  named_outside : (p : GrammarPlace) (t : Token) → is_kind kinds.Named t ≡ false → (named inner p).starts t ≡ false
   unfolding named
   named_outside p (token.Name text) e = go (choice_named text) e
     where
@@ -369,15 +369,15 @@ module _ (d : ℕ) (li : (p : Place) (l : ℕ) → Lawful (expression_within d p
       go (Some c) e = refl
   named_outside p _ e = refl
 
-  named_ends : (p : Place) (t : Token) → is_tail t ≡ false → (named inner p).goes_on t ≡ false
+  named_ends : (p : GrammarPlace) (t : Token) → is_tail t ≡ false → (named inner p).goes_on t ≡ false
   unfolding named tail
   named_ends p t e = rw (no_tail t e) refl
 
-  pub chosen-lawful : (p : Place) → Lawful (chosen inner p)
+  pub chosen-lawful : (p : GrammarPlace) → Lawful (chosen inner p)
   unfolding chosen choice_tail
   chosen-lawful p = mapped (then (token-lawful choice_of) (optional-lawful (choice_tail inner p) (choice_tail-lawful p) refl) (λ t e. refl))
 
-  chosen_outside : (p : Place) (t : Token) → is_kind kinds.Chosen t ≡ false → (chosen inner p).starts t ≡ false
+  chosen_outside : (p : GrammarPlace) (t : Token) → is_kind kinds.Chosen t ≡ false → (chosen inner p).starts t ≡ false
   unfolding chosen
   chosen_outside p (token.Name text) e = go (choice_named text) e
     where
@@ -386,7 +386,7 @@ module _ (d : ℕ) (li : (p : Place) (l : ℕ) → Lawful (expression_within d p
       go (Some c) e = e
   chosen_outside p _ e = refl
 
-  chosen_ends : (p : Place) (t : Token) → is_tail t ≡ false → (chosen inner p).goes_on t ≡ false
+  chosen_ends : (p : GrammarPlace) (t : Token) → is_tail t ≡ false → (chosen inner p).goes_on t ≡ false
   unfolding chosen choice_tail
   chosen_ends p t e = rw e refl
 
@@ -400,11 +400,11 @@ module _ (d : ℕ) (li : (p : Place) (l : ℕ) → Lawful (expression_within d p
   group_outside (token.Mark _) e = refl
   group_outside _ e = refl
 
-  pub signed-lawful : (p : Place) → Lawful (signed inner p)
+  pub signed-lawful : (p : GrammarPlace) → Lawful (signed inner p)
   unfolding signed
   signed-lawful p = mapped (then (token-lawful sign_of) (li p 12) (λ t e. refl))
 
-  signed_outside : (p : Place) (t : Token) → is_kind kinds.Signed t ≡ false → (signed inner p).starts t ≡ false
+  signed_outside : (p : GrammarPlace) (t : Token) → is_kind kinds.Signed t ≡ false → (signed inner p).starts t ≡ false
   unfolding signed
   signed_outside p (token.Mark m.Minus) e = absurd (true≢false e)
   signed_outside p (token.Mark m.Bang) e = absurd (true≢false e)
@@ -412,7 +412,7 @@ module _ (d : ℕ) (li : (p : Place) (l : ℕ) → Lawful (expression_within d p
   signed_outside p (token.Mark _) e = refl
   signed_outside p _ e = refl
 
-  signed_ends : (p : Place) (t : Token) → is_tail t ≡ false → (signed inner p).goes_on t ≡ false
+  signed_ends : (p : GrammarPlace) (t : Token) → is_tail t ≡ false → (signed inner p).goes_on t ≡ false
   unfolding signed
   signed_ends p t e = rw (continues_last p t e) refl
 
@@ -420,59 +420,59 @@ module _ (d : ℕ) (li : (p : Place) (l : ℕ) → Lawful (expression_within d p
   unfolding group mark
   any_group-lawful = sealed-lawful (is_kind kinds.Group) is_tail (group inner) group-lawful refl group_outside (λ t e. refl)
 
-  any_signed-lawful : (p : Place) → Lawful (of_kind kinds.Signed (signed inner p))
+  any_signed-lawful : (p : GrammarPlace) → Lawful (of_kind kinds.Signed (signed inner p))
   unfolding signed
   any_signed-lawful p = sealed-lawful (is_kind kinds.Signed) is_tail (signed inner p) (signed-lawful p) refl (signed_outside p) (signed_ends p)
 
-  any_named-lawful : (p : Place) → Lawful (of_kind kinds.Named (named inner p))
+  any_named-lawful : (p : GrammarPlace) → Lawful (of_kind kinds.Named (named inner p))
   unfolding named
   any_named-lawful p = sealed-lawful (is_kind kinds.Named) is_tail (named inner p) (named-lawful p) refl (named_outside p) (named_ends p)
 
-  any_chosen-lawful : (p : Place) → Lawful (of_kind kinds.Chosen (chosen inner p))
+  any_chosen-lawful : (p : GrammarPlace) → Lawful (of_kind kinds.Chosen (chosen inner p))
   unfolding chosen
   any_chosen-lawful p = sealed-lawful (is_kind kinds.Chosen) is_tail (chosen inner p) (chosen-lawful p) refl (chosen_outside p) (chosen_ends p)
 
   -- ---- steps
 
-  pub question-lawful : (p : Place) → Lawful (conditional_step inner p)
+  pub question-lawful : (p : GrammarPlace) → Lawful (conditional_step inner p)
   unfolding conditional_step mark
   question-lawful p = mapped (before (mark-lawful m.Question) (then (li p 0) (before (mark-lawful m.Colon) (li p 1) (λ t e. refl)) (λ t e. colon p t (or_none _ e))) (λ t e. refl))
 
-  pub binary-lawful : (p : Place) (l : ℕ) → Lawful (binary_step inner p l)
+  pub binary-lawful : (p : GrammarPlace) (l : ℕ) → Lawful (binary_step inner p l)
   unfolding binary_step operator
   binary-lawful p l = mapped (then (token-lawful (λ t. at_level l (operator_in p t))) (li p (right_level l)) (λ t e. refl))
 
-  pub step-lawful : (p : Place) (l : ℕ) → Lawful (step inner p l)
+  pub step-lawful : (p : GrammarPlace) (l : ℕ) → Lawful (step inner p l)
   step-lawful p zero = question-lawful p
   step-lawful p (suc l) = binary-lawful p (suc l)
 
-  pub step-full : (p : Place) (l : ℕ) → (step inner p l).empty ≡ false
+  pub step-full : (p : GrammarPlace) (l : ℕ) → (step inner p l).empty ≡ false
   unfolding conditional_step binary_step operator mark
   step-full p zero = refl
   step-full p (suc l) = refl
 
-  step_ends : (p : Place) (l : ℕ) (u : Token) → continues p (right_level l) u ≡ false → (step inner p l).goes_on u ≡ false
+  step_ends : (p : GrammarPlace) (l : ℕ) (u : Token) → continues p (right_level l) u ≡ false → (step inner p l).goes_on u ≡ false
   unfolding conditional_step binary_step operator mark
   step_ends p zero u e = rw e refl
   step_ends p (suc l) u e = rw e refl
 
   -- what a step makes is as tight as the step
-  step_tight : (p : Place) (x : Expression) (l : ℕ) (f : List Token) (t : Step) → (step inner p l).Is f t → tightness (put x t) ≡ l
+  step_tight : (p : GrammarPlace) (x : Expression) (l : ℕ) (f : List Token) (t : ChainStep) → (step inner p l).Is f t → tightness (put x t) ≡ l
   unfolding conditional_step binary_step operator
-  step_tight p x zero f t is = ap (λ (s : Step). tightness (put x s)) is.2 ∙ tight_conditional x is.0.0 is.0.1
+  step_tight p x zero f t is = ap (λ (s : ChainStep). tightness (put x s)) is.2 ∙ tight_conditional x is.0.0 is.0.1
   step_tight p x (suc l) f t is =
       let pair = is.1 in
       let single = pair.3 in
-      ap (λ (s : Step). tightness (put x s)) is.2 ∙ tight_binary is.0.0 x is.0.1 ∙ (at_rank (suc l) (operator_in p single.0) is.0.0 single.2).1
+      ap (λ (s : ChainStep). tightness (put x s)) is.2 ∙ tight_binary is.0.0 x is.0.1 ∙ (at_rank (suc l) (operator_in p single.0) is.0.0 single.2).1
 
-  pub step_begun : (p : Place) (deepest least : ℕ) (x : Expression) (l : ℕ) (u v : Token) (more : List Token) (t : Step) → follows p deepest least x u ≡ Some l → (step inner p l).Is (v ∷ more) t → follows p deepest least x v ≡ Some l
+  pub step_begun : (p : GrammarPlace) (deepest least : ℕ) (x : Expression) (l : ℕ) (u v : Token) (more : List Token) (t : ChainStep) → follows p deepest least x u ≡ Some l → (step inner p l).Is (v ∷ more) t → follows p deepest least x v ≡ Some l
   unfolding conditional_step binary_step operator mark
   step_begun p deepest least x zero u v more t e is = allowed_also p deepest least x u v 0 e (let single = is.1.1.3 in question_rank p v (ap (is_mark m.Question) (sym (first_of v single.0 more is.1.1.0 is.1.1.1 is.1.1.2 single.1)) ∙ single.2))
   step_begun p deepest least x (suc l) u v more t e is = allowed_also p deepest least x u v (suc l) e (let single = is.1.3 in operator_rank p v (suc l) is.0.0 (ap (λ (w : Token). at_level (suc l) (operator_in p w)) (sym (first_of v single.0 more is.1.0 is.1.1 is.1.2 single.1)) ∙ single.2))
 
   -- ---- operands
 
-  module _ (at : Rule Expression) (ia : IsIndex at) (p : Place) where
+  module _ (at : Rule Expression) (ia : IsIndex at) (p : GrammarPlace) where
     abbrev pub from_scoped : Rule Expression
     from_scoped = either (of_kind kinds.Scoped scoped) any_literal
 
@@ -559,7 +559,7 @@ unfolding atom
 atom_ends t e = rw e refl
 
 abbrev pub AllLawful : ℕ → Type 0
-AllLawful d = (p : Place) (l : ℕ) → Lawful (expression_within d p l)
+AllLawful d = (p : GrammarPlace) (l : ℕ) → Lawful (expression_within d p l)
 
 never_closes : (t : Token) → (mark m.RightParen).starts t ≡ true → ((one_token {X = Expression} never).starts t ≡ false) × ((one_token {X = Expression} never).goes_on t ≡ false)
 never_closes t e = (refl, refl)
@@ -590,7 +590,7 @@ pub laws : (d : ℕ) → AllLawful d × IsIndex (element_index d)
 laws zero = (first-lawful, first-index)
 laws (suc d) = let h = laws d in (next-lawful d h.0 h.1, next-index d h.0)
 
-pub within-lawful : (d : ℕ) (p : Place) (l : ℕ) → Lawful (expression_within d p l)
+pub within-lawful : (d : ℕ) (p : GrammarPlace) (l : ℕ) → Lawful (expression_within d p l)
 within-lawful d = (laws d).0
 
 pub expression-lawful : Lawful expression
@@ -613,10 +613,10 @@ angled-lawful = before (mark-lawful m.Less) (after angle_expression-lawful (mark
 
 -- ---- as the loop of the code reads
 
-abbrev pub Remaining : ℕ → Place → ℕ → Expression → List Token → Reading Expression → Type 0
+abbrev pub Remaining : ℕ → GrammarPlace → ℕ → Expression → List Token → Reading Expression → Type 0
 Remaining d p least x ts total = Left (follows p (suc d) least) (λ l. (step (expression_within d) p l).read) put x ts total
 
-module _ (d : ℕ) (p : Place) (least : ℕ) where
+module _ (d : ℕ) (p : GrammarPlace) (least : ℕ) where
   abbrev pub base : Rule Expression
   base = operand (expression_within d) (element_index d) p
 
@@ -644,7 +644,7 @@ module _ (d : ℕ) (p : Place) (least : ℕ) where
   plus : (x : Expression) (ts : List Token) (o : Option ℕ) → next (follows p (d + 1) least) x ts ≡ o → next (follows p (suc d) least) x ts ≡ o
   plus x ts o e = let same : d + 1 ≡ suc d = omega arith in subst (λ (n : ℕ). next (follows p n least) x ts ≡ o) same e
 
-  pub chain_goes_on : (x : Expression) (ts : List Token) (l : ℕ) (t : Step) (after : List Token) (total : Reading Expression) → next (follows p (d + 1) least) x ts ≡ Some l → (step (expression_within d) p l).read ts ≡ Ok (t, after) → Remaining d p least x ts total → Remaining d p least (put x t) after total
+  pub chain_goes_on : (x : Expression) (ts : List Token) (l : ℕ) (t : ChainStep) (after : List Token) (total : Reading Expression) → next (follows p (d + 1) least) x ts ≡ Some l → (step (expression_within d) p l).read ts ≡ Ok (t, after) → Remaining d p least x ts total → Remaining d p least (put x t) after total
   chain_goes_on x ts l t after total e = loop_goes_on base (follows p (suc d) least) (step (expression_within d) p) put (continues p least) base-lawful steps-lawful base-full steps-full x ts l t after total (plus x ts (Some l) e)
 
   pub chain_fails : (e : Refusal) (x : Expression) (ts : List Token) (l : ℕ) (total : Reading Expression) → next (follows p (d + 1) least) x ts ≡ Some l → Fails e ((step (expression_within d) p l).read ts) → Remaining d p least x ts total → Fails e total
@@ -653,14 +653,14 @@ module _ (d : ℕ) (p : Place) (least : ℕ) where
   pub chain_ends : (x : Expression) (ts : List Token) (total : Reading Expression) → next (follows p (d + 1) least) x ts ≡ None → Remaining d p least x ts total → total ≡ Ok (x, ts)
   chain_ends x ts total e = loop_ends base (follows p (suc d) least) (step (expression_within d) p) put (continues p least) base-lawful steps-lawful base-full steps-full x ts total (plus x ts None e)
 
-  pub chain_shorter : (ts : List Token) (l : ℕ) (t : Step) (after : List Token) → (step (expression_within d) p l).read ts ≡ Ok (t, after) → length after < length ts
+  pub chain_shorter : (ts : List Token) (l : ℕ) (t : ChainStep) (after : List Token) → (step (expression_within d) p l).read ts ≡ Ok (t, after) → length after < length ts
   chain_shorter ts l t after e = shorter (step (expression_within d) p l) (steps-lawful l) (steps-full l) ts t after e
 
-pub within-step : (d : ℕ) (p : Place) (least : ℕ) → 0 < d → expression_within d p least ≡ expression_within (suc (d - 1)) p least
+pub within-step : (d : ℕ) (p : GrammarPlace) (least : ℕ) → 0 < d → expression_within d p least ≡ expression_within (suc (d - 1)) p least
 within-step zero p least h = absurd (omega (arith, h))
 within-step (suc d) p least h = let e : suc d - 1 ≡ d = omega arith in ap (λ (n : ℕ). expression_within (suc n) p least) (sym e)
 
-pub within-none : (d : ℕ) (p : Place) (least : ℕ) (ts : List Token) → d ≡ 0 → (expression_within d p least).read ts ≡ atom.read ts
+pub within-none : (d : ℕ) (p : GrammarPlace) (least : ℕ) (ts : List Token) → d ≡ 0 → (expression_within d p least).read ts ≡ atom.read ts
 unfolding deep
 within-none zero p least ts h = refl
 within-none (suc d) p least ts h = absurd (omega (arith, h))
@@ -676,10 +676,10 @@ index-none zero [] h = refl
 index-none zero (t ∷ ts) h = refl
 index-none (suc d) ts h = absurd (omega (arith, h))
 
-pub step-zero : (d : ℕ) (p : Place) (l : ℕ) → l ≡ 0 → step (expression_within d) p l ≡ conditional_step (expression_within d) p
+pub step-zero : (d : ℕ) (p : GrammarPlace) (l : ℕ) → l ≡ 0 → step (expression_within d) p l ≡ conditional_step (expression_within d) p
 step-zero d p zero h = refl
 step-zero d p (suc l) h = absurd (omega (arith, h))
 
-pub step-more : (d : ℕ) (p : Place) (l : ℕ) → 0 < l → step (expression_within d) p l ≡ binary_step (expression_within d) p l
+pub step-more : (d : ℕ) (p : GrammarPlace) (l : ℕ) → 0 < l → step (expression_within d) p l ≡ binary_step (expression_within d) p l
 step-more d p zero h = absurd (omega (arith, h))
 step-more d p (suc l) h = refl

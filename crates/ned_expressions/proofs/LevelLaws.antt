@@ -13,7 +13,7 @@ use denote.Hole.Carrier.{out}
 use Rattle.ned_trees.specs.declared.expressions.Expression.TheVariants as expr
 use Rattle.ned_trees.specs.declared.expressions.Operator.{Operator}
 use Rattle.ned_trees.specs.declared.expressions.Operator.TheVariants as op
-use Rattle.ned_expressions.specs.declared.levels.Place.{Place}
+use Rattle.ned_expressions.specs.declared.levels.GrammarPlace.{GrammarPlace}
 use Rattle.ned_expressions.specs.Grammar.{operator_of, operator_in, level_of, level_in, left_level, right_level, rank, at_level, tightness, may, filtered, depth, or_level, follows, is_tail, reaches, continues}
 
 -- ---- operators and their levels
@@ -22,7 +22,7 @@ op_small : (o : Operator) → level_of o < 12
 op_small op.Or = omega arith
 op_small _ = omega arith
 
-pub rank_small : (p : Place) (t : Token) (l : ℕ) → rank p t ≡ Some l → l < 12
+pub rank_small : (p : GrammarPlace) (t : Token) (l : ℕ) → rank p t ≡ Some l → l < 12
 rank_small p t l e = go (is_mark m.Question t) (operator_in p t) e
   where
     within : (o : Option Operator) → level_in o ≡ Some l → l < 12
@@ -46,7 +46,7 @@ tail_no_operator (token.Mark _) e = absurd (false≢true e)
 tail_no_operator _ e = absurd (false≢true e)
 
 -- what may stand after a name is no operator
-pub rank_no_tail : (p : Place) (t : Token) (l : ℕ) → rank p t ≡ Some l → is_tail t ≡ false
+pub rank_no_tail : (p : GrammarPlace) (t : Token) (l : ℕ) → rank p t ≡ Some l → is_tail t ≡ false
 rank_no_tail p t l e = go (is_tail t) refl
   where
     go : (b : Bool) → is_tail t ≡ b → b ≡ false
@@ -63,17 +63,17 @@ at_rank l (Some o) found e = go (level_of o == l) refl e
     go false h e = absurd cc
     go true h e = let same : o ≡ found = cc in (ap Some same, ap level_of (sym same) ∙ eqb-true (level_of o) l h)
 
-no_question : (p : Place) (t : Token) (o : Operator) → operator_in p t ≡ Some o → is_mark m.Question t ≡ None
+no_question : (p : GrammarPlace) (t : Token) (o : Operator) → operator_in p t ≡ Some o → is_mark m.Question t ≡ None
 no_question p (token.Mark m.Question) o e = absurd cc
 no_question p (token.Mark _) o e = refl
 no_question p _ o e = refl
 
-pub operator_rank : (p : Place) (t : Token) (l : ℕ) (o : Operator) → at_level l (operator_in p t) ≡ Some o → rank p t ≡ Some l
+pub operator_rank : (p : GrammarPlace) (t : Token) (l : ℕ) (o : Operator) → at_level l (operator_in p t) ≡ Some o → rank p t ≡ Some l
 operator_rank p t l o e =
     let found = at_rank l (operator_in p t) o e in
     ap (λ (q : Option (Unit {0})). or_level q (level_in (operator_in p t))) (no_question p t o found.0) ∙ ap level_in found.0 ∙ ap Some found.1
 
-pub question_rank : (p : Place) (t : Token) → is_mark m.Question t ≡ Some tt → rank p t ≡ Some 0
+pub question_rank : (p : GrammarPlace) (t : Token) → is_mark m.Question t ≡ Some tt → rank p t ≡ Some 0
 question_rank p t e = ap (λ (q : Option (Unit {0})). or_level q (level_in (operator_in p t))) e
 
 pub tight_binary : (o : Operator) (a b : Expression) → tightness (expr.Binary o a b) ≡ level_of o
@@ -108,13 +108,13 @@ pub and_second : (a b : Bool) → a && b ≡ true → b ≡ true
 and_second true b e = e
 and_second false b e = absurd (false≢true e)
 
-pub record Allowed (p : Place) (deepest least : ℕ) (x : Expression) (t : Token) (l : ℕ) : Type 0 where
+pub record Allowed (p : GrammarPlace) (deepest least : ℕ) (x : Expression) (t : Token) (l : ℕ) : Type 0 where
   pub ranked : rank p t ≡ Some l
   pub above : least ≤ l
   pub fits : left_level l ≤ tightness x
   pub allowed : may deepest least x l ≡ true
 
-pub allowed_by : (p : Place) (deepest least : ℕ) (x : Expression) (t : Token) (l : ℕ) → follows p deepest least x t ≡ Some l → Allowed p deepest least x t l
+pub allowed_by : (p : GrammarPlace) (deepest least : ℕ) (x : Expression) (t : Token) (l : ℕ) → follows p deepest least x t ≡ Some l → Allowed p deepest least x t l
 allowed_by p deepest least x t l e = go (rank p t) refl e
   where
     made_of : (j : ℕ) → rank p t ≡ Some j → (b : Bool) → may deepest least x j ≡ b → cond b (Some j) None ≡ Some l → Allowed p deepest least x t l
@@ -134,10 +134,10 @@ allowed_by p deepest least x t l e = go (rank p t) refl e
     go (Some j) er e = made_of j er (may deepest least x j) refl e
 
 -- a token of the same level may stand there too
-pub allowed_also : (p : Place) (deepest least : ℕ) (x : Expression) (u v : Token) (l : ℕ) → follows p deepest least x u ≡ Some l → rank p v ≡ Some l → follows p deepest least x v ≡ Some l
+pub allowed_also : (p : GrammarPlace) (deepest least : ℕ) (x : Expression) (u v : Token) (l : ℕ) → follows p deepest least x u ≡ Some l → rank p v ≡ Some l → follows p deepest least x v ≡ Some l
 allowed_also p deepest least x u v l e er = let a = allowed_by p deepest least x u l e in ap (filtered (may deepest least x)) er ∙ ap (λ (b : Bool). cond b (Some l) None) a.allowed
 
-pub ends_all : (p : Place) (deepest least : ℕ) (x : Expression) (u : Token) → continues p least u ≡ false → follows p deepest least x u ≡ None
+pub ends_all : (p : GrammarPlace) (deepest least : ℕ) (x : Expression) (u : Token) → continues p least u ≡ false → follows p deepest least x u ≡ None
 ends_all p deepest least x u e = go (rank p u) refl (or_right (is_tail u) (reaches least (rank p u)) e)
   where
     go : (o : Option ℕ) → rank p u ≡ o → reaches least o ≡ false → filtered (may deepest least x) o ≡ None
@@ -153,15 +153,15 @@ reaches_down least k (Some l) h e = go (nat_le k l) refl
     go false eb = refl
     go true eb = let yes : nat_le least l ≡ true = le-leb least l (omega (arith, h, leb-true k l eb)) in absurd cc
 
-pub continues_up : (p : Place) (least k : ℕ) (u : Token) → least ≤ k → continues p least u ≡ false → continues p k u ≡ false
+pub continues_up : (p : GrammarPlace) (least k : ℕ) (u : Token) → least ≤ k → continues p least u ≡ false → continues p k u ≡ false
 continues_up p least k u h e = rw (or_left (is_tail u) (reaches least (rank p u)) e, reaches_down least k (rank p u) h (or_right (is_tail u) (reaches least (rank p u)) e)) refl
 
 -- an operator that binds looser ends what stands before it
-pub ends_before : (p : Place) (k : ℕ) (u : Token) (m : ℕ) → rank p u ≡ Some m → m < k → continues p k u ≡ false
+pub ends_before : (p : GrammarPlace) (k : ℕ) (u : Token) (m : ℕ) → rank p u ≡ Some m → m < k → continues p k u ≡ false
 ends_before p k u m er h = rw (rank_no_tail p u m er, er) (le_false k m h)
 
 -- no operator is as tight as an operand
-pub continues_last : (p : Place) (u : Token) → is_tail u ≡ false → continues p 12 u ≡ false
+pub continues_last : (p : GrammarPlace) (u : Token) → is_tail u ≡ false → continues p 12 u ≡ false
 continues_last p u e = rw e (go (rank p u) refl)
   where
     go : (o : Option ℕ) → rank p u ≡ o → reaches 12 o ≡ false
@@ -187,10 +187,10 @@ right_above l = go (l == 11) refl
     go true e = omega (arith, eqb-true l 11 e)
     go false e = omega arith
 
-pub next_small : (p : Place) (deepest least : ℕ) (x : Expression) (ts : List Token) (l : ℕ) → next (follows p deepest least) x ts ≡ Some l → l < 12
+pub next_small : (p : GrammarPlace) (deepest least : ℕ) (x : Expression) (ts : List Token) (l : ℕ) → next (follows p deepest least) x ts ≡ Some l → l < 12
 next_small p deepest least x [] l e = absurd cc
 next_small p deepest least x (u ∷ ts) l e = rank_small p u l (allowed_by p deepest least x u l e).ranked
 
-pub next_above : (p : Place) (deepest least : ℕ) (x : Expression) (f : List Token) (l : ℕ) → next (follows p deepest least) x f ≡ Some l → least ≤ right_level l
+pub next_above : (p : GrammarPlace) (deepest least : ℕ) (x : Expression) (f : List Token) (l : ℕ) → next (follows p deepest least) x f ≡ Some l → least ≤ right_level l
 next_above p deepest least x [] l e = absurd cc
 next_above p deepest least x (u ∷ f) l e = omega (arith, (allowed_by p deepest least x u l e).above, right_above l)

@@ -30,9 +30,9 @@ use Rattle.ned_trees.specs.declared.expressions.Scope.{Scope}
 use Rattle.ned_trees.specs.declared.expressions.Scope.TheVariants as scopes
 use Rattle.ned_trees.specs.declared.expressions.Choice.{Choice}
 use Rattle.ned_trees.specs.declared.expressions.Choice.TheVariants as choices
-use Rattle.ned_expressions.specs.declared.levels.Place.{Place}
-use Rattle.ned_expressions.specs.declared.levels.Place.TheVariants as place
-use Rattle.ned_expressions.specs.declared.chains.Step.{Step}
+use Rattle.ned_expressions.specs.declared.levels.GrammarPlace.{GrammarPlace}
+use Rattle.ned_expressions.specs.declared.levels.GrammarPlace.TheVariants as place
+use Rattle.ned_expressions.specs.declared.chains.ChainStep.{ChainStep}
 use Rattle.ned_expressions.specs.declared.atoms.Tail.{Tail}
 use Rattle.ned_expressions.specs.declared.operands.ChoiceTail.{ChoiceTail}
 use Rattle.ned_expressions.specs.Grammar.{operator_of, operator_in, standing, right_level, stands, operator, depth, literal, scope_of, scoped, brackets, member, element, tail, pair, choice_tail, choice_named, choice_of, choice_text, unless_choice, plain_name_of, with_tail, with_choice_tail, flat_named, named, chosen, no_arguments, index_or_call, flat_index, index, parent_index, size_of, exists_or_at, exists_rule, group, sign_of, signed, operand, atom, conditional_step, binary_step, step, put, follows, deep, element_index, expression_within, max_depth, expression}
@@ -103,7 +103,7 @@ operator_said (token.Mark m.Caret) o e = let same : op.Power ≡ o = cc in ap (�
 operator_said (token.Mark _) o e = absurd cc
 operator_said _ o e = absurd cc
 
-standing_said : (p : Place) (q : Option Operator) (o : Operator) → standing p q ≡ Some o → q ≡ Some o
+standing_said : (p : GrammarPlace) (q : Option Operator) (o : Operator) → standing p q ≡ Some o → q ≡ Some o
 standing_said p None o e = absurd cc
 standing_said p (Some x) o e = go (stands p x) e
   where
@@ -371,8 +371,8 @@ choice_at _ c e = absurd cc
 
 -- ---- with parts
 
-module _ (d : ℕ) (ih : (p : Place) (l : ℕ) (ts : List Token) (e : Expression) → (expression_within d p l).Is ts e → Faithful d ts e) where
-  element_faithful : (p : Place) (x : List ℕ) (ts : List Token) (t : Tail) → (element (expression_within d p 0)).Is ts t → Faithful (suc d) (token.Name x ∷ ts) (with_tail x (Some t))
+module _ (d : ℕ) (ih : (p : GrammarPlace) (l : ℕ) (ts : List Token) (e : Expression) → (expression_within d p l).Is ts e → Faithful d ts e) where
+  element_faithful : (p : GrammarPlace) (x : List ℕ) (ts : List Token) (t : Tail) → (element (expression_within d p 0)).Is ts t → Faithful (suc d) (token.Name x ∷ ts) (with_tail x (Some t))
   unfolding element
   element_faithful p x ts t is =
       let e = is.0.0 in
@@ -393,12 +393,12 @@ module _ (d : ℕ) (ih : (p : Place) (l : ℕ) (ts : List Token) (e : Expression
         shallow = omega (arith, depth_element x e y, f.shallow);
       })
 
-  tail_faithful : (p : Place) (x : List ℕ) (ts : List Token) (t : Tail) → (tail (expression_within d p 0)).Is ts t → Faithful (suc d) (token.Name x ∷ ts) (with_tail x (Some t))
+  tail_faithful : (p : GrammarPlace) (x : List ℕ) (ts : List Token) (t : Tail) → (tail (expression_within d p 0)).Is ts t → Faithful (suc d) (token.Name x ∷ ts) (with_tail x (Some t))
   unfolding tail
   tail_faithful p x ts t (inl is) = deeper (suc d) (token.Name x ∷ ts) (with_tail x (Some t)) (member_faithful x ts t is)
   tail_faithful p x ts t (inr is) = element_faithful p x ts t is
 
-  named_faithful : (p : Place) (ts : List Token) (e : Expression) → (named (expression_within d) p).Is ts e → Faithful (suc d) ts e
+  named_faithful : (p : GrammarPlace) (ts : List Token) (e : Expression) → (named (expression_within d) p).Is ts e → Faithful (suc d) ts e
   unfolding named
   named_faithful p ts e is =
       let x = is.0.0 in
@@ -435,7 +435,7 @@ module _ (d : ℕ) (ih : (p : Place) (l : ℕ) (ts : List Token) (e : Expression
         shallow = omega (arith, depth_chosen c one other, f.shallow, g.shallow);
       })
 
-  chosen_faithful : (p : Place) (ts : List Token) (e : Expression) → (chosen (expression_within d) p).Is ts e → Faithful (suc d) ts e
+  chosen_faithful : (p : GrammarPlace) (ts : List Token) (e : Expression) → (chosen (expression_within d) p).Is ts e → Faithful (suc d) ts e
   unfolding chosen choice_tail
   chosen_faithful p ts e is =
       let c = is.0.0 in
@@ -461,7 +461,7 @@ module _ (d : ℕ) (ih : (p : Place) (l : ℕ) (ts : List Token) (e : Expression
         shallow = omega (arith, depth_group is.0, f.shallow);
       })
 
-  signed_faithful : (p : Place) (ts : List Token) (e : Expression) → (signed (expression_within d) p).Is ts e → Faithful (suc d) ts e
+  signed_faithful : (p : GrammarPlace) (ts : List Token) (e : Expression) → (signed (expression_within d) p).Is ts e → Faithful (suc d) ts e
   unfolding signed
   signed_faithful p ts e is =
       let s = is.0.0 in
@@ -476,7 +476,7 @@ module _ (d : ℕ) (ih : (p : Place) (l : ℕ) (ts : List Token) (e : Expression
 
   -- ---- a step after x
 
-  step_faithful : (p : Place) (x : Expression) (front : List Token) (l : ℕ) (f : List Token) (t : Step) → front ≡ expression_tokens x → depth x ≤ d → (step (expression_within d) p l).Is f t → Faithful (suc d) (front ++ f) (put x t)
+  step_faithful : (p : GrammarPlace) (x : Expression) (front : List Token) (l : ℕ) (f : List Token) (t : ChainStep) → front ≡ expression_tokens x → depth x ≤ d → (step (expression_within d) p l).Is f t → Faithful (suc d) (front ++ f) (put x t)
   unfolding conditional_step binary_step operator
   step_faithful p x front zero f t e h is =
       let a = is.0.0 in
@@ -486,7 +486,7 @@ module _ (d : ℕ) (ih : (p : Place) (l : ℕ) (ts : List Token) (e : Expression
       let r = after_mark m.Colon (expression_within d p 1) both.1 b both.4 in
       let fa = ih p 0 both.0 a both.3 in
       let fb = ih p 1 r.0 b r.2 in
-      subst (λ (z : Step). Faithful (suc d) (front ++ f) (put x z)) (sym is.2)
+      subst (λ (z : ChainStep). Faithful (suc d) (front ++ f) (put x z)) (sym is.2)
       (record {
         tokens =
             ap (λ (l : List Token). l ++ f) e
@@ -504,7 +504,7 @@ module _ (d : ℕ) (ih : (p : Place) (l : ℕ) (ts : List Token) (e : Expression
       let found = (at_rank (suc l) (operator_in p both.3.0) o both.3.2).0 in
       let first : both.0 ≡ token.Mark (operator_mark o) ∷ [] = both.3.1 ∙ ap (λ (t : Token). t ∷ []) (operator_said both.3.0 o (standing_said p (operator_of both.3.0) o found)) in
       let fb = ih p (right_level (suc l)) both.1 b both.4 in
-      subst (λ (z : Step). Faithful (suc d) (front ++ f) (put x z)) (sym is.2)
+      subst (λ (z : ChainStep). Faithful (suc d) (front ++ f) (put x z)) (sym is.2)
       (record {
         tokens =
             ap (λ (l : List Token). l ++ f) e
@@ -513,14 +513,14 @@ module _ (d : ℕ) (ih : (p : Place) (l : ℕ) (ts : List Token) (e : Expression
         shallow = omega (arith, depth_binary o x b, h, fb.shallow);
       })
 
-  next_shallow : (p : Place) (least : ℕ) (x : Expression) (f : List Token) (l : ℕ) → next (follows p (suc d) least) x f ≡ Some l → depth x ≤ d
+  next_shallow : (p : GrammarPlace) (least : ℕ) (x : Expression) (f : List Token) (l : ℕ) → next (follows p (suc d) least) x f ≡ Some l → depth x ≤ d
   next_shallow p least x [] l e = absurd cc
   next_shallow p least x (u ∷ f) l e =
       let a = allowed_by p (suc d) least x u l e in
       let h : nat_lt (depth x) (suc d) ≡ true = and_second _ (nat_lt (depth x) (suc d)) (and_second (nat_le least l) _ a.allowed) in
       omega (arith, leb-true (suc (depth x)) (suc d) h)
 
-  steps_faithful : (p : Place) (least : ℕ) (ps : List (ℕ × Step)) (x : Expression) (front ts : List Token) (y : Expression) → Faithful (suc d) front x → grown_is (follows p (suc d) least) (λ l. (step (expression_within d) p l).Is) put x ps ts y → Faithful (suc d) (front ++ ts) y
+  steps_faithful : (p : GrammarPlace) (least : ℕ) (ps : List (ℕ × ChainStep)) (x : Expression) (front ts : List Token) (y : Expression) → Faithful (suc d) front x → grown_is (follows p (suc d) least) (λ l. (step (expression_within d) p l).Is) put x ps ts y → Faithful (suc d) (front ++ ts) y
   steps_faithful p least [] x front ts y f is = subst (λ (z : Expression). Faithful (suc d) (front ++ ts) z) (sym is.1) (subst (λ (l : List Token). Faithful (suc d) l x) (sym (ap (λ (l : List Token). front ++ l) is.0 ∙ append-nil front)) f)
   steps_faithful p least (q ∷ ps) x front ts y f is =
       let g = step_faithful p x front q.0 is.0 q.1 f.tokens (next_shallow p least x is.0 q.0 is.3) is.4 in
@@ -528,7 +528,7 @@ module _ (d : ℕ) (ih : (p : Place) (l : ℕ) (ts : List Token) (e : Expression
       subst (λ (l : List Token). Faithful (suc d) l y) (append_assoc front is.0 is.1 ∙ ap (λ (l : List Token). front ++ l) (sym is.2)) h
 
   module _ (at : (ts : List Token) (e : Expression) → (element_index d).Is ts e → IndexSaid d ts e) where
-    operand_faithful : (p : Place) (ts : List Token) (e : Expression) → (operand (expression_within d) (element_index d) p).Is ts e → Faithful (suc d) ts e
+    operand_faithful : (p : GrammarPlace) (ts : List Token) (e : Expression) → (operand (expression_within d) (element_index d) p).Is ts e → Faithful (suc d) ts e
     unfolding operand
     operand_faithful p ts e (inl is) = group_faithful ts e is
     operand_faithful p ts e (inr (inl is)) = signed_faithful p ts e is
@@ -541,7 +541,7 @@ module _ (d : ℕ) (ih : (p : Place) (l : ℕ) (ts : List Token) (e : Expression
     operand_faithful p ts e (inr (inr (inr (inr (inr (inr (inr (inr (inl is))))))))) = deeper (suc d) ts e (scoped_faithful ts e is)
     operand_faithful p ts e (inr (inr (inr (inr (inr (inr (inr (inr (inr is))))))))) = deeper (suc d) ts e (literal_faithful ts e is)
 
-    next_faithful : (p : Place) (l : ℕ) (ts : List Token) (e : Expression) → (expression_within (suc d) p l).Is ts e → Faithful (suc d) ts e
+    next_faithful : (p : GrammarPlace) (l : ℕ) (ts : List Token) (e : Expression) → (expression_within (suc d) p l).Is ts e → Faithful (suc d) ts e
     unfolding deep
     next_faithful p l ts e is = subst (λ (k : List Token). Faithful (suc d) k e) (sym is.4) (steps_faithful p l is.1 is.0 is.2 is.3 e (operand_faithful p is.2 is.0 is.5) is.6)
 
@@ -555,7 +555,7 @@ module _ (d : ℕ) (ih : (p : Place) (l : ℕ) (ts : List Token) (e : Expression
 -- ---- depth by depth
 
 abbrev AllFaithful : ℕ → Type 0
-AllFaithful d = (p : Place) (l : ℕ) (ts : List Token) (e : Expression) → (expression_within d p l).Is ts e → Faithful d ts e
+AllFaithful d = (p : GrammarPlace) (l : ℕ) (ts : List Token) (e : Expression) → (expression_within d p l).Is ts e → Faithful d ts e
 
 abbrev IndexFaithful : ℕ → Type 0
 IndexFaithful d = (ts : List Token) (e : Expression) → (element_index d).Is ts e → IndexSaid d ts e
@@ -572,7 +572,7 @@ all_faithful : (d : ℕ) → AllFaithful d × IndexFaithful d
 all_faithful zero = (first_faithful, first_index)
 all_faithful (suc d) = let h = all_faithful d in (next_faithful d h.0 h.1, next_index d h.0)
 
-pub within_faithful : (d : ℕ) (p : Place) (l : ℕ) (ts : List Token) (e : Expression) → (expression_within d p l).Is ts e → Faithful d ts e
+pub within_faithful : (d : ℕ) (p : GrammarPlace) (l : ℕ) (ts : List Token) (e : Expression) → (expression_within d p l).Is ts e → Faithful d ts e
 within_faithful d = (all_faithful d).0
 
 -- what a text says is spelled by its own tokens, and shallow

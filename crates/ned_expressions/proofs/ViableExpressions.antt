@@ -20,8 +20,8 @@ use Rattle.ned_trees.specs.declared.expressions.Scope.TheVariants as scopes
 use Rattle.ned_trees.specs.declared.expressions.Sign.TheVariants as signs
 use Rattle.ned_expressions.specs.declared.atoms.Kind.{Kind}
 use Rattle.ned_expressions.specs.declared.atoms.Kind.TheVariants as kinds
-use Rattle.ned_expressions.specs.declared.levels.Place.{Place}
-use Rattle.ned_expressions.specs.declared.levels.Place.TheVariants as place
+use Rattle.ned_expressions.specs.declared.levels.GrammarPlace.{GrammarPlace}
+use Rattle.ned_expressions.specs.declared.levels.GrammarPlace.TheVariants as place
 use Rattle.ned_expressions.specs.declared.operands.ChoiceTail.TheVariants as choice_tails
 use Rattle.ned_expressions.specs.Grammar.{operator_in, level_of, level_in, right_level, or_level, rank, at_level, operator, Inner, is_kind, is_named, is_literal, is_tail, begins_tail, nothing, literal, scope_of, scoped, brackets, member, element, tail, pair, choice_tail, choice_of, plain_name_of, flat_named, named, chosen, no_arguments, flat_index, index, parent_index, size_of, exists_rule, group, sign_of, signed, of_kind, any_literal, operand, atom, conditional_step, binary_step, step, put, follows, begins_expression, continues, deep, element_index, expression_within, max_depth, expression, angle_expression, angled}
 use Rattle.ned_expressions.proofs.LevelLaws.{allowed_by}
@@ -94,7 +94,7 @@ op_of_level l (Some o) e = (o, go (level_of o == l) refl)
     go true h = refl
     go false h = let same : level_of o ≡ l = cc in absurd (eqb-false (level_of o) l h same)
 
-op_of_rank : (p : Place) (u : Token) (l : ℕ) → rank p u ≡ Some (suc l) → (found : Operator) × (at_level (suc l) (operator_in p u) ≡ Some found)
+op_of_rank : (p : GrammarPlace) (u : Token) (l : ℕ) → rank p u ≡ Some (suc l) → (found : Operator) × (at_level (suc l) (operator_in p u) ≡ Some found)
 op_of_rank p u l e = go (is_mark m.Question u) e
   where
     go : (q : Option (Unit {0})) → or_level q (level_in (operator_in p u)) ≡ Some (suc l) → (found : Operator) × (at_level (suc l) (operator_in p u) ≡ Some found)
@@ -103,19 +103,19 @@ op_of_rank p u l e = go (is_mark m.Question u) e
 
 -- ---- operands and steps, a depth down
 
-module _ (d : ℕ) (li : laws.AllLawful d) (vi : (p : Place) (l : ℕ) → Viable (expression_within d p l)) where
+module _ (d : ℕ) (li : laws.AllLawful d) (vi : (p : GrammarPlace) (l : ℕ) → Viable (expression_within d p l)) where
   abbrev inner : Inner
   inner p l = expression_within d p l
 
-  pub brackets_on : (p : Place) → Viable (brackets (expression_within d p 0))
+  pub brackets_on : (p : GrammarPlace) → Viable (brackets (expression_within d p 0))
   unfolding brackets
   brackets_on p = before_on (mark-lawful m.LeftBracket) (mark_on m.LeftBracket refl) (after_on (li p 0) (vi p 0) (mark_on m.RightBracket refl))
 
-  element_on : (p : Place) → Viable (element (expression_within d p 0))
+  element_on : (p : GrammarPlace) → Viable (element (expression_within d p 0))
   unfolding element
   element_on p = mapped_on (then_on (laws.brackets-lawful d li p) (brackets_on p) (before_on (mark-lawful m.Dot) (mark_on m.Dot refl) name_on))
 
-  tail_on : (p : Place) → Viable (tail (expression_within d p 0))
+  tail_on : (p : GrammarPlace) → Viable (tail (expression_within d p 0))
   unfolding tail
   tail_on p = sealed-viable begins_tail nothing (either member (element (expression_within d p 0))) (either-viable member (element (expression_within d p 0)) member_on (element_on p))
 
@@ -126,17 +126,17 @@ module _ (d : ℕ) (li : laws.AllLawful d) (vi : (p : Place) (l : ℕ) → Viabl
       (before_on (mark-lawful m.LeftParen) (mark_on m.LeftParen refl)
       (then_on (li place.Anywhere 0) (vi place.Anywhere 0) (before_on (mark-lawful m.Comma) (mark_on m.Comma refl) (after_on (li place.Anywhere 0) (vi place.Anywhere 0) (mark_on m.RightParen refl)))))
 
-  choice_tail_on : (p : Place) → Viable (choice_tail inner p)
+  choice_tail_on : (p : GrammarPlace) → Viable (choice_tail inner p)
   unfolding choice_tail
   choice_tail_on p =
       sealed-viable is_tail nothing (either (pair (expression_within d place.Anywhere 0)) (made choice_tails.Plain (tail (expression_within d p 0))))
       (either-viable (pair (expression_within d place.Anywhere 0)) (made choice_tails.Plain (tail (expression_within d p 0))) pair_on (mapped_on (tail_on p)))
 
-  named_on : (p : Place) → Viable (named inner p)
+  named_on : (p : GrammarPlace) → Viable (named inner p)
   unfolding named
   named_on p = mapped_on (then_on (token-lawful plain_name_of) (token-viable plain_name_of (token.Name letter) letter refl) (optional-viable (tail (expression_within d p 0)) (tail_on p)))
 
-  chosen_on : (p : Place) → Viable (chosen inner p)
+  chosen_on : (p : GrammarPlace) → Viable (chosen inner p)
   unfolding chosen
   chosen_on p = mapped_on (then_on (token-lawful choice_of) (token-viable choice_of (token.Name (codes "min")) choices.Min refl) (optional-viable (choice_tail inner p) (choice_tail_on p)))
 
@@ -144,25 +144,25 @@ module _ (d : ℕ) (li : laws.AllLawful d) (vi : (p : Place) (l : ℕ) → Viabl
   unfolding group
   group_on = mapped_on (before_on (mark-lawful m.LeftParen) (mark_on m.LeftParen refl) (after_on (li place.Anywhere 0) (vi place.Anywhere 0) (mark_on m.RightParen refl)))
 
-  signed_on : (p : Place) → Viable (signed inner p)
+  signed_on : (p : GrammarPlace) → Viable (signed inner p)
   unfolding signed
   signed_on p = mapped_on (then_on (token-lawful sign_of) (token-viable sign_of (token.Mark m.Minus) signs.Minus refl) (vi p 12))
 
-  conditional_on : (p : Place) → Viable (conditional_step inner p)
+  conditional_on : (p : GrammarPlace) → Viable (conditional_step inner p)
   unfolding conditional_step
   conditional_on p = mapped_on (before_on (mark-lawful m.Question) (mark_on m.Question refl) (then_on (li p 0) (vi p 0) (before_on (mark-lawful m.Colon) (mark_on m.Colon refl) (vi p 1))))
 
-  binary_on : (p : Place) (u : Token) (l : ℕ) → rank p u ≡ Some (suc l) → Viable (binary_step inner p (suc l))
+  binary_on : (p : GrammarPlace) (u : Token) (l : ℕ) → rank p u ≡ Some (suc l) → Viable (binary_step inner p (suc l))
   unfolding binary_step operator
   binary_on p u l e =
       let found = op_of_rank p u l e in
       mapped_on (then_on (token-lawful (λ t. at_level (suc l) (operator_in p t))) (token-viable (λ t. at_level (suc l) (operator_in p t)) u found.0 found.1) (vi p (right_level (suc l))))
 
-  step_on : (p : Place) (u : Token) (l : ℕ) → rank p u ≡ Some l → Viable (step inner p l)
+  step_on : (p : GrammarPlace) (u : Token) (l : ℕ) → rank p u ≡ Some l → Viable (step inner p l)
   step_on p u zero e = conditional_on p
   step_on p u (suc l) e = binary_on p u l e
 
-  module _ (at : laws.IsIndex (element_index d)) (va : Viable (optional (element_index d))) (p : Place) where
+  module _ (at : laws.IsIndex (element_index d)) (va : Viable (optional (element_index d))) (p : GrammarPlace) where
     from_scoped_on : Viable (laws.from_scoped d li (element_index d) at p)
     from_scoped_on = either-viable (of_kind kinds.Scoped scoped) any_literal (of_kind_on kinds.Scoped scoped_on) any_literal_on
 
@@ -201,7 +201,7 @@ module _ (d : ℕ) (li : laws.AllLawful d) (vi : (p : Place) (l : ℕ) → Viabl
 -- ---- depth by depth
 
 abbrev AllOn : ℕ → Type 0
-AllOn d = (p : Place) (l : ℕ) → Viable (expression_within d p l)
+AllOn d = (p : GrammarPlace) (l : ℕ) → Viable (expression_within d p l)
 
 first_on : AllOn zero
 unfolding deep
@@ -219,7 +219,7 @@ all_on : (d : ℕ) → AllOn d × Viable (optional (element_index d))
 all_on zero = (first_on, first_index_on)
 all_on (suc d) = let h = all_on d in let known = laws.laws d in (next_on d known.0 h.0 known.1 h.1, next_index_on d h.0)
 
-pub within_on : (d : ℕ) (p : Place) (l : ℕ) → Viable (expression_within d p l)
+pub within_on : (d : ℕ) (p : GrammarPlace) (l : ℕ) → Viable (expression_within d p l)
 within_on d = (all_on d).0
 
 pub expression_on : Viable expression

@@ -23,10 +23,10 @@ use Rattle.ned_trees.specs.declared.expressions.Scope.TheVariants as scopes
 use Rattle.ned_trees.specs.declared.expressions.Expression.{Expression, out-Expression, fold-Expression}
 use Rattle.ned_trees.specs.declared.expressions.Expression.TheOpen.{Expression-F}
 use Rattle.ned_trees.specs.declared.expressions.Expression.TheVariants as expr
-use Rattle.ned_expressions.specs.declared.levels.Place.{Place}
-use Rattle.ned_expressions.specs.declared.levels.Place.TheVariants as place
-use Rattle.ned_expressions.specs.declared.chains.Step.{Step}
-use Rattle.ned_expressions.specs.declared.chains.Step.TheVariants as steps
+use Rattle.ned_expressions.specs.declared.levels.GrammarPlace.{GrammarPlace}
+use Rattle.ned_expressions.specs.declared.levels.GrammarPlace.TheVariants as place
+use Rattle.ned_expressions.specs.declared.chains.ChainStep.{ChainStep}
+use Rattle.ned_expressions.specs.declared.chains.ChainStep.TheVariants as steps
 use Rattle.ned_expressions.specs.declared.atoms.Kind.{Kind}
 use Rattle.ned_expressions.specs.declared.atoms.Kind.TheVariants as kinds
 use Rattle.ned_expressions.specs.declared.atoms.Tail.{Tail}
@@ -92,15 +92,15 @@ abbrev pub right_level : ℕ → ℕ
 right_level l = if l == 11 then 11 else suc l
 
 -- Between `<` and `>` a comparison stands in parentheses.
-abbrev pub stands : Place → Operator → Bool
+abbrev pub stands : GrammarPlace → Operator → Bool
 stands place.Anywhere o = true
 stands place.Angles o = not (level_of o == 4)
 
-abbrev pub standing : Place → Option Operator → Option Operator
+abbrev pub standing : GrammarPlace → Option Operator → Option Operator
 standing p None = None
 standing p (Some o) = if stands p o then Some o else None
 
-abbrev pub operator_in : Place → Token → Option Operator
+abbrev pub operator_in : GrammarPlace → Token → Option Operator
 operator_in p t = standing p (operator_of t)
 
 abbrev pub level_in : Option Operator → Option ℕ
@@ -112,14 +112,14 @@ or_level None level = level
 or_level (Some u) level = Some 0
 
 -- the level of the operator that a token begins
-abbrev pub rank : Place → Token → Option ℕ
+abbrev pub rank : GrammarPlace → Token → Option ℕ
 rank p t = or_level (is_mark m.Question t) (level_in (operator_in p t))
 
 abbrev pub at_level : ℕ → Option Operator → Option Operator
 at_level l None = None
 at_level l (Some o) = if level_of o == l then Some o else None
 
-unfoldable pub operator : Place → ℕ → Rule Operator
+unfoldable pub operator : GrammarPlace → ℕ → Rule Operator
 operator p l = one_token (λ t. at_level l (operator_in p t))
 
 -- the level of an expression's outermost operator
@@ -158,7 +158,7 @@ depth e = fold-Expression ℕ depth_at e
 -- a part of an expression: where it stands, and the least level of an operator outside its
 -- parentheses
 abbrev pub Inner : Type 1
-Inner = Place → ℕ → Rule Expression
+Inner = GrammarPlace → ℕ → Rule Expression
 
 -- ---- what an operand is, by its first token
 
@@ -247,7 +247,7 @@ unfoldable pub pair : Rule Expression → Rule ChoiceTail
 pair e = made (λ x. choice_tails.Pair x.0 x.1) (mark m.LeftParen ▷ (e ⊗ (mark m.Comma ▷ (e ◁ mark m.RightParen))))
 
 -- what stands after `min` or `max`
-unfoldable pub choice_tail : Inner → Place → Rule ChoiceTail
+unfoldable pub choice_tail : Inner → GrammarPlace → Rule ChoiceTail
 choice_tail inner p = sealed is_tail nothing (either (pair (inner place.Anywhere 0)) (made choice_tails.Plain (tail (inner p 0))))
 
 abbrev pub choice_of : Token → Option Choice
@@ -281,11 +281,11 @@ unfoldable pub flat_named : Rule Expression
 flat_named = made (λ x. with_tail x.0 x.1) (name ⊗ optional member)
 
 -- name [tail], where the name is neither `min` nor `max`
-unfoldable pub named : Inner → Place → Rule Expression
+unfoldable pub named : Inner → GrammarPlace → Rule Expression
 named inner p = made (λ x. with_tail x.0 x.1) (one_token plain_name_of ⊗ optional (tail (inner p 0)))
 
 -- ("min" | "max") [choice_tail]
-unfoldable pub chosen : Inner → Place → Rule Expression
+unfoldable pub chosen : Inner → GrammarPlace → Rule Expression
 chosen inner p = made (λ x. with_choice_tail x.0 x.1) (one_token choice_of ⊗ optional (choice_tail inner p))
 
 -- "(" ")"
@@ -331,7 +331,7 @@ sign_of (token.Mark m.Tilde) = Some signs.Complement
 sign_of _ = None
 
 -- ("-" | "!" | "~") operand
-unfoldable pub signed : Inner → Place → Rule Expression
+unfoldable pub signed : Inner → GrammarPlace → Rule Expression
 signed inner p = made (λ x. expr.Signed x.0 x.1) (one_token sign_of ⊗ inner p 12)
 
 -- an operand of a kind
@@ -343,7 +343,7 @@ any_literal = sealed is_literal is_tail literal
 
 -- group | signed | index | parent_index | size_of | exists | chosen | named | scoped | literal: all
 -- that is no operator between operands
-unfoldable pub operand : Inner → Rule Expression → Place → Rule Expression
+unfoldable pub operand : Inner → Rule Expression → GrammarPlace → Rule Expression
 operand inner at p =
     either (of_kind kinds.Group (group inner))
     (either (of_kind kinds.Signed (signed inner p))
@@ -363,18 +363,18 @@ atom = either (of_kind kinds.Index flat_index) (either (sealed is_named is_tail 
 -- ---- operators between operands
 
 -- "?" expression ":" expression
-unfoldable pub conditional_step : Inner → Place → Rule Step
+unfoldable pub conditional_step : Inner → GrammarPlace → Rule ChainStep
 conditional_step inner p = made (λ x. steps.Conditional x.0 x.1) (mark m.Question ▷ (inner p 0 ⊗ (mark m.Colon ▷ inner p 1)))
 
 -- operator expression
-unfoldable pub binary_step : Inner → Place → ℕ → Rule Step
+unfoldable pub binary_step : Inner → GrammarPlace → ℕ → Rule ChainStep
 binary_step inner p l = made (λ x. steps.Binary x.0 x.1) (operator p l ⊗ inner p (right_level l))
 
-abbrev pub step : Inner → Place → ℕ → Rule Step
+abbrev pub step : Inner → GrammarPlace → ℕ → Rule ChainStep
 step inner p zero = conditional_step inner p
 step inner p (suc l) = binary_step inner p (suc l)
 
-abbrev pub put : Expression → Step → Expression
+abbrev pub put : Expression → ChainStep → Expression
 put e (steps.Binary o b) = expr.Binary o e b
 put e (steps.Conditional a b) = expr.Conditional e a b
 
@@ -387,7 +387,7 @@ abbrev pub filtered : (ℕ → Bool) → Option ℕ → Option ℕ
 filtered p None = None
 filtered p (Some l) = if p l then Some l else None
 
-abbrev pub follows : Place → ℕ → ℕ → Expression → Token → Option ℕ
+abbrev pub follows : GrammarPlace → ℕ → ℕ → Expression → Token → Option ℕ
 follows p deepest least e t = filtered (may deepest least e) (rank p t)
 
 -- ---- an expression
@@ -419,12 +419,12 @@ reaches least None = false
 reaches least (Some l) = nat_le least l
 
 -- a token with which an expression may go on
-abbrev pub continues : Place → ℕ → Token → Bool
+abbrev pub continues : GrammarPlace → ℕ → Token → Bool
 continues p least t = is_tail t || reaches least (rank p t)
 
 -- an expression at most this deep, that has no looser operator than `least` outside parentheses
 unfoldable mutual
-  pub deep : ℕ → Place → ℕ → Rule Expression
+  pub deep : ℕ → GrammarPlace → ℕ → Rule Expression
   deep zero p least = atom
   deep (suc d) p least =
       let inner : Inner = λ q l. sealed begins_expression (continues q l) (deep d q l) in
@@ -435,7 +435,7 @@ unfoldable mutual
   element_index zero = one_token never
   element_index (suc d) = brackets (sealed begins_expression (continues place.Anywhere 0) (deep d place.Anywhere 0))
 
-abbrev pub expression_within : ℕ → Place → ℕ → Rule Expression
+abbrev pub expression_within : ℕ → GrammarPlace → ℕ → Rule Expression
 expression_within d p least = sealed begins_expression (continues p least) (deep d p least)
 
 abbrev pub max_depth : ℕ

@@ -5,7 +5,7 @@ ghost use Rattle.ned_tokens.specs.Rule.{Gives, Reads, all_read};
 ghost use Rattle.ned_expressions.specs.Grammar as grammar;
 
 use crate::atoms::atom;
-use crate::levels::{Place, level_of, next_level, operator_in, right_level};
+use crate::levels::{GrammarPlace, level_of, next_level, operator_in, right_level};
 use crate::operands::operand;
 use ned_leaves::leaves::mark;
 use ned_tokens::refusal::Refusal;
@@ -19,23 +19,23 @@ const MAX_DEPTH: u32 = 64;
 
 /// What stands after an operand: an operator and its right operand, or `? a : b`.
 #[derive(Drop)]
-pub(crate) enum Step {
+pub(crate) enum ChainStep {
     Binary(Operator, Boxed<Expression>),
     Conditional(Boxed<Expression>, Boxed<Expression>),
 }
 
 /// The expression that a step makes of what stands before it, in a box.
-fn joined(left: Boxed<Expression>, step: Step) -> Expression
+fn joined(left: Boxed<Expression>, step: ChainStep) -> Expression
     ensures { result ≡ grammar.put left step }
 {
     match step {
-        Step::Binary(operator, right) => Expression::Binary(operator, left, right),
-        Step::Conditional(a, b) => Expression::Conditional(left, a, b),
+        ChainStep::Binary(operator, right) => Expression::Binary(operator, left, right),
+        ChainStep::Conditional(a, b) => Expression::Conditional(left, a, b),
     }
 }
 
 /// The expression that a step makes of what stands before it.
-fn put(alloc: Global, left: Expression, step: Step) -> Result<Expression, AllocError>
+fn put(alloc: Global, left: Expression, step: ChainStep) -> Result<Expression, AllocError>
     ensures { IfOk result (λ e. e ≡ grammar.put left step) }
 {
     let left = Boxed::new(alloc, left)?;
@@ -43,7 +43,7 @@ fn put(alloc: Global, left: Expression, step: Step) -> Result<Expression, AllocE
 }
 
 /// The operator of this level that a token is at this place.
-fn at_level(level: u32, place: Place, token: &Token) -> Option<Operator>
+fn at_level(level: u32, place: GrammarPlace, token: &Token) -> Option<Operator>
     ensures { result ≡ grammar.at_level level (grammar.operator_in place token.now) }
 {
     let operator = operator_in(place, token)?;
@@ -56,7 +56,11 @@ fn at_level(level: u32, place: Place, token: &Token) -> Option<Operator>
 
 /// `operator`: one of this level that may stand at this place.
 #[tactic(auto, unfolding(crate::specs::Grammar::operator))]
-fn operator(place: Place, level: u32, tokens: &[Token]) -> Result<(Operator, &[Token]), Refusal>
+fn operator(
+    place: GrammarPlace,
+    level: u32,
+    tokens: &[Token],
+) -> Result<(Operator, &[Token]), Refusal>
     ensures { Reads (grammar.operator place level) tokens.now result }
 {
     let [token, rest @ ..] = tokens else {
@@ -74,9 +78,9 @@ fn operator(place: Place, level: u32, tokens: &[Token]) -> Result<(Operator, &[T
 fn conditional_step(
     alloc: Global,
     depth: u32,
-    place: Place,
+    place: GrammarPlace,
     tokens: &[Token],
-) -> Result<(Step, &[Token]), Refusal>
+) -> Result<(ChainStep, &[Token]), Refusal>
     requires { depth < 64 }
     ensures { Reads (grammar.conditional_step (grammar.expression_within depth) place) tokens.now result }
 {
@@ -84,7 +88,7 @@ fn conditional_step(
     let (a, rest) = read!(boxed_within(alloc, depth, place, 0, rest));
     let rest = read_behind!(a, mark(Mark::Colon, rest));
     let (b, rest) = read_behind!(a, boxed_within(alloc, depth, place, 1, rest));
-    Ok((Step::Conditional(a, b), rest))
+    Ok((ChainStep::Conditional(a, b), rest))
 }
 
 /// `binary_step = operator expression`.
@@ -93,17 +97,17 @@ fn conditional_step(
 fn binary_step(
     alloc: Global,
     depth: u32,
-    place: Place,
+    place: GrammarPlace,
     level: u32,
     tokens: &[Token],
-) -> Result<(Step, &[Token]), Refusal>
+) -> Result<(ChainStep, &[Token]), Refusal>
     requires shallow { depth < 64 }
     requires known { level < 12 }
     ensures { Reads (grammar.binary_step (grammar.expression_within depth) place level) tokens.now result }
 {
     let (operator, rest) = read!(operator(place, level, tokens));
     let (right, rest) = read!(boxed_within(alloc, depth, place, right_level(level), rest));
-    Ok((Step::Binary(operator, right), rest))
+    Ok((ChainStep::Binary(operator, right), rest))
 }
 
 /// `step = conditional_step | binary_step`.
@@ -111,10 +115,10 @@ fn binary_step(
 fn next_step(
     alloc: Global,
     depth: u32,
-    place: Place,
+    place: GrammarPlace,
     level: u32,
     tokens: &[Token],
-) -> Result<(Step, &[Token]), Refusal>
+) -> Result<(ChainStep, &[Token]), Refusal>
     requires shallow { depth < 64 }
     requires known { level < 12 }
     ensures { Reads (grammar.step (grammar.expression_within depth) place level) tokens.now result }
@@ -132,7 +136,7 @@ fn next_step(
 fn chain(
     alloc: Global,
     depth: u32,
-    place: Place,
+    place: GrammarPlace,
     least: u32,
     tokens: &[Token],
 ) -> Result<(Expression, &[Token]), Refusal>
@@ -153,7 +157,7 @@ fn chain(
 pub(crate) fn within(
     alloc: Global,
     depth: u32,
-    place: Place,
+    place: GrammarPlace,
     least: u32,
     tokens: &[Token],
 ) -> Result<(Expression, &[Token]), Refusal>
@@ -171,7 +175,7 @@ pub(crate) fn within(
 pub(crate) fn boxed_within(
     alloc: Global,
     depth: u32,
-    place: Place,
+    place: GrammarPlace,
     least: u32,
     tokens: &[Token],
 ) -> Result<(Boxed<Expression>, &[Token]), Refusal>
@@ -187,7 +191,7 @@ pub(crate) fn boxed_within(
 pub fn expression(alloc: Global, tokens: &[Token]) -> Result<(Expression, &[Token]), Refusal>
     ensures { Reads grammar.expression tokens.now result }
 {
-    within(alloc, MAX_DEPTH, Place::Anywhere, 0, tokens)
+    within(alloc, MAX_DEPTH, GrammarPlace::Anywhere, 0, tokens)
 }
 
 /// An expression between `<` and `>`.
@@ -195,7 +199,7 @@ pub fn expression(alloc: Global, tokens: &[Token]) -> Result<(Expression, &[Toke
 pub fn angle_expression(alloc: Global, tokens: &[Token]) -> Result<(Expression, &[Token]), Refusal>
     ensures { Reads grammar.angle_expression tokens.now result }
 {
-    within(alloc, MAX_DEPTH, Place::Angles, 0, tokens)
+    within(alloc, MAX_DEPTH, GrammarPlace::Angles, 0, tokens)
 }
 
 /// `angled = "<" angle_expression ">"`, where a comparison stands in parentheses.

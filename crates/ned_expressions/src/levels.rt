@@ -9,7 +9,7 @@ use ned_trees::expressions::{Expression, Operator};
 
 /// Where an expression stands.
 #[derive(Clone, Copy, PartialEq, Eq)]
-pub enum Place {
+pub enum GrammarPlace {
     /// Where a comparison may stand.
     Anywhere,
     /// Between `<` and `>`, where a comparison stands in parentheses.
@@ -83,17 +83,17 @@ pub(crate) fn right_level(level: u32) -> u32
     if level == 11 { 11 } else { level + 1 }
 }
 
-fn stands(place: Place, operator: Operator) -> bool
+fn stands(place: GrammarPlace, operator: Operator) -> bool
     ensures { result ≡ grammar.stands place operator }
 {
     match place {
-        Place::Anywhere => true,
-        Place::Angles => level_of(operator) != 4,
+        GrammarPlace::Anywhere => true,
+        GrammarPlace::Angles => level_of(operator) != 4,
     }
 }
 
 /// The operator that a token is at this place.
-pub(crate) fn operator_in(place: Place, token: &Token) -> Option<Operator>
+pub(crate) fn operator_in(place: GrammarPlace, token: &Token) -> Option<Operator>
     ensures { result ≡ grammar.operator_in place token.now }
 {
     let operator = operator_of(token)?;
@@ -105,7 +105,7 @@ pub(crate) fn operator_in(place: Place, token: &Token) -> Option<Operator>
 }
 
 /// The level of the operator that a token begins at this place.
-fn rank(place: Place, token: &Token) -> Option<u32>
+fn rank(place: GrammarPlace, token: &Token) -> Option<u32>
     ensures { result ≡ grammar.rank place token.now }
 {
     if let Token::Mark(Mark::Question) = token {
@@ -167,7 +167,13 @@ fn may(deepest: u32, least: u32, left: &Expression, level: u32) -> bool
 }
 
 /// The level of the operator that a token begins after an expression, if one may stand there.
-fn follows(place: Place, deepest: u32, least: u32, left: &Expression, token: &Token) -> Option<u32>
+fn follows(
+    place: GrammarPlace,
+    deepest: u32,
+    least: u32,
+    left: &Expression,
+    token: &Token,
+) -> Option<u32>
     ensures { result ≡ grammar.follows place deepest least left.now token.now }
 {
     let level = rank(place, token)?;
@@ -181,7 +187,7 @@ fn follows(place: Place, deepest: u32, least: u32, left: &Expression, token: &To
 /// The level of the operator that the first token begins after an expression, if one may stand
 /// there.
 pub(crate) fn next_level(
-    place: Place,
+    place: GrammarPlace,
     deepest: u32,
     least: u32,
     left: &Expression,

@@ -8,7 +8,7 @@ use crate::atoms::{
     Kind, Tail, begins_member, choice_named, kind_of, literal, member, scoped, with_tail,
 };
 use crate::chains::boxed_within;
-use crate::levels::Place;
+use crate::levels::GrammarPlace;
 use ned_leaves::leaves::{begins_mark, mark, name, word};
 use ned_tokens::refusal::Refusal;
 use ned_tokens::token::{Keyword, Mark, Token};
@@ -34,7 +34,7 @@ pub(crate) enum ChoiceTail {
 fn brackets(
     alloc: Global,
     depth: u32,
-    place: Place,
+    place: GrammarPlace,
     tokens: &[Token],
 ) -> Result<(Boxed<Expression>, &[Token]), Refusal>
     requires { depth < 64 }
@@ -52,7 +52,7 @@ fn brackets(
 fn element(
     alloc: Global,
     depth: u32,
-    place: Place,
+    place: GrammarPlace,
     tokens: &[Token],
 ) -> Result<(Tail, &[Token]), Refusal>
     requires { depth < 64 }
@@ -70,7 +70,7 @@ fn element(
 fn name_tail(
     alloc: Global,
     depth: u32,
-    place: Place,
+    place: GrammarPlace,
     tokens: &[Token],
 ) -> Result<(Tail, &[Token]), Refusal>
     requires { depth < 64 }
@@ -95,7 +95,7 @@ fn begins_tail(tokens: &[Token]) -> bool
 fn optional_tail(
     alloc: Global,
     depth: u32,
-    place: Place,
+    place: GrammarPlace,
     tokens: &[Token],
 ) -> Result<(Option<Tail>, &[Token]), Refusal>
     requires { depth < 64 }
@@ -126,7 +126,7 @@ fn plain_name(alloc: Global, tokens: &[Token]) -> Result<(Text, &[Token]), Refus
 fn named(
     alloc: Global,
     depth: u32,
-    place: Place,
+    place: GrammarPlace,
     tokens: &[Token],
 ) -> Result<(Expression, &[Token]), Refusal>
     requires { depth < 64 }
@@ -144,12 +144,15 @@ fn named(
 #[cycle(exprs)]
 fn pair(alloc: Global, depth: u32, tokens: &[Token]) -> Result<(ChoiceTail, &[Token]), Refusal>
     requires { depth < 64 }
-    ensures { Reads (grammar.pair (grammar.expression_within depth Place.Anywhere 0)) tokens.now result }
+    ensures { Reads (grammar.pair (grammar.expression_within depth GrammarPlace.Anywhere 0)) tokens.now result }
 {
     let rest = read!(mark(Mark::LeftParen, tokens));
-    let (a, rest) = read!(boxed_within(alloc, depth, Place::Anywhere, 0, rest));
+    let (a, rest) = read!(boxed_within(alloc, depth, GrammarPlace::Anywhere, 0, rest));
     let rest = read_behind!(a, mark(Mark::Comma, rest));
-    let (b, rest) = read_behind!(a, boxed_within(alloc, depth, Place::Anywhere, 0, rest));
+    let (b, rest) = read_behind!(
+        a,
+        boxed_within(alloc, depth, GrammarPlace::Anywhere, 0, rest)
+    );
     let tail = ChoiceTail::Pair(a, b);
     let rest = read_behind!(tail, mark(Mark::RightParen, rest));
     Ok((tail, rest))
@@ -161,7 +164,7 @@ fn pair(alloc: Global, depth: u32, tokens: &[Token]) -> Result<(ChoiceTail, &[To
 fn choice_tail(
     alloc: Global,
     depth: u32,
-    place: Place,
+    place: GrammarPlace,
     tokens: &[Token],
 ) -> Result<(ChoiceTail, &[Token]), Refusal>
     requires { depth < 64 }
@@ -192,7 +195,7 @@ fn is_tail(tokens: &[Token]) -> bool
 fn optional_choice_tail(
     alloc: Global,
     depth: u32,
-    place: Place,
+    place: GrammarPlace,
     tokens: &[Token],
 ) -> Result<(Option<ChoiceTail>, &[Token]), Refusal>
     requires { depth < 64 }
@@ -243,7 +246,7 @@ fn with_choice_tail(
 fn chosen(
     alloc: Global,
     depth: u32,
-    place: Place,
+    place: GrammarPlace,
     tokens: &[Token],
 ) -> Result<(Expression, &[Token]), Refusal>
     requires { depth < 64 }
@@ -338,12 +341,12 @@ fn any_index(
     tokens: &[Token],
 ) -> Result<(Option<Boxed<Expression>>, &[Token]), Refusal>
     requires { depth < 64 }
-    ensures { Reads (optional (grammar.brackets (grammar.expression_within depth Place.Anywhere 0))) tokens.now result }
+    ensures { Reads (optional (grammar.brackets (grammar.expression_within depth GrammarPlace.Anywhere 0))) tokens.now result }
 {
     if !begins_mark(Mark::LeftBracket, tokens) {
         return Ok((None, tokens));
     }
-    let (found, rest) = read!(brackets(alloc, depth, Place::Anywhere, tokens));
+    let (found, rest) = read!(brackets(alloc, depth, GrammarPlace::Anywhere, tokens));
     Ok((Some(found), rest))
 }
 
@@ -382,7 +385,7 @@ fn group(alloc: Global, depth: u32, tokens: &[Token]) -> Result<(Expression, &[T
     ensures { Reads (grammar.group (grammar.expression_within depth)) tokens.now result }
 {
     let rest = read!(mark(Mark::LeftParen, tokens));
-    let (inner, rest) = read!(boxed_within(alloc, depth, Place::Anywhere, 0, rest));
+    let (inner, rest) = read!(boxed_within(alloc, depth, GrammarPlace::Anywhere, 0, rest));
     let rest = read_behind!(inner, mark(Mark::RightParen, rest));
     Ok((Expression::Group(inner), rest))
 }
@@ -404,7 +407,7 @@ fn sign_of(token: &Token) -> Option<Sign>
 fn signed(
     alloc: Global,
     depth: u32,
-    place: Place,
+    place: GrammarPlace,
     tokens: &[Token],
 ) -> Result<(Expression, &[Token]), Refusal>
     requires { depth < 64 }
@@ -427,7 +430,7 @@ fn signed(
 pub(crate) fn operand(
     alloc: Global,
     depth: u32,
-    place: Place,
+    place: GrammarPlace,
     tokens: &[Token],
 ) -> Result<(Expression, &[Token]), Refusal>
     requires { depth < 64 }

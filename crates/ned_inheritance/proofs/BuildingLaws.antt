@@ -13,7 +13,7 @@ use Rattle.ned_inheritance.specs.declared.table.TypeFault.{TypeFault}
 use Rattle.ned_inheritance.specs.declared.table.TypeFault.TheVariants.{DuplicateType, UnknownType, InheritanceCircle, KindClash, Interface}
 use Rattle.ned_inheritance.specs.declared.table.BuildError.{BuildError}
 use Rattle.ned_inheritance.specs.declared.table.BuildError.TheVariants.{Fault, NoMemory}
-use Rattle.ned_inheritance.specs.declared.places.Place.{Place}
+use Rattle.ned_inheritance.specs.declared.places.FaultPlace.{FaultPlace}
 use Rattle.ned_inheritance.specs.Places.{IsClashPlace, other_in, place_from}
 use Rattle.ned_types.specs.Types as t
 use Rattle.ned_inheritance.specs.Interfaces as f
@@ -42,7 +42,7 @@ flat_name all a = of_kind (t.is_interface_kind a.kind)
   where
     by : (base : Option (List ℕ)) → (i.flat_by all a base).name ≡ a.name
     by None = refl
-    by (Some name) = joined_name (i.bare_heir all a) (i.line_of all a)
+    by (Some name) = joined_name (i.bare_derived all a) (i.line_of all a)
 
     of_kind : (b : Bool) → (i.flat_as b all a).name ≡ a.name
     of_kind true = gathered_name (i.bare a) (i.interfaces_behind all a.interfaces)
@@ -54,7 +54,7 @@ flat_has (u ∷ ts) a is s in-a = of_kind (t.is_interface_kind a.kind)
   where
     by : (base : Option (List ℕ)) → IsAmong s (i.flat_by (u ∷ ts) a base).submodules
     by None = in-a
-    by (Some name) = among_second s (i.joined_with (i.bare_heir (u ∷ ts) a) (i.line_within (length ts) (u ∷ ts) (i.base_of (u ∷ ts) a.base))).submodules a.submodules in-a
+    by (Some name) = among_second s (i.joined_with (i.bare_derived (u ∷ ts) a) (i.line_within (length ts) (u ∷ ts) (i.base_of (u ∷ ts) a.base))).submodules a.submodules in-a
 
     of_kind : (b : Bool) → IsAmong s (i.flat_as b (u ∷ ts) a).submodules
     of_kind true = among_second s (i.gathered (i.bare a) (i.interfaces_behind (u ∷ ts) a.interfaces)).submodules a.submodules in-a
@@ -66,7 +66,7 @@ item_has (u ∷ ts) a is x in-a = of_kind (t.is_interface_kind a.kind)
   where
     by : (base : Option (List ℕ)) → IsAmong x (i.flat_by (u ∷ ts) a base).connections.items
     by None = in-a
-    by (Some name) = among_second x (i.joined_with (i.bare_heir (u ∷ ts) a) (i.line_within (length ts) (u ∷ ts) (i.base_of (u ∷ ts) a.base))).connections.items a.connections.items in-a
+    by (Some name) = among_second x (i.joined_with (i.bare_derived (u ∷ ts) a) (i.line_within (length ts) (u ∷ ts) (i.base_of (u ∷ ts) a.base))).connections.items a.connections.items in-a
 
     of_kind : (b : Bool) → IsAmong x (i.flat_as b (u ∷ ts) a).connections.items
     of_kind true = among_second x (i.gathered (i.bare a) (i.interfaces_behind (u ∷ ts) a.interfaces)).connections.items a.connections.items in-a
@@ -248,7 +248,7 @@ no_base_fault : (fault : Option TypeFault) (rest : Option TypeFault) → fault �
 no_base_fault None rest e = refl
 no_base_fault (Some fault) rest e = absurd cc
 
-flat_place : (types : List TypeDeclaration) (fault : TypeFault) (p : Place) → place_from (other_in types) 0 types ≡ None → IsFlatPlace (i.flat_types types) fault p → IsPlace types fault p
+flat_place : (types : List TypeDeclaration) (fault : TypeFault) (p : FaultPlace) → place_from (other_in types) 0 types ≡ None → IsFlatPlace (i.flat_types types) fault p → IsPlace types fault p
 flat_place types DuplicateType p none is = absurd is
 flat_place types UnknownType p none is = absurd is
 flat_place types InheritanceCircle p none is = absurd is

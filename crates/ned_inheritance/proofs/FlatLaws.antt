@@ -16,8 +16,8 @@ use Rattle.ned_types.specs.Channels.{root_lines}
 use Rattle.ned_types.specs.Flat.{class_in, class_of, named_or}
 use Rattle.ned_types.specs.Types.{has_duplicate, has_inner_network, is_built_in, is_channel_kind, is_interface_kind, is_simple_kind, is_type_named, type_named}
 use Rattle.ned_types.specs.WellFormed.{IsAmong}
-use Rattle.ned_inheritance.specs.Inheritance.{bare_heir_of, base_of, can_extend, class_along, class_lines, extends_other, flat_as, flat_by, flat_type, has_other_base, heir_of, is_base, is_channel_of, joined_connections, joined_with, line_of, line_within, no_connections, with_members}
-use Rattle.ned_inheritance.specs.Flats.{bare_heir_with, flat_at, flat_behind, flat_by_base, found_at, heir_by, heir_over, own_lines, with_inherited, AddsFlat, FlatEntries, FlatsAlong, HaveFlats}
+use Rattle.ned_inheritance.specs.Inheritance.{bare_derived_type, base_of, can_extend, class_along, class_lines, extends_other, flat_as, flat_by, flat_type, has_other_base, derived_type, is_base, is_channel_of, joined_connections, joined_with, line_of, line_within, no_connections, with_members}
+use Rattle.ned_inheritance.specs.Flats.{bare_derived_with, flat_at, flat_behind, flat_by_base, found_at, derived_by, derived_over, own_lines, with_inherited, AddsFlat, FlatEntries, FlatsAlong, HaveFlats}
 use Rattle.ned_inheritance.specs.Named.{flat_by_lines, is_other_named, HaveLines, IsBehind, StandBehind}
 use Rattle.ned_inheritance.specs.Interfaces.{keeps_other}
 use Rattle.ned_inheritance.specs.Places.{other_in, place_from}
@@ -99,11 +99,11 @@ joined_front flat u (t ∷ ts) e =
 
 -- a type with the members of a base and of all that this extends has those of the flat type of the
 -- base
-inherited_heir : (x b u : TypeDeclaration) (class : List ℕ) (name : List ℕ) (ts : List TypeDeclaration) → Empty u → b.base ≡ Some name → joined_with x ts ≡ with_inherited x (joined_with (bare_heir_with class b) ts)
-inherited_heir x b u class name ts e based =
+inherited_derived : (x b u : TypeDeclaration) (class : List ℕ) (name : List ℕ) (ts : List TypeDeclaration) → Empty u → b.base ≡ Some name → joined_with x ts ≡ with_inherited x (joined_with (bare_derived_with class b) ts)
+inherited_derived x b u class name ts e based =
     joined_front x u ts e
-    ∙ sym (ap (with_inherited x) (joined_front (bare_heir_with class b) u ts e)
-    ∙ alike (with_inherited x (appended (bare_heir_with class b) j)) (appended x j) refl refl refl refl
+    ∙ sym (ap (with_inherited x) (joined_front (bare_derived_with class b) u ts e)
+    ∙ alike (with_inherited x (appended (bare_derived_with class b) j)) (appended x j) refl refl refl refl
     (ap (λ xs. x.lines ++ xs) lines)
     refl refl
     (alike_connections (joined_connections x.connections (joined_connections no_connections j.connections)) (joined_connections x.connections j.connections) refl refl))
@@ -111,7 +111,7 @@ inherited_heir x b u class name ts e based =
     j : TypeDeclaration
     j = joined_with u ts
 
-    lines : own_lines (appended (bare_heir_with class b) j) ≡ j.lines
+    lines : own_lines (appended (bare_derived_with class b) j) ≡ j.lines
     lines = by (is_simple_kind b.kind) refl
       where
         by : (s : Bool) → is_simple_kind b.kind ≡ s → (if is_simple_kind b.kind && is_some b.base then drop 1 (class_lines (is_simple_kind b.kind) class ++ j.lines) else (class_lines (is_simple_kind b.kind) class ++ j.lines)) ≡ j.lines
@@ -133,18 +133,18 @@ inherited_root x b root =
 
 -- ---- classes
 
-bare_same : (t : TypeDeclaration) (c d : List ℕ) → (is_simple_kind t.kind ≡ true → c ≡ d) → bare_heir_with c t ≡ bare_heir_with d t
+bare_same : (t : TypeDeclaration) (c d : List ℕ) → (is_simple_kind t.kind ≡ true → c ≡ d) → bare_derived_with c t ≡ bare_derived_with d t
 bare_same t c d h =
-    alike (bare_heir_with c t) (bare_heir_with d t) refl refl refl refl (by (is_simple_kind t.kind) refl) refl refl refl
+    alike (bare_derived_with c t) (bare_derived_with d t) refl refl refl refl (by (is_simple_kind t.kind) refl) refl refl refl
   where
     by : (s : Bool) → is_simple_kind t.kind ≡ s → class_lines (is_simple_kind t.kind) c ≡ class_lines (is_simple_kind t.kind) d
     by true s = ap (class_lines (is_simple_kind t.kind)) (h s)
     by false s = ap (λ b. class_lines b c) s ∙ sym (ap (λ b. class_lines b d) s)
 
 -- the class of the flat type of a simple type that extends another
-heir_class : (b u : TypeDeclaration) (class : List ℕ) (ts : List TypeDeclaration) → Empty u → is_simple_kind b.kind ≡ true → class_of (joined_with (bare_heir_with class b) ts) ≡ class
-heir_class b u class ts e simple =
-    ap class_of (joined_front (bare_heir_with class b) u ts e)
+derived_class : (b u : TypeDeclaration) (class : List ℕ) (ts : List TypeDeclaration) → Empty u → is_simple_kind b.kind ≡ true → class_of (joined_with (bare_derived_with class b) ts) ≡ class
+derived_class b u class ts e simple =
+    ap class_of (joined_front (bare_derived_with class b) u ts e)
     ∙ ap (λ s. named_or (class_in (class_lines s class ++ (joined_with u ts).lines)) b.name) simple
 
 -- ---- kinds
@@ -200,32 +200,32 @@ nobody_empty = (refl, refl, refl, refl, refl)
 
 -- where these are the base and what it extends
 over_base : (types : List TypeDeclaration) (x t b : TypeDeclaration) (more : List TypeDeclaration) → line_of types t ≡ t ∷ b ∷ more → line_of types b ≡ b ∷ more → (b.base ≡ None → more ≡ []) → can_extend t.kind b.kind ≡ true
-    → heir_over (flat_by types b b.base) t ≡ heir_of types t
+    → derived_over (flat_by types b b.base) t ≡ derived_type types t
 over_base types x t b more line-t line-b root fits = go b.base refl
   where
     class : List ℕ
     class = named_or (class_in t.lines) (class_along (b ∷ more))
 
-    whole : heir_of types t ≡ with_members (joined_with (bare_heir_with class t) (b ∷ more)) t
-    whole = ap (λ ts. joined_with (bare_heir_of ts t) ts) line-t
+    whole : derived_type types t ≡ with_members (joined_with (bare_derived_with class t) (b ∷ more)) t
+    whole = ap (λ ts. joined_with (bare_derived_type ts t) ts) line-t
 
-    over : (fb : TypeDeclaration) → (is_simple_kind b.kind ≡ true → class_of fb ≡ class_along (b ∷ more)) → joined_with (bare_heir_with class t) (b ∷ more) ≡ with_inherited (bare_heir_with class t) fb → heir_over fb t ≡ heir_of types t
+    over : (fb : TypeDeclaration) → (is_simple_kind b.kind ≡ true → class_of fb ≡ class_along (b ∷ more)) → joined_with (bare_derived_with class t) (b ∷ more) ≡ with_inherited (bare_derived_with class t) fb → derived_over fb t ≡ derived_type types t
     over fb classes members =
         ap (λ (y : TypeDeclaration). with_members (with_inherited y fb) t) (bare_same t (named_or (class_in t.lines) (class_of fb)) class (λ s. ap (named_or (class_in t.lines)) (classes (extended_simple t.kind b.kind fits s))))
         ∙ ap (λ (y : TypeDeclaration). with_members y t) (sym members)
         ∙ sym whole
 
-    go : (base : Option (List ℕ)) → b.base ≡ base → heir_over (flat_by types b base) t ≡ heir_of types t
+    go : (base : Option (List ℕ)) → b.base ≡ base → derived_over (flat_by types b base) t ≡ derived_type types t
     go None e =
         let none = root e in
         over b
         (λ s. sym (ap (λ ts. class_along (b ∷ ts)) none))
-        (ap (λ ts. joined_with (bare_heir_with class t) (b ∷ ts)) none ∙ inherited_root (bare_heir_with class t) b e)
+        (ap (λ ts. joined_with (bare_derived_with class t) (b ∷ ts)) none ∙ inherited_root (bare_derived_with class t) b e)
     go (Some name) e =
-        let flat : heir_of types b ≡ joined_with (bare_heir_with (class_along (b ∷ more)) b) (b ∷ more) = ap (λ ts. joined_with (bare_heir_of ts b) ts) line-b in
-        over (heir_of types b)
-        (λ s. ap class_of flat ∙ heir_class b nobody (class_along (b ∷ more)) (b ∷ more) nobody_empty s)
-        (inherited_heir (bare_heir_with class t) b nobody (class_along (b ∷ more)) name (b ∷ more) nobody_empty e ∙ sym (ap (with_inherited (bare_heir_with class t)) flat))
+        let flat : derived_type types b ≡ joined_with (bare_derived_with (class_along (b ∷ more)) b) (b ∷ more) = ap (λ ts. joined_with (bare_derived_type ts b) ts) line-b in
+        over (derived_type types b)
+        (λ s. ap class_of flat ∙ derived_class b nobody (class_along (b ∷ more)) (b ∷ more) nobody_empty s)
+        (inherited_derived (bare_derived_with class t) b nobody (class_along (b ∷ more)) name (b ∷ more) nobody_empty e ∙ sym (ap (with_inherited (bare_derived_with class t)) flat))
 
 -- ---- the types that extend others in turn
 
@@ -307,9 +307,9 @@ line_begun : (n : ℕ) (types : List TypeDeclaration) (t : TypeDeclaration) → 
 line_begun zero types t l = absurd (omega (arith, l))
 line_begun (suc m) types t l = (m, refl, refl)
 
-heir_step : (entries : FlatEntries) (types seen : List TypeDeclaration) (t : TypeDeclaration) (name : List ℕ) → has_duplicate types ≡ false → has_other_base types ≡ false → HaveFlats entries types seen → Stable types seen → length seen < length types → IsBehind types seen t
-    → ((n : List ℕ) → is_type_named n seen ≡ true → is_type_named n types ≡ true) → t.base ≡ Some name → heir_by (flat_at entries name) t ≡ heir_of types t
-heir_step entries types seen t name apart fit have stable short behind within based = go (type_named name types) refl
+derived_step : (entries : FlatEntries) (types seen : List TypeDeclaration) (t : TypeDeclaration) (name : List ℕ) → has_duplicate types ≡ false → has_other_base types ≡ false → HaveFlats entries types seen → Stable types seen → length seen < length types → IsBehind types seen t
+    → ((n : List ℕ) → is_type_named n seen ≡ true → is_type_named n types ≡ true) → t.base ≡ Some name → derived_by (flat_at entries name) t ≡ derived_type types t
+derived_step entries types seen t name apart fit have stable short behind within based = go (type_named name types) refl
   where
     begun : (m : ℕ) × (length types ≡ suc m) × (line_of types t ≡ t ∷ line_within m types (base_of types t.base))
     begun = line_begun (length types) types t (omega (arith, short))
@@ -317,10 +317,10 @@ heir_step entries types seen t name apart fit have stable short behind within ba
     next : line_of types t ≡ t ∷ line_within begun.0 types (type_named name types)
     next = begun.2 ∙ ap (λ o. t ∷ line_within begun.0 types (base_of types o)) based
 
-    go : (o : Option TypeDeclaration) → type_named name types ≡ o → heir_by (flat_at entries name) t ≡ heir_of types t
+    go : (o : Option TypeDeclaration) → type_named name types ≡ o → derived_by (flat_at entries name) t ≡ derived_type types t
     go None e =
         let alone : line_of types t ≡ t ∷ [] = next ∙ ap (λ o. t ∷ line_within begun.0 types o) e ∙ ap (λ ts. t ∷ ts) (none_within begun.0 types) in
-        ap (λ o. heir_by o t) (have.1 name (unseen (is_type_named name seen) refl)) ∙ sym (ap (λ ts. joined_with (bare_heir_of ts t) ts) alone)
+        ap (λ o. derived_by o t) (have.1 name (unseen (is_type_named name seen) refl)) ∙ sym (ap (λ ts. joined_with (bare_derived_type ts t) ts) alone)
       where
         unseen : (b : Bool) → is_type_named name seen ≡ b → b ≡ false
         unseen false p = refl
@@ -340,8 +340,8 @@ heir_step entries types seen t name apart fit have stable short behind within ba
         let more = line_within begun-b.0 types (base_of types b.base) in
         let shorter : line_within begun.0 types (Some b) ≡ line_of types b = stable b found.0 in-seen begun.0 (length types) (omega (arith, short, begun.1)) (omega (arith, short)) in
         let line-t : line_of types t ≡ t ∷ b ∷ more = next ∙ ap (λ o. t ∷ line_within begun.0 types o) e ∙ ap (λ ts. t ∷ ts) (shorter ∙ begun-b.2) in
-        ap (λ o. heir_by o t) (ap (flat_at entries) (sym found.1) ∙ have.0 b found.0 in-seen)
-        ∙ ap (λ c. heir_over (flat_as c types b) t) (extended_plain t.kind b.kind fits)
+        ap (λ o. derived_by o t) (ap (flat_at entries) (sym found.1) ∙ have.0 b found.0 in-seen)
+        ∙ ap (λ c. derived_over (flat_as c types b) t) (extended_plain t.kind b.kind fits)
         ∙ over_base types t t b more line-t begun-b.2 (λ root. ap (λ o. line_within begun-b.0 types (base_of types o)) root ∙ none_within begun-b.0 types) fits
 
 -- the flat type of a type over those of what was seen
@@ -351,7 +351,7 @@ flat_step lines entries types seen t apart fit fit-lines have stable short behin
   where
     plain : (base : Option (List ℕ)) → t.base ≡ base → flat_by_base entries t base ≡ flat_by types t base
     plain None e = refl
-    plain (Some name) e = heir_step entries types seen t name apart fit have stable short behind within e
+    plain (Some name) e = derived_step entries types seen t name apart fit have stable short behind within e
 
     by : (k : Bool) → is_interface_kind t.kind ≡ k → flat_behind lines entries t ≡ flat_type types t
     by true e =

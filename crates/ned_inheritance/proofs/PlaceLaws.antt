@@ -9,7 +9,7 @@ use Rattle.ned_types.specs.Flat.{or_else}
 use Rattle.ned_types.specs.Types.{is_inner_network, is_submodule_known, names_unknown, type_named}
 use Rattle.ned_inheritance.specs.declared.places.Member.{Member}
 use Rattle.ned_inheritance.specs.declared.places.Member.TheVariants.{Whole, Base, Interface, Submodule, Channel, LacksParameter, LacksGate}
-use Rattle.ned_inheritance.specs.declared.places.Place.{Place}
+use Rattle.ned_inheritance.specs.declared.places.FaultPlace.{FaultPlace}
 use Rattle.ned_inheritance.specs.Inheritance.{extends_other, extends_unknown}
 use Rattle.ned_inheritance.specs.Interfaces.{breaks_interface, has_broken, is_interface_for, keeps_other, lacks_any, lacks_gate, lacks_parameter, names_no_type}
 use Rattle.ned_inheritance.specs.Named.{is_other_named, is_unknown_named}
@@ -46,7 +46,7 @@ passed picks n xs x all here none told =
     ∙ sym (ap (first_from picks n) (drop_at xs n x here))
     ∙ told
 
-placed_told : (n : ℕ) (m : Option Member) (later : Option Place) → is_some (or_else (placed n m) later) ≡ (is_some m || is_some later)
+placed_told : (n : ℕ) (m : Option Member) (later : Option FaultPlace) → is_some (or_else (placed n m) later) ≡ (is_some m || is_some later)
 placed_told n None later = refl
 placed_told n (Some m) later = refl
 
@@ -158,7 +158,7 @@ lacked_told types ts =
 abbrev base_of : Bool → Bool → Bool → Bool → Option TypeFault
 base_of duplicate unknown circle other = if duplicate then Some fault.DuplicateType else (if unknown then Some fault.UnknownType else (if circle then Some fault.InheritanceCircle else (if other then Some fault.KindClash else None)))
 
-pub unknown_found : (types : List TypeDeclaration) (p : Place) → has_duplicate types ≡ false → place_from (unknown_in types) 0 types ≡ Some p → Builds types (Err (Fault fault.UnknownType p))
+pub unknown_found : (types : List TypeDeclaration) (p : FaultPlace) → has_duplicate types ≡ false → place_from (unknown_in types) 0 types ≡ Some p → Builds types (Err (Fault fault.UnknownType p))
 unknown_found types p apart found =
     let unknown = sym (unknown_told types types) ∙ ap is_some found in (
       ap (λ b. or_else (base_of b (is_unknown_named types types) (has_circle types) (is_other_named types types)) (flat_fault (flat_types types))) apart
@@ -166,7 +166,7 @@ unknown_found types p apart found =
       found,
     )
 
-pub circle_found : (types : List TypeDeclaration) (p : Place) → has_duplicate types ≡ false → place_from (unknown_in types) 0 types ≡ None → has_circle types ≡ true → Builds types (Err (Fault fault.InheritanceCircle p))
+pub circle_found : (types : List TypeDeclaration) (p : FaultPlace) → has_duplicate types ≡ false → place_from (unknown_in types) 0 types ≡ None → has_circle types ≡ true → Builds types (Err (Fault fault.InheritanceCircle p))
 circle_found types p apart none circle =
     let known = sym (unknown_told types types) ∙ ap is_some none in (
       ap (λ b. or_else (base_of b (is_unknown_named types types) (has_circle types) (is_other_named types types)) (flat_fault (flat_types types))) apart
@@ -183,7 +183,7 @@ circle_told types apart none circle =
     ∙ ap (λ b. or_else (base_of false b (has_circle types) (is_other_named types types)) (flat_fault (flat_types types))) known
     ∙ ap (λ b. or_else (base_of false false b (is_other_named types types)) (flat_fault (flat_types types))) circle
 
-pub other_found : (types : List TypeDeclaration) (p : Place) → has_duplicate types ≡ false → place_from (unknown_in types) 0 types ≡ None → has_circle types ≡ false → place_from (other_in types) 0 types ≡ Some p → Builds types (Err (Fault fault.KindClash p))
+pub other_found : (types : List TypeDeclaration) (p : FaultPlace) → has_duplicate types ≡ false → place_from (unknown_in types) 0 types ≡ None → has_circle types ≡ false → place_from (other_in types) 0 types ≡ Some p → Builds types (Err (Fault fault.KindClash p))
 other_found types p apart none roots found =
     let known = sym (unknown_told types types) ∙ ap is_some none in
     let other = sym (other_told types types) ∙ ap is_some found in (
@@ -208,10 +208,10 @@ none_found types apart none roots alike =
 abbrev flat_of : Bool → Bool → Option TypeFault
 flat_of clash broken = if clash then Some fault.KindClash else (if broken then Some fault.Interface else None)
 
-pub clash_tells : (types : List TypeDeclaration) (p : Place) → has_clash types ≡ true → TellsFlat types (Some (fault.KindClash, p))
+pub clash_tells : (types : List TypeDeclaration) (p : FaultPlace) → has_clash types ≡ true → TellsFlat types (Some (fault.KindClash, p))
 clash_tells types p clash = (ap (λ b. flat_of b (has_broken types)) clash, tt)
 
-pub lacked_tells : (types : List TypeDeclaration) (p : Place) → has_clash types ≡ false → place_from (lacked_in types) 0 types ≡ Some p → TellsFlat types (Some (fault.Interface, p))
+pub lacked_tells : (types : List TypeDeclaration) (p : FaultPlace) → has_clash types ≡ false → place_from (lacked_in types) 0 types ≡ Some p → TellsFlat types (Some (fault.Interface, p))
 lacked_tells types p none found =
     let broken : has_broken types ≡ true = sym (lacked_told types types) ∙ ap is_some found in (
       ap (λ b. flat_of b (has_broken types)) none ∙ ap (flat_of false) broken,

@@ -5,8 +5,8 @@ use Rattle.std.specs.Prelude.{is_some}
 use Rattle.std.specs.List.{list_any}
 use Rattle.ned_trees.specs.declared.declarations.SectionLine.{SectionLine}
 use Rattle.ned_trees.specs.declared.declarations.SectionLine.TheVariants as line
-use Rattle.ned_inheritance.specs.Seen.{names_in, is_in, AddsNames, redeclares_seen, gives_seen, gives_unseen, is_unfit_over}
-use Rattle.ned_types.specs.Types.{is_declaration, name_in, value_in, declares, is_declared, redeclares, is_fixed, gives, is_given, gives_fixed, gives_again, gives_undeclared, is_undeclared, is_fixed_in, is_unfit, has_unfit}
+use Rattle.ned_inheritance.specs.Seen.{names_in, is_in, AddsNames, redeclares_seen, gives_seen, sets_undeclared, is_unfit_over}
+use Rattle.ned_types.specs.Types.{is_declaration, name_in, value_in, declares, is_declared, redeclares, is_fixed, gives, is_given, gives_fixed, sets_fixed_again, gives_undeclared, is_undeclared, is_fixed_in, is_unfit, has_unfit}
 use Rattle.ned_inheritance.proofs.NamedLaws.{turned}
 use Rattle.ned_inheritance.proofs.Repeats.{or_false, or_joined, mixed, any_more, any_name, names_more}
 use Rattle.ned_inheritance.proofs.WellFormedLaws.{same_names}
@@ -129,24 +129,24 @@ given_or_here names more line adds l =
     ∙ spread (is_some (value_in l)) (is_in (name_in l) names) (is_fixed (value_in line)) (bytes_eq (name_in l) (name_in line))
 
 pub not_given : (names more : List (List ℕ)) (rest : List SectionLine) (l : SectionLine) (ls : List SectionLine) → rest ≡ l ∷ ls → gives_seen names l ≡ false → AddsNames names (λ n. gives_fixed n l) more
-    → (list_any (gives_seen more) ls || gives_again ls) ≡ (list_any (gives_seen names) rest || gives_again rest)
+    → (list_any (gives_seen more) ls || sets_fixed_again ls) ≡ (list_any (gives_seen names) rest || sets_fixed_again rest)
 not_given names more rest l ls is none adds =
-    ap (λ t. t || gives_again ls) (any_parted (gives_seen more) (gives_seen names) (gives (name_in l)) (is_fixed (value_in l)) (given_or_here names more l adds) ls)
-    ∙ or_joined (list_any (gives_seen names) ls) (is_fixed (value_in l) && is_given (name_in l) ls) (gives_again ls)
-    ∙ sym (ap (λ t. (t || list_any (gives_seen names) ls) || gives_again (l ∷ ls)) none)
-    ∙ sym (ap (λ rs. list_any (gives_seen names) rs || gives_again rs) is)
+    ap (λ t. t || sets_fixed_again ls) (any_parted (gives_seen more) (gives_seen names) (gives (name_in l)) (is_fixed (value_in l)) (given_or_here names more l adds) ls)
+    ∙ or_joined (list_any (gives_seen names) ls) (is_fixed (value_in l) && is_given (name_in l) ls) (sets_fixed_again ls)
+    ∙ sym (ap (λ t. (t || list_any (gives_seen names) ls) || sets_fixed_again (l ∷ ls)) none)
+    ∙ sym (ap (λ rs. list_any (gives_seen names) rs || sets_fixed_again rs) is)
 
-pub first_given : (keys : List (Bor (List ℕ))) (ls : List SectionLine) → keys ≡ [] → (list_any (gives_seen (names_in keys)) ls || gives_again ls) ≡ gives_again ls
-first_given keys ls e = ap (λ t. t || gives_again ls) (none_of keys e (λ l. is_some (value_in l)) ls)
+pub first_given : (keys : List (Bor (List ℕ))) (ls : List SectionLine) → keys ≡ [] → (list_any (gives_seen (names_in keys)) ls || sets_fixed_again ls) ≡ sets_fixed_again ls
+first_given keys ls e = ap (λ t. t || sets_fixed_again ls) (none_of keys e (λ l. is_some (value_in l)) ls)
 
 -- ---- what is looked up
 
-unseen_undeclared : (names : List (List ℕ)) (lines : List SectionLine) → ((n : List ℕ) → is_in n names ≡ is_declared n lines) → (l : SectionLine) → gives_unseen names l ≡ is_undeclared lines l
+unseen_undeclared : (names : List (List ℕ)) (lines : List SectionLine) → ((n : List ℕ) → is_in n names ≡ is_declared n lines) → (l : SectionLine) → sets_undeclared names l ≡ is_undeclared lines l
 unseen_undeclared names lines declared l = ap (λ t. is_some (value_in l) && not t) (declared (name_in l))
 
 -- in the names that lines declare
-pub undeclared_by : (names : List (List ℕ)) (lines : List SectionLine) → ((n : List ℕ) → is_in n names ≡ is_declared n lines) → list_any (gives_unseen names) lines ≡ gives_undeclared lines
-undeclared_by names lines declared = any_same (gives_unseen names) (λ l. is_undeclared lines l) (unseen_undeclared names lines declared) lines
+pub undeclared_by : (names : List (List ℕ)) (lines : List SectionLine) → ((n : List ℕ) → is_in n names ≡ is_declared n lines) → list_any (sets_undeclared names) lines ≡ gives_undeclared lines
+undeclared_by names lines declared = any_same (sets_undeclared names) (λ l. is_undeclared lines l) (unseen_undeclared names lines declared) lines
 
 -- in the names that lines declare, and in those that they give fixed values
 pub unfit_by : (declared fixed : List (List ℕ)) (lines : List SectionLine) → ((n : List ℕ) → is_in n declared ≡ is_declared n lines) → ((n : List ℕ) → is_in n fixed ≡ is_fixed_in n lines) → (body : List SectionLine)

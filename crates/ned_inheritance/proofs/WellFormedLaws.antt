@@ -296,12 +296,12 @@ fixed_made l ls h = and_made (t.is_fixed (t.value_in l)) _ (λ fix. any_made (λ
 
 sound_told : (lines : List SectionLine) → t.section_clashes lines ≡ false → IsSoundSection lines
 sound_told lines h =
-    let first = or_parts (t.redeclares lines) (t.gives_undeclared lines || t.gives_again lines) h in
-    let rest = or_parts (t.gives_undeclared lines) (t.gives_again lines) first.1 in
+    let first = or_parts (t.redeclares lines) (t.gives_undeclared lines || t.sets_fixed_again lines) h in
+    let rest = or_parts (t.gives_undeclared lines) (t.sets_fixed_again lines) first.1 in
     record {
       names = λ d e is. pairs_told {X = SectionLine} AreOthers (λ l ls. t.is_declaration l && t.is_declared (t.name_in l) ls) t.redeclares (λ l ls. refl) once_told lines first.0 (line.Declaration d) (line.Declaration e) is d e refl refl;
       given = λ l is give. declared_found (t.name_in l) lines (not_false _ (and_told (is_some (t.value_in l)) _ (any_told (λ x. t.is_undeclared lines x) lines rest.0 l is) give));
-      fixed = λ l k is. pairs_told {X = SectionLine} IsFixedOnce (λ x ls. t.is_fixed (t.value_in x) && t.is_given (t.name_in x) ls) t.gives_again (λ x ls. refl) fixed_told lines rest.1 l k is;
+      fixed = λ l k is. pairs_told {X = SectionLine} IsFixedOnce (λ x ls. t.is_fixed (t.value_in x) && t.is_given (t.name_in x) ls) t.sets_fixed_again (λ x ls. refl) fixed_told lines rest.1 l k is;
     }
 
 sound_made : (lines : List SectionLine) → IsSoundSection lines → t.section_clashes lines ≡ false
@@ -310,7 +310,7 @@ sound_made lines s =
     (pairs_made {X = SectionLine} (λ l. Unit {0}) AreOthers (λ l ls. t.is_declaration l && t.is_declared (t.name_in l) ls) t.redeclares refl (λ l ls. refl) (λ l ls q h. once_made l ls h) lines (λ l is. tt) (λ l k is d e p q. s.names d e (subst (λ (x : SectionLine). StandsBefore x (line.Declaration e) lines) p (subst (λ (x : SectionLine). StandsBefore l x lines) q is))))
     (or_false (t.gives_undeclared lines) _
     (any_made (λ x. t.is_undeclared lines x) lines (λ l is. and_made (is_some (t.value_in l)) _ (λ give. false_not _ (declared_is (t.name_in l) lines (s.given l is give)))))
-    (pairs_made {X = SectionLine} (λ l. Unit {0}) IsFixedOnce (λ x ls. t.is_fixed (t.value_in x) && t.is_given (t.name_in x) ls) t.gives_again refl (λ x ls. refl) (λ x ls q h. fixed_made x ls h) lines (λ l is. tt) s.fixed))
+    (pairs_made {X = SectionLine} (λ l. Unit {0}) IsFixedOnce (λ x ls. t.is_fixed (t.value_in x) && t.is_given (t.name_in x) ls) t.sets_fixed_again refl (λ x ls. refl) (λ x ls q h. fixed_made x ls h) lines (λ l is. tt) s.fixed))
 
 -- ---- bodies
 
@@ -404,8 +404,8 @@ body_told lines body s h = record {
   };
 }
   where
-    parts : (t.has_unfit lines body ≡ false) × (t.gives_again body ≡ false)
-    parts = or_parts (t.has_unfit lines body) (t.gives_again body) h
+    parts : (t.has_unfit lines body ≡ false) × (t.sets_fixed_again body ≡ false)
+    parts = or_parts (t.has_unfit lines body) (t.sets_fixed_again body) h
 
     fit : (l : SectionLine) → IsAmong l body → IsFit lines l
     fit = fit_told lines body parts.0
@@ -424,13 +424,13 @@ body_told lines body s h = record {
     given l give (inr is) = more_lines (t.name_in l) lines body (declared_found (t.name_in l) lines (not_false _ (and_told (is_some (t.value_in l)) _ (fit l is).1 give)))
 
     again : (l k : SectionLine) → StandsBefore l k body → IsFixedOnce l k
-    again l k is = pairs_told {X = SectionLine} IsFixedOnce (λ x ls. t.is_fixed (t.value_in x) && t.is_given (t.name_in x) ls) t.gives_again (λ x ls. refl) fixed_told body parts.1 l k is
+    again l k is = pairs_told {X = SectionLine} IsFixedOnce (λ x ls. t.is_fixed (t.value_in x) && t.is_given (t.name_in x) ls) t.sets_fixed_again (λ x ls. refl) fixed_told body parts.1 l k is
 
 body_made : (lines body : List SectionLine) → IsSoundBody lines body → t.body_clashes lines body ≡ false
 body_made lines body b =
     or_false (t.has_unfit lines body) _
     (any_made (λ l. t.is_unfit lines l) body (λ l is. or_false (t.is_declaration l) _ (no_declaration l (λ d e. b.undeclaring d (subst (λ (x : SectionLine). IsAmong x body) e is))) (or_false (t.is_undeclared lines l) _ (declared l is) (refixed_made lines l (λ k in-lines. b.section.fixed k l (before_across k l lines body in-lines is))))))
-    (pairs_made {X = SectionLine} (λ l. Unit {0}) IsFixedOnce (λ x ls. t.is_fixed (t.value_in x) && t.is_given (t.name_in x) ls) t.gives_again refl (λ x ls. refl) (λ x ls q h. fixed_made x ls h) body (λ l is. tt) (λ l k is. b.section.fixed l k (before_second l k lines body is)))
+    (pairs_made {X = SectionLine} (λ l. Unit {0}) IsFixedOnce (λ x ls. t.is_fixed (t.value_in x) && t.is_given (t.name_in x) ls) t.sets_fixed_again refl (λ x ls. refl) (λ x ls q h. fixed_made x ls h) body (λ l is. tt) (λ l k is. b.section.fixed l k (before_second l k lines body is)))
   where
     declared : (l : SectionLine) → IsAmong l body → t.is_undeclared lines l ≡ false
     declared l is = and_made (is_some (t.value_in l)) _ (λ give. false_not _ (declared_is (t.name_in l) lines (fewer_lines (t.name_in l) lines body b.undeclaring (b.section.given l (among_second l lines body is) give))))

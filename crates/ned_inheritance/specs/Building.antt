@@ -7,7 +7,7 @@ use Rattle.ned_inheritance.specs.declared.table.TypeFault.{TypeFault}
 use Rattle.ned_inheritance.specs.declared.table.TypeFault.TheVariants.{DuplicateType, UnknownType, InheritanceCircle, KindClash, Interface}
 use Rattle.ned_inheritance.specs.declared.table.BuildError.{BuildError}
 use Rattle.ned_inheritance.specs.declared.table.BuildError.TheVariants.{Fault, NoMemory}
-use Rattle.ned_inheritance.specs.declared.places.Place.{Place}
+use Rattle.ned_inheritance.specs.declared.places.FaultPlace.{FaultPlace}
 use Rattle.ned_inheritance.specs.Places.{duplicate_from, IsClashPlace, lacked_in, other_in, place_from, unknown_in}
 use Rattle.ned_types.specs.Clashes.{has_clash, has_unknown_channels}
 use Rattle.ned_types.specs.Types.{has_duplicate, has_inner_network, has_unknown, is_built_in, is_inner_name}
@@ -38,7 +38,7 @@ fault_of types = or_else (base_fault types) (flat_fault (flat_types types))
 
 -- THE PLACE of a fault: the first, type by type, that has it. A clash is one of names and kinds, or
 -- else one of flat types; of flat types the place is told where the rules say it (Places)
-abbrev pub IsPlace : List TypeDeclaration → TypeFault → Place → Type 0
+abbrev pub IsPlace : List TypeDeclaration → TypeFault → FaultPlace → Type 0
 IsPlace types DuplicateType p = duplicate_from [] 0 types ≡ Some p.number
 IsPlace types UnknownType p = place_from (unknown_in types) 0 types ≡ Some p
 IsPlace types InheritanceCircle p = Unit {0}
@@ -46,7 +46,7 @@ IsPlace types KindClash p = IsClashPlace types (place_from (other_in types) 0 ty
 IsPlace types Interface p = place_from (lacked_in (flat_types types)) 0 (flat_types types) ≡ Some p
 
 -- the same of a fault of flat types
-abbrev pub IsFlatPlace : List TypeDeclaration → TypeFault → Place → Type 0
+abbrev pub IsFlatPlace : List TypeDeclaration → TypeFault → FaultPlace → Type 0
 IsFlatPlace types DuplicateType p = ⊥
 IsFlatPlace types UnknownType p = ⊥
 IsFlatPlace types InheritanceCircle p = ⊥
@@ -67,7 +67,7 @@ AreFaultless types (Err (NoMemory _)) = Unit {0}
 AreFaultless types (Err (Fault fault place)) = (flat_fault types ≡ Some fault) × IsFlatPlace types fault place
 
 -- the first fault of flat types and its place, or that there is none
-abbrev pub TellsFlat : List TypeDeclaration → Option (TypeFault × Place) → Type 0
+abbrev pub TellsFlat : List TypeDeclaration → Option (TypeFault × FaultPlace) → Type 0
 TellsFlat types None = flat_fault types ≡ None
 TellsFlat types (Some told) = (flat_fault types ≡ Some told.0) × IsFlatPlace types told.0 told.1
 

@@ -102,8 +102,8 @@ abbrev pub tick_named : List ℕ → Submodule
 tick_named name = record { name = name; size = None; submodule_type = submodule_type.Named (codes "Tick"); condition = None; body = record { lines = []; gates = [] } }
 
 -- `network NAME extends N { parameters: LINES submodules: SUBMODULES }`
-abbrev pub heir_network : List ℕ → List SectionLine → List Submodule → TypeDeclaration
-heir_network name lines submodules = record { kind = Network; name = name; base = Some (codes "N"); interfaces = []; lines = lines; gates = []; submodules = submodules; connections = no_connections }
+abbrev pub derived_network : List ℕ → List SectionLine → List Submodule → TypeDeclaration
+derived_network name lines submodules = record { kind = Network; name = name; base = Some (codes "N"); interfaces = []; lines = lines; gates = []; submodules = submodules; connections = no_connections }
 
 -- `channel NAME extends BASE {}`
 abbrev pub channel_of : List ℕ → Option (List ℕ) → TypeDeclaration
@@ -264,15 +264,15 @@ pub record ExampleBodies : Type 0 where
 -- a network that extends another has its parameters, gates and submodules too, those of the root
 -- first; a member of the base isn't declared again, and a network extends networks alone
 pub record ExampleNetworks : Type 0 where
-  pub submodules : (flat_type (heir_network (codes "M") [] (tick_named (codes "b") ∷ []) ∷ network_of [] (tick_named (codes "a") ∷ []) ∷ tick ∷ []) (heir_network (codes "M") [] (tick_named (codes "b") ∷ []))).submodules ≡ tick_named (codes "a") ∷ tick_named (codes "b") ∷ []
-  pub lines : (flat_type (network_of (double_named (codes "own") ∷ []) [] ∷ heir_network (codes "M") (second_for (codes "own") ∷ []) [] ∷ []) (heir_network (codes "M") (second_for (codes "own") ∷ []) [])).lines ≡ double_named (codes "own") ∷ second_for (codes "own") ∷ []
-  pub none : fault_of (heir_network (codes "M") (second_for (codes "own") ∷ []) (tick_named (codes "b") ∷ []) ∷ network_of (double_named (codes "own") ∷ []) (tick_named (codes "a") ∷ []) ∷ tick ∷ []) ≡ None
-  pub again : fault_of (heir_network (codes "M") [] (tick_named (codes "a") ∷ []) ∷ network_of [] (tick_named (codes "a") ∷ []) ∷ tick ∷ []) ≡ Some KindClash
-  pub body : fault_of (network_of (double_named (codes "own") ∷ []) (t_with (codes "Tick") (second_for (codes "own") ∷ []) ∷ []) ∷ heir_network (codes "M") [] [] ∷ tick ∷ []) ≡ Some KindClash
-  pub unknown : fault_of (heir_network (codes "M") [] [] ∷ network_of [] (t_with (codes "Zed") [] ∷ []) ∷ []) ≡ Some UnknownType
-  pub of_simple : fault_of (type_with (codes "N") None [] ∷ heir_network (codes "M") [] [] ∷ []) ≡ Some KindClash
+  pub submodules : (flat_type (derived_network (codes "M") [] (tick_named (codes "b") ∷ []) ∷ network_of [] (tick_named (codes "a") ∷ []) ∷ tick ∷ []) (derived_network (codes "M") [] (tick_named (codes "b") ∷ []))).submodules ≡ tick_named (codes "a") ∷ tick_named (codes "b") ∷ []
+  pub lines : (flat_type (network_of (double_named (codes "own") ∷ []) [] ∷ derived_network (codes "M") (second_for (codes "own") ∷ []) [] ∷ []) (derived_network (codes "M") (second_for (codes "own") ∷ []) [])).lines ≡ double_named (codes "own") ∷ second_for (codes "own") ∷ []
+  pub none : fault_of (derived_network (codes "M") (second_for (codes "own") ∷ []) (tick_named (codes "b") ∷ []) ∷ network_of (double_named (codes "own") ∷ []) (tick_named (codes "a") ∷ []) ∷ tick ∷ []) ≡ None
+  pub again : fault_of (derived_network (codes "M") [] (tick_named (codes "a") ∷ []) ∷ network_of [] (tick_named (codes "a") ∷ []) ∷ tick ∷ []) ≡ Some KindClash
+  pub body : fault_of (network_of (double_named (codes "own") ∷ []) (t_with (codes "Tick") (second_for (codes "own") ∷ []) ∷ []) ∷ derived_network (codes "M") [] [] ∷ tick ∷ []) ≡ Some KindClash
+  pub unknown : fault_of (derived_network (codes "M") [] [] ∷ network_of [] (t_with (codes "Zed") [] ∷ []) ∷ []) ≡ Some UnknownType
+  pub of_simple : fault_of (type_with (codes "N") None [] ∷ derived_network (codes "M") [] [] ∷ []) ≡ Some KindClash
   pub simple_of : fault_of (network_of [] [] ∷ heir (codes "A") (codes "N") ∷ []) ≡ Some KindClash
-  pub circle : fault_of (heir_network (codes "N") [] [] ∷ []) ≡ Some InheritanceCircle
+  pub circle : fault_of (derived_network (codes "N") [] [] ∷ []) ≡ Some InheritanceCircle
   pub channels : fault_of (channel_of (codes "Fast") (Some (codes "Slow")) ∷ channel_of (codes "Slow") None ∷ []) ≡ None
   pub channel_of_simple : fault_of (channel_of (codes "Fast") (Some (codes "Tick")) ∷ tick ∷ []) ≡ Some KindClash
   pub submodule_channel : fault_of (network_of [] (t_with (codes "Slow") [] ∷ []) ∷ channel_of (codes "Slow") None ∷ []) ≡ Some KindClash
@@ -367,7 +367,7 @@ pub record ExampleInsides : Type 0 where
   pub declared : fault_connected None (double_named (codes "own") ∷ []) ≡ Some KindClash
   pub in_group : fault_grouped (Some (codes "Zed")) [] ≡ Some UnknownType
   pub clash_in_group : fault_grouped (Some (codes "Tick")) [] ≡ Some KindClash
-  pub inherited : fault_of (heir_network (codes "O") [] [] ∷ record { kind = Network; name = codes "N"; base = None; interfaces = []; lines = []; gates = []; submodules = []; connections = one_connection } ∷ []) ≡ None
+  pub inherited : fault_of (derived_network (codes "O") [] [] ∷ record { kind = Network; name = codes "N"; base = None; interfaces = []; lines = []; gates = []; submodules = []; connections = one_connection } ∷ []) ≡ None
 
 -- a network may have connections, or a section of connections without any, vectors of submodules,
 -- conditions, sizes of gates in bodies, and submodules that are compound modules or networks

@@ -12,8 +12,8 @@ use Rattle.ned_inheritance.specs.Inheritance.{class_lines, flat_type, has_other_
 use Rattle.ned_inheritance.specs.Named.{flat_by_lines, HaveLines, StandBehind}
 
 -- a type of that class that extends another, before it has any member
-abbrev pub bare_heir_with : List ℕ → TypeDeclaration → TypeDeclaration
-bare_heir_with class t = record {
+abbrev pub bare_derived_with : List ℕ → TypeDeclaration → TypeDeclaration
+bare_derived_with class t = record {
   kind = t.kind;
   name = t.name;
   base = t.base;
@@ -43,16 +43,16 @@ with_inherited flat base = record {
 }
 
 -- the flat type of a type whose base has this flat type
-abbrev pub heir_over : TypeDeclaration → TypeDeclaration → TypeDeclaration
-heir_over base t = with_members (with_inherited (bare_heir_with (named_or (class_in t.lines) (class_of base)) t) base) t
+abbrev pub derived_over : TypeDeclaration → TypeDeclaration → TypeDeclaration
+derived_over base t = with_members (with_inherited (bare_derived_with (named_or (class_in t.lines) (class_of base)) t) base) t
 
 -- the same of a type whose base is none of the types, as a built-in channel
-abbrev pub heir_alone : TypeDeclaration → TypeDeclaration
-heir_alone t = with_members (bare_heir_with (class_of t) t) t
+abbrev pub derived_alone : TypeDeclaration → TypeDeclaration
+derived_alone t = with_members (bare_derived_with (class_of t) t) t
 
-abbrev pub heir_by : Option TypeDeclaration → TypeDeclaration → TypeDeclaration
-heir_by (Some base) t = heir_over base t
-heir_by None t = heir_alone t
+abbrev pub derived_by : Option TypeDeclaration → TypeDeclaration → TypeDeclaration
+derived_by (Some base) t = derived_over base t
+derived_by None t = derived_alone t
 
 -- flat types by their names
 abbrev pub FlatEntries : Type 0
@@ -63,7 +63,7 @@ flat_at entries name = lookup (λ k. bytes_eq name k.now) entries
 
 abbrev pub flat_by_base : FlatEntries → TypeDeclaration → Option (List ℕ) → TypeDeclaration
 flat_by_base entries t None = t
-flat_by_base entries t (Some name) = heir_by (flat_at entries name) t
+flat_by_base entries t (Some name) = derived_by (flat_at entries name) t
 
 -- the flat type of a type, where these are those of all that it extends, and lines of interfaces
 abbrev pub flat_behind : List (Bor (List ℕ) × List TypeDeclaration) → FlatEntries → TypeDeclaration → TypeDeclaration

@@ -158,8 +158,8 @@ class_lines false class = []
 -- a type that extends another, before it has any member. The class of a simple type stands before
 -- its lines, as the first class that lines name counts; types of other kinds have none. It keeps
 -- the name of what it extends: names that values choose are looked up there too
-abbrev pub bare_heir_of : List TypeDeclaration → TypeDeclaration → TypeDeclaration
-bare_heir_of line t = record {
+abbrev pub bare_derived_type : List TypeDeclaration → TypeDeclaration → TypeDeclaration
+bare_derived_type line t = record {
   kind = t.kind;
   name = t.name;
   base = t.base;
@@ -170,17 +170,17 @@ bare_heir_of line t = record {
   connections = no_connections;
 }
 
-abbrev pub bare_heir : List TypeDeclaration → TypeDeclaration → TypeDeclaration
-bare_heir types t = bare_heir_of (line_of types t) t
+abbrev pub bare_derived : List TypeDeclaration → TypeDeclaration → TypeDeclaration
+bare_derived types t = bare_derived_type (line_of types t) t
 
 -- a type that extends another, with all that its bases have, what the root has first and its own
 -- last
-abbrev pub heir_of : List TypeDeclaration → TypeDeclaration → TypeDeclaration
-heir_of types t = joined_with (bare_heir types t) (line_of types t)
+abbrev pub derived_type : List TypeDeclaration → TypeDeclaration → TypeDeclaration
+derived_type types t = joined_with (bare_derived types t) (line_of types t)
 
 abbrev pub flat_by : List TypeDeclaration → TypeDeclaration → Option (List ℕ) → TypeDeclaration
 flat_by types t None = t
-flat_by types t (Some name) = heir_of types t
+flat_by types t (Some name) = derived_type types t
 
 -- ---- flat interfaces
 

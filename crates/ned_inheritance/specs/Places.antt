@@ -8,7 +8,7 @@ use Rattle.ned_types.specs.Flat.{or_else}
 use Rattle.ned_types.specs.Types.{is_built_in, is_inner_network, is_submodule_known, is_type_named, type_named}
 use Rattle.ned_inheritance.specs.declared.places.Member.{Member}
 use Rattle.ned_inheritance.specs.declared.places.Member.TheVariants.{Whole, Base, Interface, Submodule, Channel, LacksParameter, LacksGate}
-use Rattle.ned_inheritance.specs.declared.places.Place.{Place}
+use Rattle.ned_inheritance.specs.declared.places.FaultPlace.{FaultPlace}
 use Rattle.ned_inheritance.specs.Inheritance.{extends_other, extends_unknown}
 use Rattle.ned_inheritance.specs.Interfaces.{is_interface_for, lacks_gate, lacks_parameter}
 
@@ -18,13 +18,13 @@ first_from picks n [] = None
 first_from picks n (x ∷ xs) = if picks x then Some n else first_from picks (suc n) xs
 
 -- the place of that member of the type of that number
-abbrev pub placed : ℕ → Option Member → Option Place
+abbrev pub placed : ℕ → Option Member → Option FaultPlace
 placed n None = None
 placed n (Some m) = Some (record { number = n; member = m })
 
 -- the first place where a type breaks a rule, which tells what of it does; the types are counted on
 -- from a number
-abbrev pub place_from : (TypeDeclaration → Option Member) → ℕ → List TypeDeclaration → Option Place
+abbrev pub place_from : (TypeDeclaration → Option Member) → ℕ → List TypeDeclaration → Option FaultPlace
 place_from broken n [] = None
 place_from broken n (t ∷ ts) = or_else (placed n (broken t)) (place_from broken (suc n) ts)
 
@@ -83,6 +83,6 @@ duplicate_from seen n [] = None
 duplicate_from seen n (t ∷ ts) = if is_built_in t.name || is_type_named t.name seen then Some n else duplicate_from (seen ++ t ∷ []) (suc n) ts
 
 -- the place of a clash is the first of names and kinds; where there is none it is one of flat types
-abbrev pub IsClashPlace : List TypeDeclaration → Option Place → Place → Type 0
+abbrev pub IsClashPlace : List TypeDeclaration → Option FaultPlace → FaultPlace → Type 0
 IsClashPlace types (Some first) p = first ≡ p
 IsClashPlace types None p = Unit {0}

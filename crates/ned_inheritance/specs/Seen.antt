@@ -52,10 +52,10 @@ abbrev pub gives_seen : List (List ℕ) → SectionLine → Bool
 gives_seen names l = is_some (value_in l) && is_in (name_in l) names
 
 -- whether it gives one to a parameter of another name
-abbrev pub gives_unseen : List (List ℕ) → SectionLine → Bool
-gives_unseen names l = is_some (value_in l) && not (is_in (name_in l) names)
+abbrev pub sets_undeclared : List (List ℕ) → SectionLine → Bool
+sets_undeclared names l = is_some (value_in l) && not (is_in (name_in l) names)
 
 -- whether the line can't stand in a body over lines that declare parameters of the first names, and
 -- fix those of the second
 abbrev pub is_unfit_over : List (List ℕ) → List (List ℕ) → SectionLine → Bool
-is_unfit_over declared fixed l = is_declaration l || (gives_unseen declared l || gives_seen fixed l)
+is_unfit_over declared fixed l = is_declaration l || (sets_undeclared declared l || gives_seen fixed l)

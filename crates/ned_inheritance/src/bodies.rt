@@ -8,7 +8,7 @@ ghost use Rattle.ned_inheritance.specs.Seen.{names_in, is_unfit_over};
 use crate::named::NamedTypes;
 use crate::places::Member;
 use crate::sections::{
-    given_again, gives_seen, gives_unseen, is_declaration, see_declared, see_fixed,
+    given_again, gives_seen, is_declaration, see_declared, see_fixed, sets_undeclared,
 };
 use indexmap::IndexSet;
 use ned_trees::declarations::{GateLine, SectionLine, Submodule};
@@ -147,7 +147,7 @@ fn first_unfit_by(
 fn is_unfit(declared: &IndexSet<&[u8]>, fixed: &IndexSet<&[u8]>, line: &SectionLine) -> bool
     ensures { result ≡ is_unfit_over (names_in declared.now.keys) (names_in fixed.now.keys) line.now }
 {
-    is_declaration(line) || gives_unseen(declared, line) || gives_seen(fixed, line)
+    is_declaration(line) || sets_undeclared(declared, line) || gives_seen(fixed, line)
 }
 
 fn is_gate_declaration(line: &GateLine) -> bool

@@ -21,7 +21,7 @@ use crate::interfaces::{broken_place, first_other_interface, first_unknown_inter
 use crate::lines::lines_of;
 use crate::named::{NamedTypes, by_name};
 use crate::order::ordered;
-use crate::places::{Member, Place, placed};
+use crate::places::{FaultPlace, Member, placed};
 use crate::sections::section_clash;
 use crate::table::{BuildError, TypeFault};
 use crate::webs::circle_place;
@@ -55,7 +55,7 @@ fn by_rules(alloc: Global, types: &[TypeDeclaration]) -> Result<Items<TypeDeclar
         Ok(named) => built_by(alloc, &named, types),
         Err(number) => {
             let member = Member::Whole;
-            Err(BuildError::Fault(TypeFault::DuplicateType, Place { number, member }))
+            Err(BuildError::Fault(TypeFault::DuplicateType, FaultPlace { number, member }))
         }
     }
 }
@@ -116,7 +116,7 @@ fn faultless(
 }
 
 /// The first place where one of the types names what is neither a type nor a built-in channel.
-fn unknown_place(named: &NamedTypes<'_>, types: &[TypeDeclaration]) -> Option<Place>
+fn unknown_place(named: &NamedTypes<'_>, types: &[TypeDeclaration]) -> Option<FaultPlace>
     ensures { result ≡ place_from (unknown_in named.now) 0 types.now }
 {
     for (number, declared) in types.iter().enumerate() {
@@ -146,7 +146,7 @@ fn unknown_in(named: &NamedTypes<'_>, declared: &TypeDeclaration) -> Option<Memb
 
 /// The first place where one of the types is a network within another, or names what is of another
 /// kind than it should be.
-fn other_place(named: &NamedTypes<'_>, types: &[TypeDeclaration]) -> Option<Place>
+fn other_place(named: &NamedTypes<'_>, types: &[TypeDeclaration]) -> Option<FaultPlace>
     ensures { result ≡ place_from (other_in named.now) 0 types.now }
 {
     for (number, declared) in types.iter().enumerate() {
@@ -226,7 +226,7 @@ fn is_submodule_known(named: &NamedTypes<'_>, submodule: &Submodule) -> bool
 fn flat_fault(
     alloc: Global,
     types: &[TypeDeclaration],
-) -> Result<Option<(TypeFault, Place)>, AllocError>
+) -> Result<Option<(TypeFault, FaultPlace)>, AllocError>
     requires { has_duplicate types.now ≡ false }
     ensures { IfOk result (TellsFlat types.now) }
 {
@@ -242,7 +242,7 @@ fn flat_fault_by(
     alloc: Global,
     named: &NamedTypes<'_>,
     types: &[TypeDeclaration],
-) -> Result<Option<(TypeFault, Place)>, AllocError>
+) -> Result<Option<(TypeFault, FaultPlace)>, AllocError>
     requires { named.now ≡ types.now }
     ensures { IfOk result (TellsFlat types.now) }
 {
@@ -258,7 +258,7 @@ fn later_fault(
     alloc: Global,
     named: &NamedTypes<'_>,
     types: &[TypeDeclaration],
-) -> Result<Option<(TypeFault, Place)>, AllocError>
+) -> Result<Option<(TypeFault, FaultPlace)>, AllocError>
     requires names { named.now ≡ types.now }
     requires fit { has_clash types.now ≡ false }
     ensures { IfOk result (TellsFlat types.now) }
@@ -274,7 +274,7 @@ fn clash_place(
     alloc: Global,
     named: &NamedTypes<'_>,
     types: &[TypeDeclaration],
-) -> Result<Option<Place>, AllocError>
+) -> Result<Option<FaultPlace>, AllocError>
     ensures { IfOk result (λ place. is_some place ≡ list_any (λ t. clashes named.now t) types.now) }
 {
     let mut number = 0usize;

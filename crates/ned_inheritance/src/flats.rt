@@ -4,7 +4,7 @@ ghost use Rattle.std.specs.Prelude.{◌≡◌, ◌++◌, [], false, drop, map, I
 ghost use Rattle.std.specs.Option.{option_copied};
 ghost use Rattle.ned_types.specs.Flat.{class_in, class_of, named_or};
 ghost use Rattle.ned_types.specs.Types.{has_duplicate, is_simple_kind};
-ghost use Rattle.ned_inheritance.specs.Flats.{bare_heir_with, flat_behind, flat_by_base, found_at, heir_alone, heir_by, heir_over, own_lines, with_inherited, AddsFlat, FlatsAlong};
+ghost use Rattle.ned_inheritance.specs.Flats.{bare_derived_with, flat_behind, flat_by_base, found_at, derived_alone, derived_by, derived_over, own_lines, with_inherited, AddsFlat, FlatsAlong};
 ghost use Rattle.ned_inheritance.specs.Inheritance.{class_lines, flat_type, has_other_base, types_in};
 ghost use Rattle.ned_inheritance.specs.Named.{HaveLines};
 ghost use Rattle.ned_inheritance.specs.Order.{IsOrder};
@@ -59,12 +59,12 @@ fn class_lines(
 }
 
 /// A type of that class that extends another, before it has any member.
-fn bare_heir(
+fn bare_derived(
     alloc: Global,
     declared: &TypeDeclaration,
     class: &[u8],
 ) -> Result<TypeDeclaration, AllocError>
-    ensures { IfOk result (λ flat. flat ≡ bare_heir_with class.now declared.now) }
+    ensures { IfOk result (λ flat. flat ≡ bare_derived_with class.now declared.now) }
 {
     let name = declared.name.copy(alloc)?;
     let (name, base) = behind(name, copy_base(alloc, &declared.base))?;
@@ -142,38 +142,38 @@ fn class_over<'a>(base: &'a TypeDeclaration, declared: &'a TypeDeclaration) -> &
 }
 
 /// The flat type of a type whose base has this flat type.
-fn heir_over(
+fn derived_over(
     alloc: Global,
     base: &TypeDeclaration,
     declared: &TypeDeclaration,
 ) -> Result<TypeDeclaration, AllocError>
-    ensures { IfOk result (λ flat. flat ≡ heir_over base.now declared.now) }
+    ensures { IfOk result (λ flat. flat ≡ derived_over base.now declared.now) }
 {
-    let flat = bare_heir(alloc, declared, class_over(base, declared))?;
+    let flat = bare_derived(alloc, declared, class_over(base, declared))?;
     let flat = with_inherited(alloc, flat, base)?;
     with_own(alloc, flat, declared)
 }
 
 /// The flat type of a type whose base is none of the types.
-fn heir_alone(alloc: Global, declared: &TypeDeclaration) -> Result<TypeDeclaration, AllocError>
-    ensures { IfOk result (λ flat. flat ≡ heir_alone declared.now) }
+fn derived_alone(alloc: Global, declared: &TypeDeclaration) -> Result<TypeDeclaration, AllocError>
+    ensures { IfOk result (λ flat. flat ≡ derived_alone declared.now) }
 {
-    let flat = bare_heir(alloc, declared, class_of(declared))?;
+    let flat = bare_derived(alloc, declared, class_of(declared))?;
     with_own(alloc, flat, declared)
 }
 
 /// The flat type of a type that extends another, whose flat type this is, where it is one of the
 /// types.
-fn heir_by(
+fn derived_by(
     alloc: Global,
     base: Option<&TypeDeclaration>,
     declared: &TypeDeclaration,
 ) -> Result<TypeDeclaration, AllocError>
-    ensures { IfOk result (λ flat. flat ≡ heir_by (option_copied base.entry) declared.now) }
+    ensures { IfOk result (λ flat. flat ≡ derived_by (option_copied base.entry) declared.now) }
 {
     match base {
-        Some(base) => heir_over(alloc, base, declared),
-        None => heir_alone(alloc, declared),
+        Some(base) => derived_over(alloc, base, declared),
+        None => derived_alone(alloc, declared),
     }
 }
 
@@ -186,7 +186,7 @@ fn flat_by_base(
     ensures { IfOk result (λ flat. flat ≡ flat_by_base flats.now.entries declared.now declared.now.base) }
 {
     match &declared.base {
-        Some(name) => heir_by(alloc, flats.get(name.as_bytes()), declared),
+        Some(name) => derived_by(alloc, flats.get(name.as_bytes()), declared),
         None => copy_type(alloc, declared),
     }
 }

@@ -12,7 +12,7 @@ ghost use Rattle.ned_types.specs.Types.{is_vector, type_named};
 use crate::faults::is_taken;
 use crate::members::{MemberLines, member_lines};
 use crate::named::NamedTypes;
-use crate::places::{Member, Place, placed};
+use crate::places::{FaultPlace, Member, placed};
 use crate::sections::see;
 use indexmap::IndexSet;
 use ned_trees::declarations::{
@@ -355,7 +355,7 @@ pub(crate) fn broken_place(
     alloc: Global,
     named: &NamedTypes<'_>,
     types: &[TypeDeclaration],
-) -> Result<Option<Place>, AllocError>
+) -> Result<Option<FaultPlace>, AllocError>
     ensures { IfOk result (λ place. place ≡ place_from (lacked_in named.now) 0 types.now) }
 {
     for (number, declared) in types.iter().enumerate() {

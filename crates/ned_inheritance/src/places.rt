@@ -56,17 +56,17 @@ pub enum Member {
 
 /// The place of a fault: the type of that number among the types of the files, and what of it.
 #[derive(Clone, Copy)]
-pub struct Place {
+pub struct FaultPlace {
     pub number: usize,
     pub member: Member,
 }
 
 /// The place of that member of the type of that number, where there is one.
-pub(crate) fn placed(number: usize, member: Option<Member>) -> Option<Place>
+pub(crate) fn placed(number: usize, member: Option<Member>) -> Option<FaultPlace>
     ensures { result ≡ placed number member }
 {
     match member {
-        Some(member) => Some(Place { number, member }),
+        Some(member) => Some(FaultPlace { number, member }),
         None => None,
     }
 }

@@ -4,8 +4,8 @@
 ghost use Rattle.std.specs.Prelude.{◌≡◌, ◌||◌, [], not, is_some, IfOk, OnOk};
 ghost use Rattle.std.specs.List.{list_any};
 ghost use Rattle.std.specs.Str.{bytes_eq};
-ghost use Rattle.ned_types.specs.Types.{section_clashes, is_declaration, declares, is_declared, redeclares, gives_fixed, is_fixed_in, gives_again, gives_undeclared};
-ghost use Rattle.ned_inheritance.specs.Seen.{names_in, is_in, AddsNames, redeclares_seen, gives_seen, gives_unseen};
+ghost use Rattle.ned_types.specs.Types.{section_clashes, is_declaration, declares, is_declared, redeclares, gives_fixed, is_fixed_in, sets_fixed_again, gives_undeclared};
+ghost use Rattle.ned_inheritance.specs.Seen.{names_in, is_in, AddsNames, redeclares_seen, gives_seen, sets_undeclared};
 
 use crate::places::Member;
 use indexmap::IndexSet;
@@ -165,7 +165,7 @@ pub(crate) fn see<'a>(seen: &mut IndexSet<&'a [u8]>, name: &'a [u8]) -> Result<b
 
 /// The first line that gives a value to a parameter that has a fixed one in a line before it.
 pub(crate) fn given_again(alloc: Global, lines: &[SectionLine]) -> Result<Option<usize>, AllocError>
-    ensures { IfOk result (λ at. is_some at ≡ gives_again lines.now) }
+    ensures { IfOk result (λ at. is_some at ≡ sets_fixed_again lines.now) }
 {
     let mut fixed = IndexSet::new(alloc);
     one_gives_seen(&mut fixed, lines)
@@ -178,7 +178,7 @@ fn one_gives_seen<'a>(
     lines: &'a [SectionLine],
 ) -> Result<Option<usize>, AllocError>
     ensures { IfOk result (λ at. is_some at
-        ≡ (list_any (gives_seen (names_in seen.old.keys)) lines.now || gives_again lines.now)) }
+        ≡ (list_any (gives_seen (names_in seen.old.keys)) lines.now || sets_fixed_again lines.now)) }
 {
     let mut at = 0usize;
     let mut rest = lines;
@@ -202,10 +202,10 @@ pub(crate) fn gives_seen(seen: &IndexSet<&[u8]>, line: &SectionLine) -> bool
 
 /// The first of these lines that gives a value to a parameter that wasn't seen.
 fn first_unseen(seen: &IndexSet<&[u8]>, lines: &[SectionLine]) -> Option<usize>
-    ensures { is_some result ≡ list_any (gives_unseen (names_in seen.now.keys)) lines.now }
+    ensures { is_some result ≡ list_any (sets_undeclared (names_in seen.now.keys)) lines.now }
 {
     for (at, line) in lines.iter().enumerate() {
-        if gives_unseen(seen, line) {
+        if sets_undeclared(seen, line) {
             return Some(at);
         }
     }
@@ -213,8 +213,8 @@ fn first_unseen(seen: &IndexSet<&[u8]>, lines: &[SectionLine]) -> Option<usize>
 }
 
 /// Whether the line gives a value to a parameter that wasn't seen.
-pub(crate) fn gives_unseen(seen: &IndexSet<&[u8]>, line: &SectionLine) -> bool
-    ensures { result ≡ gives_unseen (names_in seen.now.keys) line.now }
+pub(crate) fn sets_undeclared(seen: &IndexSet<&[u8]>, line: &SectionLine) -> bool
+    ensures { result ≡ sets_undeclared (names_in seen.now.keys) line.now }
 {
     value_in(line).is_some() && !is_seen(seen, name_in(line))
 }

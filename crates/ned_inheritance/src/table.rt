@@ -7,7 +7,7 @@ ghost use Rattle.ned_inheritance.specs.Inheritance.{flat_types};
 ghost use Rattle.ned_inheritance.specs.Building.{AnswersTable, Builds, KeepRules};
 
 use crate::faults;
-use crate::places::Place;
+use crate::places::FaultPlace;
 use ned_scopes::scopes::types_of;
 use ned_trees::declarations::{NedFile, TypeDeclaration};
 use ned_types::table::TypeTable;
@@ -40,7 +40,7 @@ pub enum TypeFault {
 #[derive(Clone, Copy)]
 pub enum BuildError {
     /// The types make no model, and here is the first place that shows it.
-    Fault(TypeFault, Place),
+    Fault(TypeFault, FaultPlace),
     /// Memory ran out.
     NoMemory(NoMemory),
 }

@@ -2,7 +2,7 @@
 
 use crate::named::NamedTypes;
 use crate::order::is_interface_kind;
-use crate::places::{Member, Place};
+use crate::places::{FaultPlace, Member};
 use ned_trees::declarations::TypeDeclaration;
 use ned_types::made::changed;
 use sim_values::text::Text;
@@ -223,7 +223,7 @@ fn first_left(web: &Web) -> usize {
 
 /// A type in a circle: the last one on a way of as many steps as there are types, from one to the
 /// next of those that are left.
-fn place_left(web: &Web, named: &NamedTypes<'_>, types: &[TypeDeclaration]) -> Place {
+fn place_left(web: &Web, named: &NamedTypes<'_>, types: &[TypeDeclaration]) -> FaultPlace {
     let mut number = first_left(web);
     let mut member = Member::Whole;
     for _step in 0..types.len() {
@@ -240,7 +240,7 @@ fn place_left(web: &Web, named: &NamedTypes<'_>, types: &[TypeDeclaration]) -> P
             member = by;
         }
     }
-    Place { number, member }
+    FaultPlace { number, member }
 }
 
 /// The numbers of the types that extend no other, and of others after all that they extend. What a
@@ -262,7 +262,7 @@ pub(crate) fn circle_place(
     alloc: Global,
     named: &NamedTypes<'_>,
     types: &[TypeDeclaration],
-) -> Result<Place, AllocError> {
+) -> Result<FaultPlace, AllocError> {
     let mut web = web_of(alloc, named, types)?;
     let mut taken = Vec::new(alloc);
     take_all(&mut web, &mut taken)?;

@@ -8,7 +8,7 @@ use Rattle.ned_tokens.specs.declared.token.Token.TheVariants as token
 use Rattle.ned_trees.specs.declared.expressions.Expression.{Expression, map-Expression}
 use Rattle.ned_trees.specs.declared.expressions.Expression.TheOpen.{Expression-F}
 use Rattle.ned_trees.specs.declared.expressions.Expression.TheFolds.{fold-roll-Expression, ind-Expression}
-use Rattle.ned_expressions.specs.declared.levels.Place.TheVariants as place
+use Rattle.ned_expressions.specs.declared.levels.GrammarPlace.TheVariants as place
 use Rattle.ned_expressions.specs.Grammar.{expression, angle_expression, max_depth}
 use Rattle.ned_expressions.specs.Spelling.{literal_tokens, operator_mark, tokens_at, expression_tokens}
 use Rattle.ned_expressions.proofs.SpellingLaws.{within_faithful}

@@ -109,9 +109,9 @@ abbrev pub is_given : List ℕ → List SectionLine → Bool
 is_given name lines = list_any (λ l. gives name l) lines
 
 -- whether a parameter with a fixed value is given another one
-abbrev pub gives_again : List SectionLine → Bool
-gives_again [] = false
-gives_again (l ∷ ls) = (is_fixed (value_in l) && is_given (name_in l) ls) || gives_again ls
+abbrev pub sets_fixed_again : List SectionLine → Bool
+sets_fixed_again [] = false
+sets_fixed_again (l ∷ ls) = (is_fixed (value_in l) && is_given (name_in l) ls) || sets_fixed_again ls
 
 -- ---- bodies of submodules
 
@@ -136,7 +136,7 @@ has_unfit lines body = list_any (λ l. is_unfit lines l) body
 
 -- whether a body can't stand over these lines of a type
 abbrev pub body_clashes : List SectionLine → List SectionLine → Bool
-body_clashes lines body = has_unfit lines body || gives_again body
+body_clashes lines body = has_unfit lines body || sets_fixed_again body
 
 -- the same of the body of a submodule, over the lines of its type
 abbrev pub clashes_with : List SectionLine → Option TypeDeclaration → Bool
@@ -292,7 +292,7 @@ repeats_submodule (s ∷ ss) = is_submodule_named s.name ss || repeats_submodule
 -- ---- clashes
 
 abbrev pub section_clashes : List SectionLine → Bool
-section_clashes lines = redeclares lines || (gives_undeclared lines || gives_again lines)
+section_clashes lines = redeclares lines || (gives_undeclared lines || sets_fixed_again lines)
 
 abbrev pub submodules_clash : List TypeDeclaration → List Submodule → Bool
 submodules_clash types submodules = repeats_submodule submodules || (has_other_kind types submodules || (bodies_clash types submodules || bodies_declare submodules))

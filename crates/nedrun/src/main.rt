@@ -8,13 +8,13 @@ ghost use Rattle.module_stock.specs.Stock.{stock};
 ghost use Rattle.desk_server.specs.Served.{fresh_machine};
 ghost use Rattle.desk_server.specs.Serving.{Ends};
 ghost use Rattle.desk_client.specs.Stops.{at_stop};
-ghost use Rattle.desk_client.specs.declared.clients.Stop.TheVariants as why;
+ghost use Rattle.desk_client.specs.declared.clients.ServeEnd.TheVariants as why;
 ghost use Rattle.nedrun.specs.Stops.{EndsEarly, IsStopOf, end_of};
 ghost use Rattle.nedrun_client.specs.Stops.{IsLost, IsReason};
 ghost use Rattle.nedrun_script.specs.Typing.{AsksInOrder};
 ghost use Rattle.nedrun_script.specs.Faults.{ends_in_fault};
 ghost use Rattle.nedrun_script.specs.declared.dialogue.Ask.TheVariants as ask;
-ghost use Rattle.nedrun_exit.specs.declared.stops.Stop.{Stop as StopValue};
+ghost use Rattle.nedrun_exit.specs.declared.stops.ExitReason.{ExitReason as StopValue};
 
 mod observed;
 mod refusals;
@@ -24,11 +24,11 @@ use desk_server::serving::serve;
 use explain_types::sources::Sources;
 use model_reading::begin::BeginFault;
 use nedrun_client::user::User;
-use nedrun_exit::stops::Stop;
+use nedrun_exit::stops::ExitReason;
 use nedrun_files::progress::Progress;
 use nedrun_files::{endings, files, folders};
 use nedrun_options::other_words::instead_of_words;
-use nedrun_options::words::Words;
+use nedrun_options::words::Options;
 use observed::Reporter;
 use std::io::IsTerminal;
 use std::process::ExitCode;
@@ -38,11 +38,11 @@ use std::rt::{Clock, Env, Files};
 /// can't go on. It is reported how far runs are, or not.
 fn serve_user<'a, R: Files + Input + Print + Eprint + Clock + AllocGlobal>(
     rt: &'a R,
-    words: &'a Words,
+    words: &'a Options,
     sources: &'a Sources<'a>,
     at_terminal: bool,
     reports_progress: bool,
-) -> Result<(User<'a, R>, clients::Stop), BeginFault>
+) -> Result<(User<'a, R>, clients::ServeEnd), BeginFault>
     requires interval { 1 ≤ words.now.interval }
     // What the user hears is what the plain machine says to what the user asks.
     ensures served { IfOk result (λ r. (model : Model)
@@ -81,11 +81,11 @@ fn serve_user<'a, R: Files + Input + Print + Eprint + Clock + AllocGlobal>(
 }
 
 /// What becomes of a session at its end, where a fault of its last run is told or not.
-fn at_end(tells_fault: bool) -> Result<(), Stop>
+fn at_end(tells_fault: bool) -> Result<(), ExitReason>
     ensures { result ≡ end_of tells_fault }
 {
     if tells_fault {
-        Err(Stop::Fault)
+        Err(ExitReason::Fault)
     } else {
         Ok(())
     }
@@ -94,10 +94,10 @@ fn at_end(tells_fault: bool) -> Result<(), Stop>
 /// Why the program ends early, where it does, after a user who was served so.
 fn ended<R: Files + Input + Print + Eprint + AllocGlobal>(
     rt: &R,
-    words: &Words,
+    words: &Options,
     sources: &Sources<'_>,
-    served: Result<(User<'_, R>, clients::Stop), BeginFault>,
-) -> Result<(), Stop>
+    served: Result<(User<'_, R>, clients::ServeEnd), BeginFault>,
+) -> Result<(), ExitReason>
     ensures over { IfOk served.entry (λ r. r.1 ≡ why.End
         → result ≡ end_of (words.now.strict && r.0.dialogue.has_fault)) }
     ensures stuck { IfOk served.entry (λ r. r.1 ≢ why.End
@@ -105,7 +105,7 @@ fn ended<R: Files + Input + Print + Eprint + AllocGlobal>(
     ensures refused { IfErr served.entry (λ fault. IsErrAnd result (IsStopOf fault)) }
 {
     match served {
-        Ok((user, clients::Stop::End)) => at_end(words.strict && user.dialogue.has_fault),
+        Ok((user, clients::ServeEnd::End)) => at_end(words.strict && user.dialogue.has_fault),
         Ok((user, _)) => Err(user.into_stop()),
         Err(fault) => Err(refusals::refused(rt.alloc(), fault, sources)),
     }
@@ -114,11 +114,11 @@ fn ended<R: Files + Input + Print + Eprint + AllocGlobal>(
 /// Serves the user, and tells why it ended early where it did.
 fn session<R: Files + Input + Print + Eprint + Clock + AllocGlobal>(
     rt: &R,
-    words: &Words,
+    words: &Options,
     sources: &Sources<'_>,
     at_terminal: bool,
     reports_progress: bool,
-) -> Result<(), Stop>
+) -> Result<(), ExitReason>
     requires interval { 1 ≤ words.now.interval }
     ensures served { OnOk result ((model : Model)
         × IsModelOf sources.now.texts.now sources.now.ini.now (string_bytes words.now.config) model) }
@@ -134,8 +134,8 @@ fn work<R: Files + Env + Input + Print + Eprint + Clock + AllocGlobal + Clone + 
     rt: &R,
     at_terminal: bool,
     tells_terminal: bool,
-) -> Result<(), Stop> {
-    let mut words = Words::read(rt)?;
+) -> Result<(), ExitReason> {
+    let mut words = Options::read(rt)?;
     if let Some(folders) = words.folders.take() {
         folders::add_ned_paths(rt, folders.as_str(), &mut words.texts)?;
     }
@@ -156,10 +156,10 @@ fn work<R: Files + Env + Input + Print + Eprint + Clock + AllocGlobal + Clone + 
 /// How a word of OMNeT++'s own is called that the words were refused for, and what serves instead.
 fn instead<R: Env + AllocGlobal>(
     rt: &R,
-    ended: &Result<(), Stop>,
+    ended: &Result<(), ExitReason>,
 ) -> Option<(&'static str, &'static str)> {
     match ended {
-        Err(Stop::Words(error)) => instead_of_words(rt, error),
+        Err(ExitReason::Words(error)) => instead_of_words(rt, error),
         _ => None,
     }
 }

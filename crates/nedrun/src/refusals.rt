@@ -6,25 +6,25 @@ use desk_answers::answers::refusal_text;
 use explain_files::refusals::refusal_line;
 use explain_types::sources::Sources;
 use model_reading::begin::BeginFault;
-use nedrun_exit::stops::Stop;
+use nedrun_exit::stops::ExitReason;
 use std::alloc::Global;
 
 /// What ends the program where texts make no model.
-pub fn refused(alloc: Global, fault: BeginFault, sources: &Sources<'_>) -> Stop
+pub fn refused(alloc: Global, fault: BeginFault, sources: &Sources<'_>) -> ExitReason
     ensures { IsStopOf fault result }
 {
     match fault {
-        BeginFault::NoMemory(error) => Stop::NoMemory(error),
+        BeginFault::NoMemory(error) => ExitReason::NoMemory(error),
         _ => named(alloc, fault, line_for(alloc, fault, sources)),
     }
 }
 
 /// What ends the program at a refusal that has this diagnostic.
-fn named(alloc: Global, fault: BeginFault, line: String) -> Stop
+fn named(alloc: Global, fault: BeginFault, line: String) -> ExitReason
     ensures { IsNamed fault result }
 {
     match refusal_text(alloc, fault) {
-        Ok(text) => Stop::Refused(text, line),
+        Ok(text) => ExitReason::Refused(text, line),
         Err(error) => error.into(),
     }
 }

@@ -5,13 +5,13 @@ ghost use Rattle.std.specs.Prelude.{IfErr};
 ghost use Rattle.nedrun_files.specs.Stops.{IsUnadvised};
 ghost use Rattle.nedrun_client.specs.Stops.{IsUntold};
 
-use desk_client::told::Told;
+use desk_client::told::AnswerContent;
 use explain_files::warnings::warning_lines;
 use explain_types::names::{front_shown, shown};
 use explain_types::sources::Sources;
-use nedrun_exit::stops::Stop;
+use nedrun_exit::stops::ExitReason;
 use nedrun_files::output::{advise, say};
-use nedrun_options::words::Words;
+use nedrun_options::words::Options;
 use run_semantics::outcome::Outcome;
 use session_texts::notes::Notes;
 use std::rt::Files;
@@ -21,7 +21,7 @@ use std::{fs, io};
 const CLASSES: [&[u8]; 5] = [b"Tick", b"Source", b"Queue", b"Sink", b"Router"];
 
 /// Warns of lines of the ini text that have no effect.
-pub fn warn<R: Eprint + AllocGlobal>(rt: &R, sources: &Sources<'_>) -> Result<(), Stop>
+pub fn warn<R: Eprint + AllocGlobal>(rt: &R, sources: &Sources<'_>) -> Result<(), ExitReason>
     ensures { IfErr result IsUnadvised }
 {
     let lines = warning_lines(rt.alloc(), sources)?;
@@ -33,8 +33,8 @@ pub fn explain<R: Eprint + AllocGlobal>(
     rt: &R,
     sources: &Sources<'_>,
     notes: &mut Notes,
-    told: Option<&Told>,
-) -> Result<(), Stop>
+    told: Option<&AnswerContent>,
+) -> Result<(), ExitReason>
     ensures { IfErr result IsUnadvised }
 {
     let line = notes.hears(rt.alloc(), sources, told, CLASSES.as_slice())?;
@@ -42,16 +42,16 @@ pub fn explain<R: Eprint + AllocGlobal>(
 }
 
 /// Whether it is told that a limit of events ended a run.
-fn is_event_limit(told: Option<&Told>) -> bool {
-    matches!(told, Some(Told::Done(Outcome::EventLimit)))
+fn is_event_limit(told: Option<&AnswerContent>) -> bool {
+    matches!(told, Some(AnswerContent::Done(Outcome::EventLimit)))
 }
 
 /// Says that the limit ended the run of the words, where they name none and the answer tells so.
 pub fn tell_limit<R: Eprint + AllocGlobal>(
     rt: &R,
-    words: &Words,
-    told: Option<&Told>,
-) -> Result<(), Stop>
+    words: &Options,
+    told: Option<&AnswerContent>,
+) -> Result<(), ExitReason>
     ensures { IfErr result IsUnadvised }
 {
     if words.names_limit || !is_event_limit(told) {
@@ -74,7 +74,7 @@ fn unsaved<R: Print + Eprint + AllocGlobal>(
     rt: &R,
     path: &str,
     error: io::Error,
-) -> Result<(), Stop>
+) -> Result<(), ExitReason>
     ensures { IfErr result IsUntold }
 {
     say(rt, b"refused NotSaved".as_slice())?;
@@ -89,7 +89,7 @@ pub fn save<R: Files + Print + Eprint + AllocGlobal>(
     rt: &R,
     path: &str,
     text: &[u8],
-) -> Result<(), Stop>
+) -> Result<(), ExitReason>
     ensures { IfErr result IsUntold }
 {
     match fs::write(rt, path, text) {

@@ -7,7 +7,7 @@ ghost use Rattle.explain_types.specs.Names.{shown};
 ghost use Rattle.nedrun_script.specs.Asking.{left_in, HasAskedAll};
 ghost use Rattle.nedrun_script.specs.Faults.{Keeps, KnowsFault};
 ghost use Rattle.nedrun_script.specs.Typing.{AsksNext};
-ghost use Rattle.nedrun_exit.specs.declared.stops.Stop.{Stop as StopValue};
+ghost use Rattle.nedrun_exit.specs.declared.stops.ExitReason.{ExitReason as StopValue};
 ghost use Rattle.nedrun_files.specs.Devices.{taken_by, unwritten};
 ghost use Rattle.nedrun_files.specs.Paths.{file_path};
 ghost use Rattle.nedrun_files.specs.Stops.{IsShortOf, IsShortOfRun, IsUnreadable, IsUnsaid, IsUnwritable};
@@ -19,29 +19,29 @@ ghost use Rattle.transcripts.specs.Heard as heards;
 
 use crate::advice;
 use desk_client::clients::{Client, Gone, Page, Pages};
-use desk_client::told::Told;
+use desk_client::told::AnswerContent;
 use explain_types::names::shown;
 use explain_types::sources::Sources;
-use input_texts::noted::Noted;
-use nedrun_exit::stops::Stop;
+use input_texts::noted::GhostBytes;
+use nedrun_exit::stops::ExitReason;
 use nedrun_files::devices::FileOut;
 use nedrun_files::files::read_text;
 use nedrun_files::output;
-use nedrun_options::words::Words;
+use nedrun_options::words::Options;
 use nedrun_script::dialogue::Dialogue;
 use session_texts::notes::Notes;
 use session_texts::own::Own;
 use sim_values::NoMemory;
 use sim_values::text::Text;
 use std::rt::Files;
-use transcripts::asked::Asked;
+use transcripts::asked::AskedLine;
 
 /// Asks for the run of the words, then to write its files, and then what the lines of standard
 /// input ask for. Prints each answer on a line of standard output before the next line is read.
 #[derive(Drop)]
 pub struct User<'a, R: Files + Input> {
     rt: &'a R,
-    words: &'a Words,
+    words: &'a Options,
     sources: &'a Sources<'a>,
     pub dialogue: Dialogue<R::Reader>,
     /// Whether the folder of the result files is there.
@@ -53,14 +53,14 @@ pub struct User<'a, R: Files + Input> {
     /// Whether standard input is a terminal.
     at_terminal: bool,
     /// Why the user can't go on.
-    pub stop: Option<Stop>,
+    pub stop: Option<ExitReason>,
 }
 
 impl<'a, R: Files + Input + Print + Eprint + AllocGlobal> User<'a, R> {
     /// Who has asked nothing yet, at a terminal or not.
     pub fn new(
         rt: &'a R,
-        words: &'a Words,
+        words: &'a Options,
         sources: &'a Sources<'a>,
         at_terminal: bool,
     ) -> User<'a, R>
@@ -84,7 +84,7 @@ impl<'a, R: Files + Input + Print + Eprint + AllocGlobal> User<'a, R> {
     }
 
     /// Why the user couldn't go on.
-    pub fn into_stop(self) -> Stop
+    pub fn into_stop(self) -> ExitReason
         ensures known { (stop : StopValue) → self.entry.stop ≡ Some stop → result ≡ stop }
         ensures unknown { self.entry.stop ≡ None → IsUnsaid result }
     {
@@ -106,7 +106,7 @@ impl<'a, R: Files + Input + Print + Eprint + AllocGlobal> User<'a, R> {
     }
 
     /// The user can't go on, for that reason.
-    fn gone(&mut self, stop: Stop) -> Gone
+    fn gone(&mut self, stop: ExitReason) -> Gone
         ensures words { self.new.words ≡ self.old.words }
         ensures dialogue { self.new.dialogue ≡ self.old.dialogue }
         ensures reason { self.new.stop ≡ Some stop }
@@ -117,7 +117,7 @@ impl<'a, R: Files + Input + Print + Eprint + AllocGlobal> User<'a, R> {
 
     /// What is asked next. The folder of the result files is made before the first thing: only a
     /// user who is served asks, so where the texts are refused none is made.
-    fn ask(&mut self) -> Result<Option<Asked>, Stop>
+    fn ask(&mut self) -> Result<Option<AskedLine>, ExitReason>
         requires kept { Keeps self.old.dialogue }
         ensures kept { Keeps self.new.dialogue }
         ensures limit { self.new.dialogue.limit ≡ self.old.dialogue.limit }
@@ -143,15 +143,15 @@ impl<'a, R: Files + Input + Print + Eprint + AllocGlobal> User<'a, R> {
     }
 
     /// Notes what is asked.
-    fn note(&mut self, next: &Option<Asked>)
+    fn note(&mut self, next: &Option<AskedLine>)
         ensures words { self.new.words ≡ self.old.words }
         ensures dialogue { self.new.dialogue ≡ self.old.dialogue }
     {
         match next {
-            Some(Asked::Line(line)) => self
+            Some(AskedLine::Line(line)) => self
                 .notes
                 .asks(self.rt.alloc(), line.as_bytes(), self.dialogue.undoes),
-            Some(Asked::TooLong) => self.notes.asks_too_long(),
+            Some(AskedLine::TooLong) => self.notes.asks_too_long(),
             None => {}
         }
     }
@@ -181,7 +181,7 @@ impl<'a, R: Files + Input + Print + Eprint + AllocGlobal> User<'a, R> {
     /// Prints an answer that tells this, or that memory ran out where it tells nothing. A command
     /// of the program's own, which the session doesn't know, is answered in place of that. At a
     /// terminal a blank line has no answer.
-    fn tell(&mut self, answer: &[u8], told: Option<&Told>) -> Result<(), Stop>
+    fn tell(&mut self, answer: &[u8], told: Option<&AnswerContent>) -> Result<(), ExitReason>
         ensures failed { IfErr result IsUntold }
         ensures words { self.new.words ≡ self.old.words }
         ensures dialogue { self.new.dialogue ≡ self.old.dialogue }
@@ -200,7 +200,7 @@ impl<'a, R: Files + Input + Print + Eprint + AllocGlobal> User<'a, R> {
 
     /// Prints the first answer: warnings before it, and after it that the limit ended the run,
     /// where none was given.
-    fn tell_first(&mut self, answer: &[u8], told: Option<&Told>) -> Result<(), Stop>
+    fn tell_first(&mut self, answer: &[u8], told: Option<&AnswerContent>) -> Result<(), ExitReason>
         ensures failed { IfErr result IsUntold }
         ensures words { self.new.words ≡ self.old.words }
         ensures dialogue { self.new.dialogue ≡ self.old.dialogue }
@@ -213,7 +213,7 @@ impl<'a, R: Files + Input + Print + Eprint + AllocGlobal> User<'a, R> {
     }
 
     /// Prints an answer of the session, and an explanation after a refusal or a fault.
-    fn tell_answer(&mut self, answer: &[u8], told: Option<&Told>) -> Result<(), Stop>
+    fn tell_answer(&mut self, answer: &[u8], told: Option<&AnswerContent>) -> Result<(), ExitReason>
         ensures failed { IfErr result IsUntold }
         ensures words { self.new.words ≡ self.old.words }
         ensures dialogue { self.new.dialogue ≡ self.old.dialogue }
@@ -224,7 +224,7 @@ impl<'a, R: Files + Input + Print + Eprint + AllocGlobal> User<'a, R> {
     }
 
     /// Answers a command of the program's own.
-    fn tell_own(&mut self, own: Own) -> Result<(), Stop>
+    fn tell_own(&mut self, own: Own) -> Result<(), ExitReason>
         ensures failed { IfErr result IsUntold }
         ensures words { self.new.words ≡ self.old.words }
         ensures dialogue { self.new.dialogue ≡ self.old.dialogue }
@@ -241,7 +241,7 @@ impl<'a, R: Files + Input + Print + Eprint + AllocGlobal> User<'a, R> {
     }
 
     /// What the file of that path holds.
-    fn text_of(&self, path: &[u8]) -> Result<Text, Stop>
+    fn text_of(&self, path: &[u8]) -> Result<Text, ExitReason>
         ensures failed { IfErr result (IsUnreadable (shown path.now)) }
     {
         match read_text(self.rt, shown(path)) {
@@ -252,7 +252,7 @@ impl<'a, R: Files + Input + Print + Eprint + AllocGlobal> User<'a, R> {
 
     /// What the file of that path holds; or what it held, where an edit is taken back that replaced
     /// it.
-    fn asked_text(&mut self, path: &[u8]) -> Result<Text, Stop>
+    fn asked_text(&mut self, path: &[u8]) -> Result<Text, ExitReason>
         ensures failed { IfErr result (IsUnreadable (shown path.now)) }
         ensures words { self.new.words ≡ self.old.words }
         ensures dialogue { self.new.dialogue ≡ self.old.dialogue }
@@ -264,7 +264,7 @@ impl<'a, R: Files + Input + Print + Eprint + AllocGlobal> User<'a, R> {
     }
 
     /// The device of a file of a configuration's run, by the last part of its name.
-    fn device(&self, config: &[u8], ending: &str) -> Result<FileOut<'a, R>, Stop>
+    fn device(&self, config: &[u8], ending: &str) -> Result<FileOut<'a, R>, ExitReason>
         ensures taken { IfOk result (λ out. taken_by out ≡ untouched) }
         ensures path { IfOk result (λ out. string_bytes out.path
             ≡ file_path (string_bytes self.now.words.now.directory) config.now ending.now) }
@@ -277,7 +277,7 @@ impl<'a, R: Files + Input + Print + Eprint + AllocGlobal> User<'a, R> {
     }
 
     /// The devices of the files of a configuration's run.
-    fn pages(&self, config: &[u8]) -> Result<Pages<FileOut<'a, R>>, Stop>
+    fn pages(&self, config: &[u8]) -> Result<Pages<FileOut<'a, R>>, ExitReason>
         ensures config { IfOk result (λ pages. pages.config.bytes ≡ config.now) }
         ensures scalars { IfOk result (λ pages. taken_by pages.scalars ≡ untouched) }
         ensures vectors { IfOk result (λ pages. taken_by pages.vectors ≡ untouched) }
@@ -288,7 +288,7 @@ impl<'a, R: Files + Input + Print + Eprint + AllocGlobal> User<'a, R> {
         ensures failed { IfErr result (IsShortOfRun
             (string_bytes self.now.words.now.directory) config.now) }
     {
-        let mut name = Noted::new();
+        let mut name = GhostBytes::new();
         name.note(config);
         Ok(Pages {
             config: name,
@@ -300,7 +300,7 @@ impl<'a, R: Files + Input + Print + Eprint + AllocGlobal> User<'a, R> {
 
 /// Writes what is gathered still of both files, and puts them in the place of those that were
 /// there: none of them before both are written whole.
-fn finish<R: Files + AllocGlobal>(pages: &mut Pages<FileOut<'_, R>>) -> Result<(), Stop>
+fn finish<R: Files + AllocGlobal>(pages: &mut Pages<FileOut<'_, R>>) -> Result<(), ExitReason>
     ensures scalars { OnOk result (unwritten pages.new.scalars ≡ []) }
     ensures vectors { OnOk result (unwritten pages.new.vectors ≡ []) }
     ensures scalars_taken { pages.new.scalars.content.bytes ≡ pages.old.scalars.content.bytes }
@@ -331,7 +331,7 @@ fn discard<R: Files + AllocGlobal>(pages: Pages<FileOut<'_, R>>) {
 }
 
 /// What ends the program where the device of this file failed.
-fn lost<R: Files + AllocGlobal>(pages: &Pages<FileOut<'_, R>>, page: Page) -> Stop
+fn lost<R: Files + AllocGlobal>(pages: &Pages<FileOut<'_, R>>, page: Page) -> ExitReason
     ensures { IsUnwritable (path_of page pages.now) result }
 {
     match page {
@@ -355,7 +355,7 @@ impl<'a, R: Files + Input + Print + Eprint + AllocGlobal> Client<FileOut<'a, R>>
         (IsSomeAnd user.stop (IsReason user.dialogue.lines.buffer)) (λ _ _. IsSomeAnd user.stop IsLost) why };
 
     #[tactic(auto, using(crate::proofs::Reasons::reason_askless))]
-    fn next(&mut self) -> Result<Option<Asked>, Gone>
+    fn next(&mut self) -> Result<Option<AskedLine>, Gone>
         requires kept { Keeps self.old.dialogue }
         ensures kept { Keeps self.new.dialogue }
         ensures label { self.new.dialogue.limit ≡ self.old.dialogue.limit }
@@ -382,7 +382,7 @@ impl<'a, R: Files + Input + Print + Eprint + AllocGlobal> Client<FileOut<'a, R>>
     }
 
     #[tactic(auto, using(crate::proofs::Reasons::reason_untold))]
-    fn hear(&mut self, answer: &[u8], told: &Told) -> Result<(), Gone>
+    fn hear(&mut self, answer: &[u8], told: &AnswerContent) -> Result<(), Gone>
         requires kept { Keeps self.old.dialogue }
         requires told { IsTold told.now answer.now }
         ensures kept { Keeps self.new.dialogue }

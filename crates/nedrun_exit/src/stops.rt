@@ -4,7 +4,7 @@ ghost use Rattle.std.specs.Prelude.{◌≡◌};
 ghost use Rattle.clap.specs.Values.{kind_of};
 ghost use Rattle.sim_values.specs.Memory.{no_memory};
 ghost use Rattle.nedrun_exit.specs.Stops.{IsFailed, status_of, words_status};
-ghost use Rattle.nedrun_exit.specs.declared.stops.Stop.TheVariants as stops;
+ghost use Rattle.nedrun_exit.specs.declared.stops.ExitReason.TheVariants as stops;
 
 use clap::error::ErrorKind;
 use sim_values::NoMemory;
@@ -14,7 +14,7 @@ use std::io;
 
 /// Why the program ends early.
 #[derive(Drop)]
-pub enum Stop {
+pub enum ExitReason {
     /// The words aren't as they should be, or ask for help.
     Words(clap::Error),
     /// The texts make no model: the text of the refusal, and the diagnostic.
@@ -29,13 +29,13 @@ pub enum Stop {
     NoMemory(NoMemory),
 }
 
-impl Stop {
+impl ExitReason {
     /// What ends the program where a file, a folder or a stream failed.
-    pub fn failed(alloc: Global, what: &str, name: &str, error: io::Error) -> Stop
+    pub fn failed(alloc: Global, what: &str, name: &str, error: io::Error) -> ExitReason
         ensures { IsFailed what.now name.now error result }
     {
         match format!(in alloc; "{name}: {what}") {
-            Ok(line) => Stop::Failed(line, error),
+            Ok(line) => ExitReason::Failed(line, error),
             Err(error) => error.into(),
         }
     }
@@ -45,10 +45,10 @@ impl Stop {
         ensures { result ≡ status_of self.now }
     {
         match self {
-            Stop::Words(error) => words_status(error),
-            Stop::Refused(_, _) => 2,
-            Stop::Fault => 3,
-            Stop::Failed(_, _) | Stop::Spent | Stop::NoMemory(_) => 1,
+            ExitReason::Words(error) => words_status(error),
+            ExitReason::Refused(_, _) => 2,
+            ExitReason::Fault => 3,
+            ExitReason::Failed(_, _) | ExitReason::Spent | ExitReason::NoMemory(_) => 1,
         }
     }
 }
@@ -64,34 +64,34 @@ fn words_status(error: &clap::Error) -> u8
     }
 }
 
-impl From<clap::Error> for Stop {
+impl From<clap::Error> for ExitReason {
     ghost from_gives = { λ error stop. stop ≡ stops.Words error };
 
-    fn from(error: clap::Error) -> Stop {
-        Stop::Words(error)
+    fn from(error: clap::Error) -> ExitReason {
+        ExitReason::Words(error)
     }
 }
 
-impl From<NoMemory> for Stop {
+impl From<NoMemory> for ExitReason {
     ghost from_gives = { λ error stop. stop ≡ stops.NoMemory error };
 
-    fn from(error: NoMemory) -> Stop {
-        Stop::NoMemory(error)
+    fn from(error: NoMemory) -> ExitReason {
+        ExitReason::NoMemory(error)
     }
 }
 
-impl From<AllocError> for Stop {
+impl From<AllocError> for ExitReason {
     ghost from_gives = { λ error stop. stop ≡ stops.NoMemory no_memory };
 
-    fn from(error: AllocError) -> Stop {
-        Stop::NoMemory(error.into())
+    fn from(error: AllocError) -> ExitReason {
+        ExitReason::NoMemory(error.into())
     }
 }
 
-impl<T: Drop> From<AllocFailed<T>> for Stop {
+impl<T: Drop> From<AllocFailed<T>> for ExitReason {
     ghost from_gives = { λ _ stop. stop ≡ stops.NoMemory no_memory };
 
-    fn from(failed: AllocFailed<T>) -> Stop {
-        Stop::NoMemory(failed.into())
+    fn from(failed: AllocFailed<T>) -> ExitReason {
+        ExitReason::NoMemory(failed.into())
     }
 }

@@ -10,8 +10,8 @@ ghost use Rattle.nedrun_files.specs.Paths.{part_path};
 ghost use Rattle.result_lines.specs.Taken.{untouched};
 ghost use Rattle.nedrun_files.specs.Stops.{IsShortOf, IsUnwritable};
 
-use input_texts::noted::Noted;
-use nedrun_exit::stops::Stop;
+use input_texts::noted::GhostBytes;
+use nedrun_exit::stops::ExitReason;
 use result_lines::writer::{Out, WriteFault};
 use std::fs::File;
 use std::io::{BufWriter, ErrorKind, Write};
@@ -52,7 +52,7 @@ pub struct FileOut<'a, R: Files> {
     /// The path of the file beside it.
     part: String,
     writer: BufWriter<LateFile<'a, R>>,
-    content: Noted,
+    content: GhostBytes,
     failures: u64,
     /// What failed last.
     fault: Option<io::Error>,
@@ -60,7 +60,7 @@ pub struct FileOut<'a, R: Files> {
 
 impl<'a, R: Files + AllocGlobal> FileOut<'a, R> {
     /// The file of that path. It is not made yet.
-    pub fn new(rt: &'a R, path: String) -> Result<FileOut<'a, R>, Stop>
+    pub fn new(rt: &'a R, path: String) -> Result<FileOut<'a, R>, ExitReason>
         ensures taken { IfOk result (λ out. taken_by out ≡ untouched) }
         ensures path { IfOk result (λ out. out.path ≡ path) }
         ensures part { IfOk result (λ out. string_bytes out.part ≡ part_path (string_bytes path)) }
@@ -82,7 +82,7 @@ impl<'a, R: Files + AllocGlobal> FileOut<'a, R> {
                 path,
                 part,
                 writer,
-                content: Noted::new(),
+                content: GhostBytes::new(),
                 failures: 0,
                 fault: None,
             }),
@@ -91,7 +91,7 @@ impl<'a, R: Files + AllocGlobal> FileOut<'a, R> {
     }
 
     /// Writes what is gathered still. Where that succeeds, all that it took is written.
-    pub fn finish(&mut self) -> Result<(), Stop>
+    pub fn finish(&mut self) -> Result<(), ExitReason>
         ensures written { OnOk result (unwritten self.new ≡ []) }
         ensures content { self.new.content.bytes ≡ self.old.content.bytes }
         ensures path { self.new.path ≡ self.old.path }
@@ -104,7 +104,7 @@ impl<'a, R: Files + AllocGlobal> FileOut<'a, R> {
     }
 
     /// Sees to it that the file can take its place: no folder stands there.
-    pub fn look(&self) -> Result<(), Stop>
+    pub fn look(&self) -> Result<(), ExitReason>
         ensures { IfErr result (λ stop. IsUnwritable (string_bytes self.now.path) stop) }
     {
         match fs::metadata(self.rt, self.path.as_str()) {
@@ -117,7 +117,7 @@ impl<'a, R: Files + AllocGlobal> FileOut<'a, R> {
     }
 
     /// Puts the file, which is written whole, in the place of the one that was there.
-    pub fn take_place(&self) -> Result<(), Stop>
+    pub fn take_place(&self) -> Result<(), ExitReason>
         requires whole { unwritten self.now ≡ [] }
         ensures { IfErr result (λ stop. IsUnwritable (string_bytes self.now.path) stop) }
     {
@@ -146,14 +146,14 @@ impl<'a, R: Files + AllocGlobal> FileOut<'a, R> {
     }
 
     /// What it took.
-    pub fn content(&self) -> &Noted
+    pub fn content(&self) -> &GhostBytes
         ensures { result.now ≡ self.now.content }
     {
         &self.content
     }
 
     /// What ends the program where the last write failed.
-    pub fn stop(&self) -> Stop
+    pub fn stop(&self) -> ExitReason
         ensures unwritable { IsUnwritable (string_bytes self.now.path) result }
         ensures fault { (error : SystemError) → self.now.fault ≡ Some error
             → IsFailed (codes "this file can't be written") (string_bytes self.now.path)
@@ -165,10 +165,10 @@ impl<'a, R: Files + AllocGlobal> FileOut<'a, R> {
 }
 
 /// What ends the program where the file of that path can't be written.
-fn unwritable<R: AllocGlobal>(rt: &R, path: &str, error: io::Error) -> Stop
+fn unwritable<R: AllocGlobal>(rt: &R, path: &str, error: io::Error) -> ExitReason
     ensures { IsFailed (codes "this file can't be written") path.now error result }
 {
-    Stop::failed(rt.alloc(), "this file can't be written", path, error)
+    ExitReason::failed(rt.alloc(), "this file can't be written", path, error)
 }
 
 impl<R: Files> FileOut<'_, R> {

@@ -5,7 +5,7 @@ ghost use Rattle.nedrun_files.specs.Stops.{IsStatus};
 
 use explain_types::names::shown;
 use input_lines::line::MOST_LINES;
-use nedrun_exit::stops::Stop;
+use nedrun_exit::stops::ExitReason;
 use sim_values::text::Text;
 use std::io;
 use std::process::ExitCode;
@@ -14,7 +14,7 @@ use std::process::ExitCode;
 /// input; 1 where a file or a stream fails, where memory runs out for what the program says or
 /// reads, or where as many lines were read as are; 2 where the words or the texts are refused; 3
 /// where the last run ended in a fault, and the words want that told.
-pub fn status<R: Print + Eprint>(rt: &R, ended: Result<(), Stop>) -> ExitCode
+pub fn status<R: Print + Eprint>(rt: &R, ended: Result<(), ExitReason>) -> ExitCode
     ensures { IsStatus ended (exit_status result) }
 {
     match ended {
@@ -28,16 +28,16 @@ pub fn status<R: Print + Eprint>(rt: &R, ended: Result<(), Stop>) -> ExitCode
 
 /// Says why the program ends early, on standard error but for help. The first line has the name of
 /// a refusal, the second is for a person.
-fn tell<R: Print + Eprint>(rt: &R, stop: &Stop) -> io::Result<()> {
+fn tell<R: Print + Eprint>(rt: &R, stop: &ExitReason) -> io::Result<()> {
     match stop {
-        Stop::Words(error) => error.print(rt),
-        Stop::Refused(text, line) => say_refused(rt, text, line.as_str()),
-        Stop::Failed(line, error) => eprintln!(rt; "nedrun: {error}\n{line}"),
-        Stop::Spent => eprintln!(rt;
+        ExitReason::Words(error) => error.print(rt),
+        ExitReason::Refused(text, line) => say_refused(rt, text, line.as_str()),
+        ExitReason::Failed(line, error) => eprintln!(rt; "nedrun: {error}\n{line}"),
+        ExitReason::Spent => eprintln!(rt;
             "nedrun: the limit of {MOST_LINES} command lines is reached: start the program again"
         ),
-        Stop::Fault => eprintln!(rt; "nedrun: the last run ended in a fault"),
-        Stop::NoMemory(_) => eprintln!(rt; "nedrun: NoMemory"),
+        ExitReason::Fault => eprintln!(rt; "nedrun: the last run ended in a fault"),
+        ExitReason::NoMemory(_) => eprintln!(rt; "nedrun: NoMemory"),
     }
 }
 

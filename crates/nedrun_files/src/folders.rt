@@ -4,7 +4,7 @@ ghost use Rattle.std.specs.Prelude.{IfErr, codes};
 ghost use Rattle.nedrun_exit.specs.Stops.{IsFailed};
 ghost use Rattle.nedrun_files.specs.Stops.{IsUnlisted};
 
-use nedrun_exit::stops::Stop;
+use nedrun_exit::stops::ExitReason;
 use std::alloc::{AllocError, Global};
 use std::fs::DirEntry;
 use std::rt::Files;
@@ -24,10 +24,10 @@ struct Search {
 }
 
 /// What ends the program where a folder can't be read.
-fn unlisted<R: AllocGlobal>(rt: &R, path: &str, error: io::Error) -> Stop
+fn unlisted<R: AllocGlobal>(rt: &R, path: &str, error: io::Error) -> ExitReason
     ensures { IsFailed (codes "this folder can't be read") path.now error result }
 {
-    Stop::failed(rt.alloc(), "this folder can't be read", path, error)
+    ExitReason::failed(rt.alloc(), "this folder can't be read", path, error)
 }
 
 /// The folders that a word names, with `:` or `;` between them, the last one first. An empty name
@@ -76,7 +76,7 @@ impl Search {
 fn found_below<R: Files + AllocGlobal + Clone + Drop>(
     rt: &R,
     word: &str,
-) -> Result<Vec<String>, Stop>
+) -> Result<Vec<String>, ExitReason>
     ensures { IfErr result IsUnlisted }
 {
     let mut search = Search {
@@ -111,7 +111,7 @@ pub fn add_ned_paths<R: Files + AllocGlobal + Clone + Drop>(
     rt: &R,
     word: &str,
     paths: &mut Vec<String>,
-) -> Result<(), Stop>
+) -> Result<(), ExitReason>
     ensures { IfErr result IsUnlisted }
 {
     let found = found_below(rt, word)?;

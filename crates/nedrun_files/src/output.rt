@@ -6,7 +6,7 @@ ghost use Rattle.nedrun_files.specs.Paths.{file_path};
 ghost use Rattle.nedrun_files.specs.Stops.{IsUnadvised, IsUnsaid};
 
 use explain_types::names::shown;
-use nedrun_exit::stops::Stop;
+use nedrun_exit::stops::ExitReason;
 use std::alloc::{AllocError, Global};
 use std::io::{ErrorKind, Write};
 use std::rt::Files;
@@ -20,11 +20,11 @@ fn print<R: Print>(rt: &R, line: &[u8]) -> io::Result<()> {
 }
 
 /// What ends the program where an answer can't be printed.
-fn unsaid<R: AllocGlobal>(rt: &R, error: io::Error) -> Stop
+fn unsaid<R: AllocGlobal>(rt: &R, error: io::Error) -> ExitReason
     ensures { IsFailed (codes "the answer can't be printed") (codes "standard output")
         error result }
 {
-    Stop::failed(
+    ExitReason::failed(
         rt.alloc(),
         "the answer can't be printed",
         "standard output",
@@ -33,14 +33,14 @@ fn unsaid<R: AllocGlobal>(rt: &R, error: io::Error) -> Stop
 }
 
 /// What ends the program where an answer wasn't printed, and no more is known.
-pub fn unprinted<R: AllocGlobal>(rt: &R) -> Stop
+pub fn unprinted<R: AllocGlobal>(rt: &R) -> ExitReason
     ensures { IsUnsaid result }
 {
     unsaid(rt, io::Error::from(ErrorKind::WriteZero))
 }
 
 /// Prints a line on standard output, or says that it failed.
-pub fn say<R: Print + AllocGlobal>(rt: &R, line: &[u8]) -> Result<(), Stop>
+pub fn say<R: Print + AllocGlobal>(rt: &R, line: &[u8]) -> Result<(), ExitReason>
     ensures { IfErr result IsUnsaid }
 {
     match print(rt, line) {
@@ -50,7 +50,7 @@ pub fn say<R: Print + AllocGlobal>(rt: &R, line: &[u8]) -> Result<(), Stop>
 }
 
 /// Prints diagnostics on standard error, where there are any.
-pub fn advise<R: Eprint + AllocGlobal>(rt: &R, lines: &str) -> Result<(), Stop>
+pub fn advise<R: Eprint + AllocGlobal>(rt: &R, lines: &str) -> Result<(), ExitReason>
     ensures { IfErr result IsUnadvised }
 {
     if lines.is_empty() {
@@ -58,7 +58,7 @@ pub fn advise<R: Eprint + AllocGlobal>(rt: &R, lines: &str) -> Result<(), Stop>
     }
     match eprintln!(rt; "{}", lines.trim_ascii_end()) {
         Ok(()) => Ok(()),
-        Err(error) => Err(Stop::failed(
+        Err(error) => Err(ExitReason::failed(
             rt.alloc(),
             "a warning can't be printed",
             "standard error",
@@ -68,12 +68,17 @@ pub fn advise<R: Eprint + AllocGlobal>(rt: &R, lines: &str) -> Result<(), Stop>
 }
 
 /// Makes the folder of the result files, where it is not there.
-pub fn make_folder<R: Files + AllocGlobal>(rt: &R, directory: &str) -> Result<(), Stop>
+pub fn make_folder<R: Files + AllocGlobal>(rt: &R, directory: &str) -> Result<(), ExitReason>
     ensures { IfErr result (λ stop. Fails (codes "this folder can't be made") directory.now stop) }
 {
     match fs::create_dir_all(rt, directory) {
         Ok(()) => Ok(()),
-        Err(error) => Err(Stop::failed(rt.alloc(), "this folder can't be made", directory, error)),
+        Err(error) => Err(ExitReason::failed(
+            rt.alloc(),
+            "this folder can't be made",
+            directory,
+            error,
+        )),
     }
 }
 

@@ -7,9 +7,9 @@ use Rattle.clap.specs.Matches.{first_value, matched_of, one_text, raw_values}
 use Rattle.clap.specs.declared.parser.matches.Found.{Found}
 use Rattle.clap.specs.declared.parser.matches.ValueSource.{ValueSource}
 use Rattle.clap.specs.declared.parser.matches.ValueSource.TheVariants as source
-use Rattle.nedrun_exit.specs.declared.stops.Stop.{Stop}
-use Rattle.nedrun_exit.specs.declared.stops.Stop.TheVariants as stop
-use Rattle.nedrun_options.specs.declared.words.Words.{Words}
+use Rattle.nedrun_exit.specs.declared.stops.ExitReason.{ExitReason}
+use Rattle.nedrun_exit.specs.declared.stops.ExitReason.TheVariants as stop
+use Rattle.nedrun_options.specs.declared.words.Options.{Options}
 
 -- the number that a word says in decimal digits, where it fits
 abbrev pub IsNumberOf : List ℕ → ℕ → Type 0
@@ -76,7 +76,7 @@ texts_of (Some named) files = files
 texts_of None files = ned_files files
 
 -- WHAT THE PROGRAM IS ASKED FOR is what its words say, each by its name.
-pub record IsGiven (found : Found) (words : Words) : Type 0 where
+pub record IsGiven (found : Found) (words : Options) : Type 0 where
   pub config : string_bytes words.config ≡ unwrap_or (first_value found (codes "config")) (codes "General")
   pub limit : IsLimitOf (one_text found (codes "limit")) words.limit
   pub named : words.names_limit ≡ is_given (option_and_then (λ a. a.source) (matched_of found (codes "limit")))
@@ -90,7 +90,7 @@ pub record IsGiven (found : Found) (words : Words) : Type 0 where
 
 -- why the words aren't there: they can't be had; they are not as they should be, or ask for help;
 -- or memory ran out
-abbrev pub AreUnreadWords : Stop → Type 0
+abbrev pub AreUnreadWords : ExitReason → Type 0
 AreUnreadWords (stop.Words _) = Unit {0}
 AreUnreadWords (stop.Failed line error) = string_bytes line ≡ codes "command line: the words can't be read"
 AreUnreadWords (stop.NoMemory _) = Unit {0}

@@ -8,7 +8,7 @@ ghost use Rattle.nedrun_options.specs.Words.{begins_with_ini, files_of, folder_o
 use clap::error::ErrorKind;
 use clap::parser::ValueSource;
 use clap::{Arg, ArgAction, ArgMatches, Command, value_parser};
-use nedrun_exit::stops::Stop;
+use nedrun_exit::stops::ExitReason;
 use std::alloc::{AllocError, Global};
 use std::env;
 use std::rt::Env;
@@ -31,7 +31,7 @@ docs/REFUSALS.md says what each refusal and fault means, and what to change.";
 
 /// What the program is asked for.
 #[derive(Drop)]
-pub struct Words {
+pub struct Options {
     /// The name of the configuration.
     pub config: String,
     /// The run ends after so many events.
@@ -362,13 +362,13 @@ fn parsed<'a>(alloc: Global, given: &'a [String]) -> Result<ArgMatches<'a>, clap
 }
 
 /// The words that the program was started with.
-fn given_words<R: Env + AllocGlobal>(rt: &R) -> Result<Vec<String>, Stop>
+fn given_words<R: Env + AllocGlobal>(rt: &R) -> Result<Vec<String>, ExitReason>
     ensures { IfErr result (λ stop.
         Fails (codes "the words can't be read") (codes "command line") stop) }
 {
     match env::args(rt) {
         Ok(words) => Ok(words.collect(rt.alloc())?),
-        Err(error) => Err(Stop::failed(
+        Err(error) => Err(ExitReason::failed(
             rt.alloc(),
             "the words can't be read",
             "command line",
@@ -377,16 +377,16 @@ fn given_words<R: Env + AllocGlobal>(rt: &R) -> Result<Vec<String>, Stop>
     }
 }
 
-impl Words {
+impl Options {
     /// What the words say that were given: what `clap` found of each, by its name, or else the
     /// word's default. Fails where memory runs out.
-    pub fn given(alloc: Global, matches: &ArgMatches<'_>) -> Result<Words, AllocError>
+    pub fn given(alloc: Global, matches: &ArgMatches<'_>) -> Result<Options, AllocError>
         ensures given { IfOk result (λ words. IsGiven (found_of matches.now) words) }
         ensures interval { IfOk result (λ words. 1 ≤ words.interval) }
     {
         let mut files = given_files(alloc, matches)?;
         let ini = take_ini(alloc, &mut files, matches.get_str("file"))?;
-        Ok(Words {
+        Ok(Options {
             config: String::from_str(alloc, matches.get_str("config").unwrap_or("General"))?,
             limit: given_limit(matches),
             names_limit: names(matches, "limit"),
@@ -405,13 +405,13 @@ impl Words {
 
     /// The program's own words. Fails where they can't be had, where `clap` refuses them or they
     /// ask for help, or where memory runs out.
-    pub fn read<R: Env + AllocGlobal>(rt: &R) -> Result<Words, Stop>
+    pub fn read<R: Env + AllocGlobal>(rt: &R) -> Result<Options, ExitReason>
         ensures interval { IfOk result (λ words. 1 ≤ words.interval) }
         ensures failed { IfErr result AreUnreadWords }
     {
         let alloc = rt.alloc();
         let given = given_words(rt)?;
         let matches = parsed(alloc, given.as_slice())?;
-        Ok(Words::given(alloc, &matches)?)
+        Ok(Options::given(alloc, &matches)?)
     }
 }

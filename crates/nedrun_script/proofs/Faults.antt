@@ -6,8 +6,8 @@ use Rattle.model_edits.specs.declared.edit.Refusal.TheVariants as edit
 use Rattle.run_semantics.specs.declared.outcome.Outcome.{Outcome}
 use Rattle.run_semantics.specs.declared.outcome.Outcome.TheVariants as outcome
 use Rattle.desk_client.specs.Answers.{done_text, edit_refusal_text, IsTold}
-use Rattle.desk_client.specs.declared.told.Told.{Told}
-use Rattle.desk_client.specs.declared.told.Told.TheVariants as told
+use Rattle.desk_client.specs.declared.told.AnswerContent.{AnswerContent}
+use Rattle.desk_client.specs.declared.told.AnswerContent.TheVariants as told
 use Rattle.transcripts.specs.Heard.{Heard, Answer}
 use Rattle.nedrun_script.specs.Faults.{ends_in_fault, fault_behind, fault_from, fault_told}
 
@@ -54,7 +54,7 @@ told_refused before edit.NoSuchNetwork text is = as_behind before text (codes "r
 told_refused before (edit.NoMemory _) text is = cc
 
 -- WHAT AN ANSWER TELLS says the same as its text
-told_behind : (before : Bool) (t : Told) (text : List ℕ) → IsTold t text → fault_told before t ≡ fault_behind before (Answer text)
+told_behind : (before : Bool) (t : AnswerContent) (text : List ℕ) → IsTold t text → fault_told before t ≡ fault_behind before (Answer text)
 told_behind before (told.Done o) text is =
     subst (λ (x : List ℕ). fault_told before (told.Done o) ≡ fault_behind before (Answer x)) (sym is.2) (told_done before o is.0 is.1)
 told_behind before (told.Edited injection) text is = as_behind before text _ is.1 refl
@@ -67,7 +67,7 @@ told_behind before told.Positions text is = as_behind before text _ is.1 refl
 told_behind before told.Held text is = as_behind before text _ is.1 refl
 
 -- so with one answer more that was heard it is known by what that tells
-pub known_by : (before behind : Bool) (hs more : List Heard) (t : Told) (text : List ℕ) → IsTold t text → before ≡ ends_in_fault hs → behind ≡ fault_told before t
+pub known_by : (before behind : Bool) (hs more : List Heard) (t : AnswerContent) (text : List ℕ) → IsTold t text → before ≡ ends_in_fault hs → behind ≡ fault_told before t
     → more ≡ hs ++ Answer text ∷ [] → behind ≡ ends_in_fault more
 known_by before behind hs more t text is known told heard =
     told ∙ told_behind before t text is ∙ ap (λ (b : Bool). fault_behind b (Answer text)) known ∙ sym (ap ends_in_fault heard ∙ fault_more hs (Answer text))

@@ -4,10 +4,10 @@ use Rattle.std.specs.String.{string_bytes}
 use Rattle.input_lines.specs.Limits.{most_lines}
 use Rattle.input_lines.specs.Waits.{Waiting, IsSpent}
 use Rattle.sim_values.specs.Counts.{next_count}
-use Rattle.transcripts.specs.declared.asked.Asked.{Asked}
+use Rattle.transcripts.specs.declared.asked.AskedLine.{AskedLine}
 use Rattle.nedrun_exit.specs.Stops.{IsOutOfMemory}
-use Rattle.nedrun_exit.specs.declared.stops.Stop.{Stop}
-use Rattle.nedrun_exit.specs.declared.stops.Stop.TheVariants as stop
+use Rattle.nedrun_exit.specs.declared.stops.ExitReason.{ExitReason}
+use Rattle.nedrun_exit.specs.declared.stops.ExitReason.TheVariants as stop
 use Rattle.nedrun_script.specs.Typing.{AsksInOrder, AsksNext}
 use Rattle.nedrun_script.specs.declared.dialogue.Ask.{Ask}
 use Rattle.nedrun_script.specs.declared.dialogue.Ask.TheVariants as ask
@@ -26,7 +26,7 @@ left_of a waiting = firsts a + (most_lines - waiting.counted)
 
 -- WHY A LINE ISN'T READ: as many lines as are read are counted; standard input failed, once more;
 -- or memory ran out
-abbrev pub IsUnread : ℕ → ℕ → Waiting → Stop → Type 0
+abbrev pub IsUnread : ℕ → ℕ → Waiting → ExitReason → Type 0
 IsUnread failures failures' waiting stop.Spent = IsSpent waiting × (failures' ≡ failures)
 IsUnread failures failures' waiting (stop.Failed line error) =
     (string_bytes line ≡ codes "standard input: the next command can't be read") × (failures' ≡ next_count failures)
@@ -34,7 +34,7 @@ IsUnread failures failures' waiting (stop.NoMemory _) = Unit {0}
 IsUnread failures failures' waiting _ = ⊥
 
 -- why nothing is asked: memory ran out; or, where a line is to be asked, it isn't read
-abbrev pub IsUnasked : Ask → ℕ → ℕ → Waiting → Stop → Type 0
+abbrev pub IsUnasked : Ask → ℕ → ℕ → Waiting → ExitReason → Type 0
 IsUnasked ask.Run failures failures' waiting s = IsOutOfMemory s
 IsUnasked ask.Write failures failures' waiting s = IsOutOfMemory s
 IsUnasked ask.Line failures failures' waiting s = IsUnread failures failures' waiting s
@@ -54,7 +54,7 @@ module _ {I : Type 0} where
   HasAskedAll d = ((d.ask ≡ ask.Line) × (d.lines.buffer.bytes ≡ [])) ⊎ (d.ask ≡ ask.Nothing)
 
   -- WHAT ASKING COMES TO, of the dialogue before and after it.
-  pub record Asks (before : Dialogue I) (answer : Result (Option Asked) Stop) (after : Dialogue I) : Type 0 where
+  pub record Asks (before : Dialogue I) (answer : Result (Option AskedLine) ExitReason) (after : Dialogue I) : Type 0 where
     -- what was asked is in its order
     pub kept : IsInOrder after
     -- one thing more is asked, and less is left to be asked; or nothing is asked

@@ -2,8 +2,8 @@
 use Rattle.std.specs.Prelude.{◌==◌, ℕ, Bool, true, false, List, [], ◌∷◌, codes, if◌then◌else◌, ◌≡◌}
 use Rattle.std.specs.List.{starts_with}
 use Rattle.run_semantics.specs.declared.outcome.Outcome.TheVariants as outcome
-use Rattle.desk_client.specs.declared.told.Told.{Told}
-use Rattle.desk_client.specs.declared.told.Told.TheVariants as told
+use Rattle.desk_client.specs.declared.told.AnswerContent.{AnswerContent}
+use Rattle.desk_client.specs.declared.told.AnswerContent.TheVariants as told
 use Rattle.transcripts.specs.Heard.{Heard, Answer, Files, OutOfMemory, Read}
 use Rattle.nedrun_script.specs.Asking.{IsInOrder}
 use Rattle.nedrun_script.specs.declared.dialogue.Dialogue.{Dialogue}
@@ -21,7 +21,7 @@ fault_behind before (Read _ _) = before
 fault_behind before OutOfMemory = before
 
 -- the same by what the answer tells
-abbrev pub fault_told : Bool → Told → Bool
+abbrev pub fault_told : Bool → AnswerContent → Bool
 fault_told before (told.Done (outcome.Fault event path f)) = true
 fault_told before (told.Done _) = false
 fault_told before _ = before

@@ -5,9 +5,9 @@ use Rattle.std.specs.Str.{IsTrimAsciiEnd}
 use Rattle.input_lines.specs.Feeds.{has_feed}
 use Rattle.input_lines.specs.Limits.{longest}
 use Rattle.input_lines.specs.Waits.{Waiting}
-use Rattle.nedrun_exit.specs.declared.stops.Stop.{Stop}
-use Rattle.transcripts.specs.declared.asked.Asked.{Asked}
-use Rattle.transcripts.specs.declared.asked.Asked.TheVariants as asked
+use Rattle.nedrun_exit.specs.declared.stops.ExitReason.{ExitReason}
+use Rattle.transcripts.specs.declared.asked.AskedLine.{AskedLine}
+use Rattle.transcripts.specs.declared.asked.AskedLine.TheVariants as asked
 use Rattle.nedrun_script.specs.declared.dialogue.Ask.{Ask}
 use Rattle.nedrun_script.specs.declared.dialogue.Ask.TheVariants as ask
 
@@ -28,13 +28,13 @@ abbrev pub IsMeant : List ℕ → List ℕ → Type 0
 IsMeant text said = (text ≡ said) ⊎ (said ≡ codes "undo")
 
 -- what the line says is asked, where it is not too long
-abbrev pub IsAskedAs : Bool → Asked → List ℕ → Type 0
+abbrev pub IsAskedAs : Bool → AskedLine → List ℕ → Type 0
 IsAskedAs at_terminal (asked.Line text) line =
     (said : List ℕ) × IsTyped at_terminal said line × IsMeant text said × (length line ≤ longest)
 IsAskedAs at_terminal asked.TooLong line = longest < length line
 
 -- a line is asked that stands at the front of these bytes
-pub record IsFirstLine (at_terminal : Bool) (all : List ℕ) (a : Asked) (rest : List ℕ) : Type 0 where
+pub record IsFirstLine (at_terminal : Bool) (all : List ℕ) (a : AskedLine) (rest : List ℕ) : Type 0 where
   pub line : List ℕ
   pub begins : BeginsWithLine all line rest
   pub one : has_feed line ≡ false
@@ -42,32 +42,32 @@ pub record IsFirstLine (at_terminal : Bool) (all : List ℕ) (a : Asked) (rest :
 
 -- THE LINES at the front of these bytes are asked, one after the other, and none is left out; the
 -- rest of the bytes follows
-abbrev pub AreLines : Bool → List Asked → List ℕ → List ℕ → Type 0
+abbrev pub AreLines : Bool → List AskedLine → List ℕ → List ℕ → Type 0
 AreLines at_terminal [] all rest = all ≡ rest
 AreLines at_terminal (a ∷ asks) all rest = (next : List ℕ) × IsFirstLine at_terminal all a next × AreLines at_terminal asks next rest
 
-abbrev pub run_line : ℕ → Asked
+abbrev pub run_line : ℕ → AskedLine
 run_line limit = asked.Line (codes "run " ++ decimal limit)
 
-abbrev pub write_line : Asked
+abbrev pub write_line : AskedLine
 write_line = asked.Line (codes "write")
 
-abbrev pub quit_line : Asked
+abbrev pub quit_line : AskedLine
 quit_line = asked.Line (codes "quit")
 
 -- WHAT IS ASKED: first the run to the limit of the words, then to write its files, and then the
 -- lines that standard input gave, at a terminal or not. Where nothing more is asked, the line after
 -- those says `quit`.
-abbrev pub AsksInOrder : ℕ → Bool → Ask → List Asked → List ℕ → Waiting → Type 0
+abbrev pub AsksInOrder : ℕ → Bool → Ask → List AskedLine → List ℕ → Waiting → Type 0
 AsksInOrder limit at_terminal ask.Run asks given waiting = (asks ≡ []) × (given ≡ waiting.bytes)
 AsksInOrder limit at_terminal ask.Write asks given waiting = (asks ≡ run_line limit ∷ []) × (given ≡ waiting.bytes)
 AsksInOrder limit at_terminal ask.Line asks given waiting =
-    (typed : List Asked) × (asks ≡ run_line limit ∷ write_line ∷ typed) × AreLines at_terminal typed given waiting.bytes
+    (typed : List AskedLine) × (asks ≡ run_line limit ∷ write_line ∷ typed) × AreLines at_terminal typed given waiting.bytes
 AsksInOrder limit at_terminal ask.Nothing asks given waiting =
-    (typed : List Asked) × (asks ≡ run_line limit ∷ write_line ∷ typed) × AreLines at_terminal (typed ++ quit_line ∷ []) given waiting.bytes
+    (typed : List AskedLine) × (asks ≡ run_line limit ∷ write_line ∷ typed) × AreLines at_terminal (typed ++ quit_line ∷ []) given waiting.bytes
 
 -- one thing more is asked, and less is left to be asked; or nothing is asked
-abbrev pub AsksNext : List Asked → ℕ → Result (Option Asked) Stop → List Asked → ℕ → Type 0
+abbrev pub AsksNext : List AskedLine → ℕ → Result (Option AskedLine) ExitReason → List AskedLine → ℕ → Type 0
 AsksNext asks left (Ok (Some a)) asks' left' = (asks' ≡ asks ++ a ∷ []) × (left' < left)
 AsksNext asks left (Ok None) asks' left' = asks' ≡ asks
 AsksNext asks left (Err stop) asks' left' = asks' ≡ asks

@@ -10,21 +10,21 @@ ghost use Rattle.nedrun_script.specs.Typing.{IsMeant, IsTyped};
 ghost use Rattle.nedrun_script.specs.declared.dialogue.Ask.TheVariants as ask;
 ghost use Rattle.transcripts.specs.Heard as heards;
 
-use desk_client::told::Told;
+use desk_client::told::AnswerContent;
 use input_lines::line::NextLine;
 use input_lines::reader::LineReader;
-use input_texts::noted::Noted;
+use input_texts::noted::GhostBytes;
 use input_texts::reader::NotedReader;
 use input_texts::reading::ReadFault;
 use itoa::Buffer as Digits;
-use nedrun_exit::stops::Stop;
+use nedrun_exit::stops::ExitReason;
 use run_semantics::outcome::Outcome;
 use sim_values::NoMemory;
 use sim_values::text::Text;
 use std::alloc::Global;
 use std::io;
 use std::io::Read;
-use transcripts::asked::Asked;
+use transcripts::asked::AskedLine;
 use transcripts::transcript::Transcript;
 
 /// What is asked next.
@@ -52,11 +52,11 @@ fn run_line(alloc: Global, limit: u64) -> Result<Text, NoMemory>
 }
 
 /// What ends the program where a line of standard input can't be read.
-fn unread_line(alloc: Global, error: io::Error) -> Stop
+fn unread_line(alloc: Global, error: io::Error) -> ExitReason
     ensures { IsFailed (codes "the next command can't be read") (codes "standard input")
         error result }
 {
-    Stop::failed(
+    ExitReason::failed(
         alloc,
         "the next command can't be read",
         "standard input",
@@ -99,12 +99,12 @@ fn meant(alloc: Global, said: Text, undo: Option<&Text>) -> (Text, bool)
 }
 
 /// Whether the last run ended in a fault, behind an answer too that tells this.
-fn has_fault_behind(has_fault: bool, told: &Told) -> bool
+fn has_fault_behind(has_fault: bool, told: &AnswerContent) -> bool
     ensures { result ≡ fault_told has_fault told.now }
 {
     match told {
-        Told::Done(Outcome::Fault(_, _, _)) => true,
-        Told::Done(_) => false,
+        AnswerContent::Done(Outcome::Fault(_, _, _)) => true,
+        AnswerContent::Done(_) => false,
         _ => has_fault,
     }
 }
@@ -151,7 +151,7 @@ impl<I: Read> Dialogue<I> {
     }
 
     /// Hears an answer, and what it tells.
-    pub fn hears(&mut self, answer: &[u8], told: &Told)
+    pub fn hears(&mut self, answer: &[u8], told: &AnswerContent)
         requires known { KnowsFault self.old }
         requires told { IsTold told.now answer.now }
         ensures known { KnowsFault self.new }
@@ -170,7 +170,7 @@ impl<I: Read> Dialogue<I> {
     /// Hears that both files of a run were kept, of these bytes, with the name of the configuration
     /// that they are of.
     #[tactic(auto, using(crate::proofs::Faults::fault_more))]
-    pub fn hears_files(&mut self, config: &Noted, scalars: &Noted, vectors: &Noted)
+    pub fn hears_files(&mut self, config: &GhostBytes, scalars: &GhostBytes, vectors: &GhostBytes)
         requires known { KnowsFault self.old }
         ensures known { KnowsFault self.new }
         ensures heard { self.new.transcript.heard ≡ self.old.transcript.heard
@@ -217,7 +217,7 @@ impl<I: Read> Dialogue<I> {
     }
 
     /// Asks for the run of the words.
-    fn ask_run(&mut self, alloc: Global) -> Result<Option<Asked>, Stop>
+    fn ask_run(&mut self, alloc: Global) -> Result<Option<AskedLine>, ExitReason>
         requires first { self.old.ask ≡ ask.Run }
         requires kept { IsInOrder self.old }
         ensures asks { Asks self.old result self.new }
@@ -227,14 +227,14 @@ impl<I: Read> Dialogue<I> {
             Ok(line) => {
                 self.ask = Ask::Write;
                 self.transcript.asks_line(line.as_bytes());
-                Ok(Some(Asked::Line(line)))
+                Ok(Some(AskedLine::Line(line)))
             }
             Err(error) => Err(error.into()),
         }
     }
 
     /// Asks to write the files of that run.
-    fn ask_write(&mut self, alloc: Global) -> Result<Option<Asked>, Stop>
+    fn ask_write(&mut self, alloc: Global) -> Result<Option<AskedLine>, ExitReason>
         requires first { self.old.ask ≡ ask.Write }
         requires kept { IsInOrder self.old }
         ensures asks { Asks self.old result self.new }
@@ -244,7 +244,7 @@ impl<I: Read> Dialogue<I> {
             Ok(line) => {
                 self.ask = Ask::Line;
                 self.transcript.asks_line(line.as_bytes());
-                Ok(Some(Asked::Line(line)))
+                Ok(Some(AskedLine::Line(line)))
             }
             Err(error) => Err(error.into()),
         }
@@ -262,7 +262,11 @@ impl<I: Read> Dialogue<I> {
 
     /// Asks what the next line of standard input asks for, with the command that takes the last
     /// edit back. After the line `quit` nothing is asked.
-    fn ask_line(&mut self, alloc: Global, undo: Option<&Text>) -> Result<Option<Asked>, Stop>
+    fn ask_line(
+        &mut self,
+        alloc: Global,
+        undo: Option<&Text>,
+    ) -> Result<Option<AskedLine>, ExitReason>
         requires typed { self.old.ask ≡ ask.Line }
         requires kept { IsInOrder self.old }
         ensures asks { Asks self.old result self.new }
@@ -280,14 +284,14 @@ impl<I: Read> Dialogue<I> {
                 let (line, undoes) = meant(alloc, said, undo);
                 self.undoes = undoes;
                 self.transcript.asks_line(line.as_bytes());
-                Ok(Some(Asked::Line(line)))
+                Ok(Some(AskedLine::Line(line)))
             }
             Ok(NextLine::TooLong) => {
                 self.transcript.asks_too_long();
-                Ok(Some(Asked::TooLong))
+                Ok(Some(AskedLine::TooLong))
             }
             Ok(NextLine::End) => Ok(None),
-            Ok(NextLine::Spent) => Err(Stop::Spent),
+            Ok(NextLine::Spent) => Err(ExitReason::Spent),
             Err(ReadFault::Failed(error)) => Err(unread_line(alloc, error)),
             Err(ReadFault::NoMemory(error)) => Err(error.into()),
         }
@@ -297,7 +301,11 @@ impl<I: Read> Dialogue<I> {
     /// more: standard input is at its end then, and all that it gave was asked; or the line `quit`
     /// was read. Fails where memory runs out, where standard input failed, or where as many lines
     /// were read as are; then nothing is asked.
-    pub fn next(&mut self, alloc: Global, undo: Option<&Text>) -> Result<Option<Asked>, Stop>
+    pub fn next(
+        &mut self,
+        alloc: Global,
+        undo: Option<&Text>,
+    ) -> Result<Option<AskedLine>, ExitReason>
         requires kept { IsInOrder self.old }
         ensures { Asks self.old result self.new }
     {

@@ -3,7 +3,7 @@ use Rattle.std.proofs.Common.{◌≡◌, inl, inr, ℕ, zero, suc, ◌≤◌, Li
 use Rattle.module_api.specs.Behaviour.{Behaviour}
 use Rattle.model_questions.specs.declared.record.Record.{Record}
 use Rattle.model_questions.specs.Answers.{Answers}
-use Rattle.model_questions.specs.Records.{Place, lineage_up, place_of, record_at, with_those_around}
+use Rattle.model_questions.specs.Records.{Lineage, lineage_up, place_of, record_at, with_those_around}
 use Rattle.run_semantics.specs.Laws.{Each}
 use Rattle.run_semantics.specs.Run.{world_at, after}
 use Rattle.run_semantics.specs.World.{World, live_of}
@@ -24,7 +24,7 @@ network_ends depth (r ∷ rs) l h =
     let none : 0 ≡ r.parent = omega (arith, h.0) in
     subst (λ id. EndsAtNetwork (r ∷ lineage_up depth (r ∷ rs) id)) none (subst (λ line. EndsAtNetwork (r ∷ line)) (sym (none_up depth (r ∷ rs))) (sym none))
 
-one_more : (r : Record) (line : Place) → EndsAtNetwork line → EndsAtNetwork (r ∷ line)
+one_more : (r : Record) (line : Lineage) → EndsAtNetwork line → EndsAtNetwork (r ∷ line)
 one_more r [] h = absurd h
 one_more r (s ∷ rs) h = h
 

@@ -5,8 +5,8 @@ use Rattle.param_following.specs.Edits.{asked_by}
 use Rattle.param_following.specs.Following.{Rules, is_on, value_of}
 use Rattle.param_following.specs.Waiting.{ComesTo, Waiter, keys_of, AreWaiting, bottom_of}
 use Rattle.param_engine.specs.declared.frame.Frame.{Frame}
-use Rattle.param_engine.specs.declared.turn.Turn.{Turn}
-use Rattle.param_engine.specs.declared.turn.Turn.TheVariants as turn
+use Rattle.param_engine.specs.declared.turn.EngineStep.{EngineStep}
+use Rattle.param_engine.specs.declared.turn.EngineStep.TheVariants as turn
 use Rattle.param_engine.specs.Tables.{Entries, known, keys_at, IsKept, Begins, found_in}
 
 -- what each key asks, and which keys are the same
@@ -29,7 +29,7 @@ pub record GoesOn {K V F : Type 0} (es : Entries K V) (known : K → Option V) (
   pub asked : (s : Asking K V F V) → HasAsked es known s places t → HasAsked es known s further u
 
 -- where it asks, it asks for a key whose value isn't known
-abbrev pub IsHeldUp : {K V F : Type 0} → (K → Option V) → Turn K V F → Type 0
+abbrev pub IsHeldUp : {K V F : Type 0} → (K → Option V) → EngineStep K V F → Type 0
 IsHeldUp known (turn.Ask k) = known k ≡ None
 IsHeldUp known (turn.Done v) = Unit {0}
 IsHeldUp known (turn.Fault f) = Unit {0}

@@ -4,7 +4,7 @@ ghost use Rattle.std.specs.Prelude.{◌≡◌, ℕ, ◌+◌, ◌≤◌, true, If
 ghost use Rattle.param_following.specs.Asking.{Asking};
 ghost use Rattle.param_engine.specs.Turns.{came_to, asks};
 
-use crate::turn::Turn;
+use crate::turn::EngineStep;
 use sim_values::NoMemory;
 use std::alloc::Global;
 use std::hash::Hash;
@@ -44,7 +44,13 @@ pub trait Asker {
         &self,
         alloc: Global,
         key: &Self::Key,
-    ) -> Result<(Self::Evaluation, Turn<Self::Key, Self::Value, Self::Fault>), NoMemory>
+    ) -> Result<
+        (
+            Self::Evaluation,
+            EngineStep<Self::Key, Self::Value, Self::Fault>,
+        ),
+        NoMemory,
+    >
         ensures { IfOk result (λ begun. came_to (resumed self.now begun.0) begun.1 ≡ asking self.now key.now) };
 
     /// Goes on with the value of the key that it asked for.
@@ -53,7 +59,7 @@ pub trait Asker {
         alloc: Global,
         evaluation: &mut Self::Evaluation,
         value: &Self::Value,
-    ) -> Result<Turn<Self::Key, Self::Value, Self::Fault>, NoMemory>
+    ) -> Result<EngineStep<Self::Key, Self::Value, Self::Fault>, NoMemory>
         ensures turn { IfOk result (λ turn. came_to (resumed self.now evaluation.new) turn ≡ resumed self.now evaluation.old value.now) }
         // It doesn't ask without end.
         ensures less { IfOk result (λ turn. asks turn + left evaluation.new ≤ left evaluation.old) };

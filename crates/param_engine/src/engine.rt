@@ -12,7 +12,7 @@ ghost use Rattle.param_engine.specs.Steps.{Steps, Falls, StopsShort, IsBusy};
 use crate::asker::Asker;
 use crate::frame::Frame;
 use crate::table::Table;
-use crate::turn::{Step, Turn};
+use crate::turn::{EngineStep, QuestionStep};
 use indexmap::IndexSet;
 use sim_values::NoMemory;
 use sqlite_items::Items;
@@ -37,7 +37,7 @@ fn begin<A: Asker>(
     table: &mut Table<A::Key, A::Value>,
     keys: &mut IndexSet<A::Key>,
     key: A::Key,
-) -> Result<(Frame<A::Evaluation>, Turn<A::Key, A::Value, A::Fault>), NoMemory>
+) -> Result<(Frame<A::Evaluation>, EngineStep<A::Key, A::Value, A::Fault>), NoMemory>
     requires new { list_any (A.Key.eq key) keys.old.keys ≡ false }
     requires counted { table.old.begun + 1 < 2 ^ 64 }
     ensures keys { OnOk result (keys.new.keys ≡ keys.old.keys ++ key ∷ []) }
@@ -67,7 +67,7 @@ fn resume<A: Asker>(
     frame: &mut Frame<A::Evaluation>,
     place: usize,
     value: &A::Value,
-) -> Result<Turn<A::Key, A::Value, A::Fault>, NoMemory>
+) -> Result<EngineStep<A::Key, A::Value, A::Fault>, NoMemory>
     ensures asked { OnOk result (frame.new.asked ≡ frame.old.asked ++ place ∷ []) }
     ensures turn { IfOk result (λ turn. came_to (A.resumed asker.now frame.new.evaluation) turn ≡ A.resumed asker.now frame.old.evaluation value.now) }
     ensures less { IfOk result (λ turn. asks turn + A.left frame.new.evaluation ≤ A.left frame.old.evaluation) }
@@ -82,8 +82,8 @@ fn proceed<A: Asker>(
     asker: &A,
     table: &Table<A::Key, A::Value>,
     frame: &mut Frame<A::Evaluation>,
-    turn: Turn<A::Key, A::Value, A::Fault>,
-) -> Result<Turn<A::Key, A::Value, A::Fault>, NoMemory>
+    turn: EngineStep<A::Key, A::Value, A::Fault>,
+) -> Result<EngineStep<A::Key, A::Value, A::Fault>, NoMemory>
     ensures goes_on { IfOk result (λ end. GoesOn table.now.entries (known A.Key.eq table.now.entries)
         frame.old.asked (came_to (A.resumed asker.now frame.old.evaluation) turn)
         frame.new.asked (came_to (A.resumed asker.now frame.new.evaluation) end)) }
@@ -91,7 +91,7 @@ fn proceed<A: Asker>(
 {
     let mut turn = turn;
     loop {
-        let Turn::Ask(key) = &turn else {
+        let EngineStep::Ask(key) = &turn else {
             return Ok(turn);
         };
         let Some((place, value)) = table.find(key) else {
@@ -108,7 +108,7 @@ fn descend<A: Asker>(
     table: &mut Table<A::Key, A::Value>,
     going: &mut Going<A::Key, A::Evaluation>,
     key: A::Key,
-) -> Result<Turn<A::Key, A::Value, A::Fault>, NoMemory>
+) -> Result<EngineStep<A::Key, A::Value, A::Fault>, NoMemory>
     requires new { list_any (A.Key.eq key) going.old.keys.keys ≡ false }
     requires busy { IsBusy A.Key.eq table.old going.old.keys.keys }
     ensures keys { OnOk result (going.new.keys.keys ≡ going.old.keys.keys ++ key ∷ []) }
@@ -134,27 +134,27 @@ fn ascend<A: Asker>(
     table: &mut Table<A::Key, A::Value>,
     going: &mut Going<A::Key, A::Evaluation>,
     value: A::Value,
-) -> Result<Step<A::Key, A::Value, A::Fault>, NoMemory>
+) -> Result<QuestionStep<A::Key, A::Value, A::Fault>, NoMemory>
     requires { IsBusy A.Key.eq table.old going.old.keys.keys }
     ensures steps { IfOk result (λ next. Steps (ruled A.Key.eq (A.asking asker.now) (A.circle asker.now)) (A.resumed asker.now)
-        table.old going.old (Turn.Done value) table.new going.new next) }
+        table.old going.old (EngineStep.Done value) table.new going.new next) }
     ensures falls { IfOk result (λ next. Falls (ruled A.Key.eq (A.asking asker.now) (A.circle asker.now)) (A.resumed asker.now)
-        table.old going.old (Turn.Done value) table.new going.new next) }
+        table.old going.old (EngineStep.Done value) table.new going.new next) }
     ensures err { OnErr result (StopsShort (ruled A.Key.eq (A.asking asker.now) (A.circle asker.now)) (A.resumed asker.now)
-        table.old going.old (Turn.Done value) table.new) }
+        table.old going.old (EngineStep.Done value) table.new) }
 {
     let _len = table.len();
     let key = going.keys.pop().unwrap();
     let Some(below) = going.waiting.pop() else {
         let asked = replace(&mut going.current.asked, Items::new(alloc));
         let place = table.note(key, value, asked)?;
-        return Ok(Step::Ended(Ok(place)));
+        return Ok(QuestionStep::Ended(Ok(place)));
     };
     let Frame { asked, .. } = replace(&mut going.current, below);
     let place = table.note(key, value, asked)?;
     let value = table.value(place).unwrap();
     let turn = resume(alloc, asker, &mut going.current, place, value)?;
-    Ok(Step::Goes(turn))
+    Ok(QuestionStep::Goes(turn))
 }
 
 /// Goes on until a key has to be evaluated first, or has its value.
@@ -163,8 +163,8 @@ fn step<A: Asker>(
     asker: &A,
     table: &mut Table<A::Key, A::Value>,
     going: &mut Going<A::Key, A::Evaluation>,
-    turn: Turn<A::Key, A::Value, A::Fault>,
-) -> Result<Step<A::Key, A::Value, A::Fault>, NoMemory>
+    turn: EngineStep<A::Key, A::Value, A::Fault>,
+) -> Result<QuestionStep<A::Key, A::Value, A::Fault>, NoMemory>
     requires { IsBusy A.Key.eq table.old going.old.keys.keys }
     ensures steps { IfOk result (λ next. Steps (ruled A.Key.eq (A.asking asker.now) (A.circle asker.now)) (A.resumed asker.now)
         table.old going.old turn table.new going.new next) }
@@ -176,14 +176,14 @@ fn step<A: Asker>(
     let _len = table.len();
     let _few = going.keys.len();
     match proceed(alloc, asker, table, &mut going.current, turn)? {
-        Turn::Fault(fault) => Ok(Step::Ended(Err(fault))),
-        Turn::Ask(key) => {
+        EngineStep::Fault(fault) => Ok(QuestionStep::Ended(Err(fault))),
+        EngineStep::Ask(key) => {
             if going.keys.contains(&key) {
-                return Ok(Step::Ended(Err(asker.circle())));
+                return Ok(QuestionStep::Ended(Err(asker.circle())));
             }
-            Ok(Step::Goes(descend(alloc, asker, table, going, key)?))
+            Ok(QuestionStep::Goes(descend(alloc, asker, table, going, key)?))
         }
-        Turn::Done(value) => ascend(alloc, asker, table, going, value),
+        EngineStep::Done(value) => ascend(alloc, asker, table, going, value),
     }
 }
 
@@ -212,8 +212,8 @@ fn find<A: Asker>(
     let mut turn = turn;
     loop {
         match step(alloc, asker, table, &mut going, turn)? {
-            Step::Goes(next) => turn = next,
-            Step::Ended(found) => return Ok(found),
+            QuestionStep::Goes(next) => turn = next,
+            QuestionStep::Ended(found) => return Ok(found),
         }
     }
 }

@@ -2,7 +2,7 @@
 
 /// Where an evaluation has come to.
 #[derive(Drop)]
-pub enum Turn<K, V, F> {
+pub enum EngineStep<K, V, F> {
     /// It needs the value of a key.
     Ask(K),
     Done(V),
@@ -11,9 +11,9 @@ pub enum Turn<K, V, F> {
 
 /// What a step of a question leads to.
 #[derive(Drop)]
-pub(crate) enum Step<K, V, F> {
+pub(crate) enum QuestionStep<K, V, F> {
     /// The key that is being evaluated has come to this.
-    Goes(Turn<K, V, F>),
+    Goes(EngineStep<K, V, F>),
     /// The place of the value in the table, or the fault.
     Ended(Result<usize, F>),
 }

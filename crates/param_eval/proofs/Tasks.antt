@@ -10,7 +10,7 @@ use Rattle.ned_trees.specs.declared.expressions.Expression.{Expression, the_lemm
 use Rattle.ned_trees.specs.declared.expressions.Expression.TheVariants as expr
 use Rattle.ned_trees.specs.declared.expressions.Operator.{Operator}
 use Rattle.ned_trees.specs.declared.expressions.Sign.{Sign}
-use Rattle.param_eval.specs.declared.evaluation.Step.{Step}
+use Rattle.param_eval.specs.declared.evaluation.TaskStep.{TaskStep}
 use Rattle.param_eval.specs.declared.evaluation.Task.{Task}
 use Rattle.param_eval.specs.declared.evaluation.Task.TheVariants as task
 use Rattle.param_eval.specs.declared.operators.Combination.TheVariants as combination
@@ -49,7 +49,7 @@ pub at_condition : (c a b : Expression) → valued (expr.Conditional c a b) ≡ 
 at_condition c a b = search the_lemmas
 
 -- an expression whose first part is evaluated now, with a task for the other parts
-pub entered : (r : Result Step NoMemory) (new ts : List Task) (f : Value → Valued) (first e : Expression) → valued e ≡ valued first >>= f
+pub entered : (r : Result TaskStep NoMemory) (new ts : List Task) (f : Value → Valued) (first e : Expression) → valued e ≡ valued first >>= f
     → IfOk r (λ s. step_of new s ≡ valued first >>= f >>= continued ts) → IfOk r (λ s. step_of new s ≡ valued_then ts e)
 entered r new ts f first e h g = subst (λ x. IfOk r (λ s. step_of new s ≡ x)) (sym (ap (λ a. a >>= continued ts) h)) g
 
@@ -76,13 +76,13 @@ module _ (e : Expression) where
       ∙ sym (ap (λ z. valued c >>= λ x. branched x (valued q.now) (valued z)) m)
       ∙ sym (ap (λ z. valued z >>= after (task.Branch q r)) k)
 
-pub of_element : (r : Result Step NoMemory) (new ts : List Task) (sub x : List ℕ) (i : Expression) (p : Bor Expression) (e : Expression)
+pub of_element : (r : Result TaskStep NoMemory) (new ts : List Task) (sub x : List ℕ) (i : Expression) (p : Bor Expression) (e : Expression)
     → IfOk r (λ s. step_of new s ≡ valued p.now >>= indexed (λ k. Element sub k x) >>= continued ts) → e ≡ expr.Element sub i x → p.now ≡ i
     → IfOk r (λ s. step_of new s ≡ valued_then ts e)
 of_element r new ts sub x i p e g h k =
     entered r new ts (indexed (λ n. Element sub n x)) p.now e (ap valued h ∙ at_element sub i x ∙ sym (ap (λ z. valued z >>= indexed (λ n. Element sub n x)) k)) g
 
-pub of_index : (r : Result Step NoMemory) (new ts : List Task) (sub : List ℕ) (i : Expression) (p : Bor Expression) (e : Expression)
+pub of_index : (r : Result TaskStep NoMemory) (new ts : List Task) (sub : List ℕ) (i : Expression) (p : Bor Expression) (e : Expression)
     → IfOk r (λ s. step_of new s ≡ valued p.now >>= indexed (λ k. ExistsAt sub k) >>= continued ts) → e ≡ expr.ExistsAt sub i → p.now ≡ i
     → IfOk r (λ s. step_of new s ≡ valued_then ts e)
 of_index r new ts sub i p e g h k =

@@ -6,12 +6,12 @@ use Rattle.sim_values.specs.declared.value.Value.{Value}
 use Rattle.ned_trees.specs.declared.expressions.Expression.{Expression, fold-Expression}
 use Rattle.ned_trees.specs.declared.expressions.Expression.TheOpen.{Expression-F}
 use Rattle.param_eval.specs.declared.evaluation.Evaluation.{Evaluation}
-use Rattle.param_eval.specs.declared.evaluation.Step.{Step}
-use Rattle.param_eval.specs.declared.evaluation.Step.TheVariants as step
+use Rattle.param_eval.specs.declared.evaluation.TaskStep.{TaskStep}
+use Rattle.param_eval.specs.declared.evaluation.TaskStep.TheVariants as step
 use Rattle.param_eval.specs.declared.evaluation.Task.{Task}
 use Rattle.param_eval.specs.declared.evaluation.Task.TheVariants as task
-use Rattle.param_eval.specs.declared.evaluation.Turn.{Turn}
-use Rattle.param_eval.specs.declared.evaluation.Turn.TheVariants as turn
+use Rattle.param_eval.specs.declared.evaluation.EvaluationStep.{EvaluationStep}
+use Rattle.param_eval.specs.declared.evaluation.EvaluationStep.TheVariants as turn
 use Rattle.param_eval.specs.Combinations.{combined, settled}
 use Rattle.param_eval.specs.Operators.{Evaluated, signed}
 use Rattle.param_eval.specs.References.{Element, ExistsAt, reference_of}
@@ -44,18 +44,18 @@ abbrev pub done_after : Task → Value → List Task → Valued
 done_after t v ts = after t v >>= continued ts
 
 -- what is done next, and then the tasks
-abbrev pub step_of : List Task → Step → Valued
+abbrev pub step_of : List Task → TaskStep → Valued
 step_of ts (step.Evaluate e) = valued_then ts e.now
 step_of ts (step.Keep v) = continued ts v
 step_of ts (step.Ask n) = Ask (reference_of n) (continued ts)
 step_of ts (step.Fault f) = Done (Err f)
 
-abbrev pub kept : Evaluated → Step
+abbrev pub kept : Evaluated → TaskStep
 kept (Ok v) = step.Keep v
 kept (Err f) = step.Fault f
 
 -- where an evaluation has come to that goes no further by itself
-abbrev pub ended : List Task → Turn → Valued
+abbrev pub ended : List Task → EvaluationStep → Valued
 ended ts (turn.Ask n) = Ask (reference_of n) (continued ts)
 ended ts (turn.Done v) = Done (Ok v)
 ended ts (turn.Fault f) = Done (Err f)
@@ -94,14 +94,14 @@ abbrev pub weight : List Task → ℕ
 weight [] = 0
 weight (t ∷ ts) = task_weight t + weight ts
 
-abbrev pub step_weight : Step → ℕ
+abbrev pub step_weight : TaskStep → ℕ
 step_weight (step.Evaluate e) = weight_of e.now
 step_weight (step.Keep v) = 0
 step_weight (step.Ask n) = 1
 step_weight (step.Fault f) = 0
 
 -- whether it asks, as a number
-abbrev pub asks : Turn → ℕ
+abbrev pub asks : EvaluationStep → ℕ
 asks (turn.Ask n) = 1
 asks (turn.Done v) = 0
 asks (turn.Fault f) = 0
@@ -111,7 +111,7 @@ abbrev pub resumed : Evaluation → Value → Valued
 resumed e v = continued e.tasks.items v
 
 -- where an evaluation has come to
-abbrev pub came_to : Evaluation → Turn → Valued
+abbrev pub came_to : Evaluation → EvaluationStep → Valued
 came_to e t = ended e.tasks.items t
 
 -- how often an evaluation asks at most, from where it is

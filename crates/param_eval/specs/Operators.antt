@@ -15,16 +15,16 @@ use Rattle.ned_trees.specs.declared.expressions.Operator.{Operator}
 use Rattle.ned_trees.specs.declared.expressions.Operator.TheVariants as op
 use Rattle.ned_trees.specs.declared.expressions.Sign.{Sign}
 use Rattle.ned_trees.specs.declared.expressions.Sign.TheVariants as sign
-use Rattle.param_eval.specs.declared.fault.Fault.{Fault}
-use Rattle.param_eval.specs.declared.fault.Fault.TheVariants.{Mismatch}
+use Rattle.param_eval.specs.declared.fault.ValueFault.{ValueFault}
+use Rattle.param_eval.specs.declared.fault.ValueFault.TheVariants.{Mismatch}
 use Rattle.param_eval.specs.Wholes.{sum, difference, product, quotient, remainder, power, shift_left, shift_right, negation, complement}
 
 -- a value, or why there is none
 abbrev pub Evaluated : Type 0
-Evaluated = Result Value Fault
+Evaluated = Result Value ValueFault
 
 -- a whole number or a quantity of this number, where there is one
-abbrev pub made : (ℤ → Value) → Result ℤ Fault → Evaluated
+abbrev pub made : (ℤ → Value) → Result ℤ ValueFault → Evaluated
 made kind (Ok n) = Ok (kind n)
 made kind (Err fault) = Err fault
 

@@ -6,14 +6,14 @@ use Rattle.sim_values.specs.declared.value.Value.{Value}
 use Rattle.sim_values.specs.declared.value.Value.TheVariants as value
 use Rattle.ned_trees.specs.declared.expressions.Expression.{Expression, fold-Expression}
 use Rattle.ned_trees.specs.declared.expressions.Expression.TheOpen.{Expression-F}
-use Rattle.param_eval.specs.declared.fault.Fault.{Fault}
-use Rattle.param_eval.specs.declared.fault.Fault.TheVariants.{Mismatch}
+use Rattle.param_eval.specs.declared.fault.ValueFault.{ValueFault}
+use Rattle.param_eval.specs.declared.fault.ValueFault.TheVariants.{Mismatch}
 use Rattle.param_eval.specs.Operators.{Evaluated, applied, decided, signed, chosen}
 use Rattle.param_eval.specs.References.{Reference, Own, Scoped, Member, Element, Index, ParentIndex, Sizeof, Exists, ExistsAt}
 
 -- an asking that ends in a value
 abbrev pub Valued : Type 0
-Valued = Asking Reference Value Fault Value
+Valued = Asking Reference Value ValueFault Value
 
 -- the value of what is referred to
 abbrev pub asked : Reference → Valued

@@ -6,7 +6,7 @@ ghost use Rattle.std.specs.Prelude.{◌≡◌, ℕ, ◌+◌, ◌<◌, ◌≤◌,
 ghost use Rattle.param_eval.specs.Evaluating.{step_of, step_weight, valued_then, valued_with, done_after, task_weight, weight, weight_of, kept, ended, resumed, came_to, asks, left};
 ghost use Rattle.param_eval.specs.Values.{valued, value_in};
 
-use crate::fault::Fault;
+use crate::fault::ValueFault;
 use crate::names::{Name, Names};
 use crate::operators::{Combination, combined, settled, signed};
 use ned_trees::expressions::{Expression, Sign};
@@ -34,29 +34,29 @@ pub enum Task<'m> {
 
 /// Where an evaluation has come to.
 #[derive(Drop)]
-pub enum Turn<'m> {
+pub enum EvaluationStep<'m> {
     /// It needs the value of a reference.
     Ask(Name<'m>),
     Done(Value),
-    Fault(Fault),
+    Fault(ValueFault),
 }
 
 /// What is done next.
 #[derive(Drop)]
-enum Step<'m> {
+enum TaskStep<'m> {
     Evaluate(&'m Expression),
     Keep(Value),
     Ask(Name<'m>),
-    Fault(Fault),
+    Fault(ValueFault),
 }
 
 /// The value, or its fault.
-fn kept<'m>(found: Result<Value, Fault>) -> Step<'m>
+fn kept<'m>(found: Result<Value, ValueFault>) -> TaskStep<'m>
     ensures { result ≡ kept found }
 {
     match found {
-        Ok(value) => Step::Keep(value),
-        Err(fault) => Step::Fault(fault),
+        Ok(value) => TaskStep::Keep(value),
+        Err(fault) => TaskStep::Fault(fault),
     }
 }
 
@@ -65,12 +65,12 @@ fn enter_first<'m>(
     tasks: &mut Vec<Task<'m>>,
     first: &'m Expression,
     task: Task<'m>,
-) -> Result<Step<'m>, NoMemory>
+) -> Result<TaskStep<'m>, NoMemory>
     ensures step { IfOk result (λ step. step_of tasks.new.items step ≡ valued_with tasks.old.items task.entry first.now) }
     ensures weight { IfOk result (λ step. step_weight step + weight tasks.new.items ≡ weight_of first.now + task_weight task.entry + weight tasks.old.items) }
 {
     tasks.push(task)?;
-    Ok(Step::Evaluate(first))
+    Ok(TaskStep::Evaluate(first))
 }
 
 /// Goes into an expression.
@@ -78,20 +78,20 @@ fn enter<'m>(
     alloc: Global,
     tasks: &mut Vec<Task<'m>>,
     expression: &'m Expression,
-) -> Result<Step<'m>, NoMemory>
+) -> Result<TaskStep<'m>, NoMemory>
     ensures step { IfOk result (λ step. step_of tasks.new.items step ≡ valued_then tasks.old.items expression.now) }
     ensures weight { IfOk result (λ step. step_weight step + weight tasks.new.items < weight_of expression.now + weight tasks.old.items) }
 {
     match expression {
-        Expression::Literal(value) => Ok(Step::Keep(value.copy(alloc)?)),
-        Expression::Name(x) => Ok(Step::Ask(Name::Own(x))),
-        Expression::Scoped(scope, x) => Ok(Step::Ask(Name::Scoped(*scope, x))),
-        Expression::Member(sub, x) => Ok(Step::Ask(Name::Member(sub, x))),
-        Expression::Index | Expression::IndexCall => Ok(Step::Ask(Name::Index)),
-        Expression::ParentIndex => Ok(Step::Ask(Name::ParentIndex)),
-        Expression::Sizeof(x) => Ok(Step::Ask(Name::Sizeof(x))),
-        Expression::Exists(sub) => Ok(Step::Ask(Name::Exists(sub))),
-        Expression::Group(part) => Ok(Step::Evaluate(part.get())),
+        Expression::Literal(value) => Ok(TaskStep::Keep(value.copy(alloc)?)),
+        Expression::Name(x) => Ok(TaskStep::Ask(Name::Own(x))),
+        Expression::Scoped(scope, x) => Ok(TaskStep::Ask(Name::Scoped(*scope, x))),
+        Expression::Member(sub, x) => Ok(TaskStep::Ask(Name::Member(sub, x))),
+        Expression::Index | Expression::IndexCall => Ok(TaskStep::Ask(Name::Index)),
+        Expression::ParentIndex => Ok(TaskStep::Ask(Name::ParentIndex)),
+        Expression::Sizeof(x) => Ok(TaskStep::Ask(Name::Sizeof(x))),
+        Expression::Exists(sub) => Ok(TaskStep::Ask(Name::Exists(sub))),
+        Expression::Group(part) => Ok(TaskStep::Evaluate(part.get())),
         Expression::Element(sub, index, x) => {
             enter_first(tasks, index.get(), Task::Element(sub, x))
         }
@@ -117,7 +117,7 @@ fn go_right<'m>(
     combination: Combination,
     left: Value,
     right: &'m Expression,
-) -> Result<Step<'m>, NoMemory>
+) -> Result<TaskStep<'m>, NoMemory>
     ensures step { IfOk result (λ step. step_of tasks.new.items step ≡ done_after (Task.Right combination right.entry) left tasks.old.items) }
     ensures weight { IfOk result (λ step. step_weight step + weight tasks.new.items < weight_of right.now + 2 + weight tasks.old.items) }
 {
@@ -133,7 +133,7 @@ fn apply<'m>(
     tasks: &mut Vec<Task<'m>>,
     task: Task<'m>,
     value: Value,
-) -> Result<Step<'m>, NoMemory>
+) -> Result<TaskStep<'m>, NoMemory>
     ensures step { IfOk result (λ step. step_of tasks.new.items step ≡ done_after task.entry value tasks.old.items) }
     ensures weight { IfOk result (λ step. step_weight step + weight tasks.new.items < task_weight task.entry + weight tasks.old.items) }
 {
@@ -144,36 +144,40 @@ fn apply<'m>(
         }
         Task::Sign(sign) => Ok(kept(signed(sign, &value))),
         Task::Branch(yes, no) => Ok(match value {
-            Value::Truth(true) => Step::Evaluate(yes),
-            Value::Truth(false) => Step::Evaluate(no),
-            _ => Step::Fault(Fault::Mismatch),
+            Value::Truth(true) => TaskStep::Evaluate(yes),
+            Value::Truth(false) => TaskStep::Evaluate(no),
+            _ => TaskStep::Fault(ValueFault::Mismatch),
         }),
         Task::Element(sub, x) => Ok(match value {
-            Value::Whole(index) => Step::Ask(Name::Element(sub, index, x)),
-            _ => Step::Fault(Fault::Mismatch),
+            Value::Whole(index) => TaskStep::Ask(Name::Element(sub, index, x)),
+            _ => TaskStep::Fault(ValueFault::Mismatch),
         }),
         Task::ExistsAt(sub) => Ok(match value {
-            Value::Whole(index) => Step::Ask(Name::ExistsAt(sub, index)),
-            _ => Step::Fault(Fault::Mismatch),
+            Value::Whole(index) => TaskStep::Ask(Name::ExistsAt(sub, index)),
+            _ => TaskStep::Fault(ValueFault::Mismatch),
         }),
     }
 }
 
 /// Goes on until the value of a reference is needed, or all is done.
-fn run<'m>(alloc: Global, tasks: &mut Vec<Task<'m>>, step: Step<'m>) -> Result<Turn<'m>, NoMemory>
+fn run<'m>(
+    alloc: Global,
+    tasks: &mut Vec<Task<'m>>,
+    step: TaskStep<'m>,
+) -> Result<EvaluationStep<'m>, NoMemory>
     ensures end { IfOk result (λ end. ended tasks.new.items end ≡ step_of tasks.old.items step.entry) }
     ensures weight { IfOk result (λ end. asks end + weight tasks.new.items ≤ step_weight step.entry + weight tasks.old.items) }
 {
     let mut step = step;
     loop {
         step = match step {
-            Step::Evaluate(expression) => enter(alloc, tasks, expression)?,
-            Step::Keep(value) => match tasks.pop() {
+            TaskStep::Evaluate(expression) => enter(alloc, tasks, expression)?,
+            TaskStep::Keep(value) => match tasks.pop() {
                 Some(task) => apply(alloc, tasks, task, value)?,
-                None => return Ok(Turn::Done(value)),
+                None => return Ok(EvaluationStep::Done(value)),
             },
-            Step::Ask(name) => return Ok(Turn::Ask(name)),
-            Step::Fault(fault) => return Ok(Turn::Fault(fault)),
+            TaskStep::Ask(name) => return Ok(EvaluationStep::Ask(name)),
+            TaskStep::Fault(fault) => return Ok(EvaluationStep::Fault(fault)),
         };
     }
 }
@@ -189,22 +193,22 @@ impl<'m> Evaluation<'m> {
     pub fn start(
         alloc: Global,
         expression: &'m Expression,
-    ) -> Result<(Evaluation<'m>, Turn<'m>), NoMemory>
+    ) -> Result<(Evaluation<'m>, EvaluationStep<'m>), NoMemory>
         ensures turn { IfOk result (λ begun. came_to begun.0 begun.1 ≡ valued expression.now) }
         ensures few { IfOk result (λ begun. asks begun.1 + left begun.0 ≤ weight_of expression.now) }
     {
         let mut tasks = Vec::new(alloc);
-        let turn = run(alloc, &mut tasks, Step::Evaluate(expression))?;
+        let turn = run(alloc, &mut tasks, TaskStep::Evaluate(expression))?;
         Ok((Evaluation { tasks }, turn))
     }
 
     /// Goes on with the value of the reference that it asked for.
-    pub fn go_on(&mut self, alloc: Global, value: Value) -> Result<Turn<'m>, NoMemory>
+    pub fn go_on(&mut self, alloc: Global, value: Value) -> Result<EvaluationStep<'m>, NoMemory>
         ensures turn { IfOk result (λ turn. came_to self.new turn ≡ resumed self.old value) }
         // It doesn't ask without end.
         ensures less { IfOk result (λ turn. asks turn + left self.new ≤ left self.old) }
     {
-        run(alloc, &mut self.tasks, Step::Keep(value))
+        run(alloc, &mut self.tasks, TaskStep::Keep(value))
     }
 }
 
@@ -213,15 +217,15 @@ pub fn evaluate<N: Names>(
     alloc: Global,
     expression: &Expression,
     names: &N,
-) -> Result<Result<Value, Fault>, NoMemory>
+) -> Result<Result<Value, ValueFault>, NoMemory>
     ensures { IfOk result (λ found. found ≡ value_in (N.meaning names.now) expression.now) }
 {
     let (mut evaluation, mut turn) = Evaluation::start(alloc, expression)?;
     loop {
         turn = match turn {
-            Turn::Done(value) => return Ok(Ok(value)),
-            Turn::Fault(fault) => return Ok(Err(fault)),
-            Turn::Ask(name) => match names.value_of(alloc, name)? {
+            EvaluationStep::Done(value) => return Ok(Ok(value)),
+            EvaluationStep::Fault(fault) => return Ok(Err(fault)),
+            EvaluationStep::Ask(name) => match names.value_of(alloc, name)? {
                 Ok(value) => evaluation.go_on(alloc, value)?,
                 Err(fault) => return Ok(Err(fault)),
             },

@@ -4,7 +4,7 @@ use thiserror::Error;
 
 /// Why an expression or a parameter has no value.
 #[derive(Clone, Copy, Debug, PartialEq, Eq, Error)]
-pub enum Fault {
+pub enum ValueFault {
     /// A number is outside -2^63 to 2^63 - 1, or an amount to shift by is outside 0 to 63.
     #[error("Overflow")]
     Overflow,

@@ -1,11 +1,11 @@
 //! What references are, and who knows their values.
 
 ghost use Rattle.std.specs.Prelude.{◌≡◌, Err, IfOk};
-ghost use Rattle.param_eval.specs.declared.fault.Fault.TheVariants.{Unassigned};
+ghost use Rattle.param_eval.specs.declared.fault.ValueFault.TheVariants.{Unassigned};
 ghost use Rattle.param_eval.specs.Operators.{Evaluated};
 ghost use Rattle.param_eval.specs.References.{Reference, reference_of};
 
-use crate::fault::Fault;
+use crate::fault::ValueFault;
 use ned_trees::expressions::Scope;
 use sim_values::NoMemory;
 use sim_values::text::Text;
@@ -41,18 +41,22 @@ pub trait Names {
     ghost meaning: { Self → Reference → Evaluated };
 
     /// The value of a reference, or why it has none.
-    fn value_of(&self, alloc: Global, name: Name<'_>) -> Result<Result<Value, Fault>, NoMemory>
+    fn value_of(&self, alloc: Global, name: Name<'_>) -> Result<Result<Value, ValueFault>, NoMemory>
         ensures { IfOk result (λ found. found ≡ meaning self.now (reference_of name.entry)) };
 }
 
-/// Where no reference means anything: each is [`Fault::Unassigned`].
+/// Where no reference means anything: each is [`ValueFault::Unassigned`].
 #[derive(Clone, Copy)]
 pub struct NoNames;
 
 impl Names for NoNames {
     ghost meaning = { λ _ _. Err Unassigned };
 
-    fn value_of(&self, _alloc: Global, _name: Name<'_>) -> Result<Result<Value, Fault>, NoMemory> {
-        Ok(Err(Fault::Unassigned))
+    fn value_of(
+        &self,
+        _alloc: Global,
+        _name: Name<'_>,
+    ) -> Result<Result<Value, ValueFault>, NoMemory> {
+        Ok(Err(ValueFault::Unassigned))
     }
 }

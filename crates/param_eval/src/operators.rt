@@ -4,7 +4,7 @@ ghost use Rattle.std.specs.Prelude.{◌≡◌, ◌++◌, IfOk};
 ghost use Rattle.param_eval.specs.Combinations as combinations;
 ghost use Rattle.param_eval.specs.Operators as operators;
 
-use crate::fault::Fault;
+use crate::fault::ValueFault;
 use crate::wholes::{
     complement, difference, negation, power, product, quotient, remainder, shift_left, shift_right,
     sum,
@@ -17,7 +17,7 @@ use std::alloc::Global;
 use std::cmp::Ordering;
 
 /// A whole number, where there is one.
-fn whole(number: Result<i64, Fault>) -> Result<Value, Fault>
+fn whole(number: Result<i64, ValueFault>) -> Result<Value, ValueFault>
     ensures { result ≡ operators.made Value.Whole number }
 {
     match number {
@@ -27,7 +27,7 @@ fn whole(number: Result<i64, Fault>) -> Result<Value, Fault>
 }
 
 /// A quantity of this number, where there is one.
-fn quantity(dimension: Dimension, number: Result<i64, Fault>) -> Result<Value, Fault>
+fn quantity(dimension: Dimension, number: Result<i64, ValueFault>) -> Result<Value, ValueFault>
     ensures { result ≡ operators.made (Value.Quantity dimension) number }
 {
     match number {
@@ -37,7 +37,7 @@ fn quantity(dimension: Dimension, number: Result<i64, Fault>) -> Result<Value, F
 }
 
 /// What an operator that compares says of what stands in this order.
-fn compared(operator: Operator, order: Ordering) -> Result<Value, Fault>
+fn compared(operator: Operator, order: Ordering) -> Result<Value, ValueFault>
     ensures { result ≡ operators.compared operator order }
 {
     match operator {
@@ -47,12 +47,12 @@ fn compared(operator: Operator, order: Ordering) -> Result<Value, Fault>
         Operator::AtMost => Ok(Value::Truth(order.is_le())),
         Operator::Greater => Ok(Value::Truth(order.is_gt())),
         Operator::AtLeast => Ok(Value::Truth(order.is_ge())),
-        _ => Err(Fault::Mismatch),
+        _ => Err(ValueFault::Mismatch),
     }
 }
 
 /// Two whole numbers.
-fn of_wholes(operator: Operator, left: i64, right: i64) -> Result<Value, Fault>
+fn of_wholes(operator: Operator, left: i64, right: i64) -> Result<Value, ValueFault>
     ensures { result ≡ operators.of_wholes operator left right }
 {
     match operator {
@@ -77,7 +77,7 @@ fn of_amounts(
     operator: Operator,
     left: i64,
     right: i64,
-) -> Result<Value, Fault>
+) -> Result<Value, ValueFault>
     ensures { result ≡ operators.of_amounts dimension operator left right }
 {
     match operator {
@@ -95,13 +95,13 @@ fn of_amount(
     operator: Operator,
     amount: i64,
     number: i64,
-) -> Result<Value, Fault>
+) -> Result<Value, ValueFault>
     ensures { result ≡ operators.of_amount dimension operator amount number }
 {
     match operator {
         Operator::Multiply => quantity(dimension, product(amount, number)),
         Operator::Divide => quantity(dimension, quotient(amount, number)),
-        _ => Err(Fault::Mismatch),
+        _ => Err(ValueFault::Mismatch),
     }
 }
 
@@ -111,12 +111,12 @@ fn of_number(
     operator: Operator,
     number: i64,
     amount: i64,
-) -> Result<Value, Fault>
+) -> Result<Value, ValueFault>
     ensures { result ≡ operators.of_number dimension operator number amount }
 {
     match operator {
         Operator::Multiply => quantity(dimension, product(number, amount)),
-        _ => Err(Fault::Mismatch),
+        _ => Err(ValueFault::Mismatch),
     }
 }
 
@@ -125,13 +125,13 @@ fn of_quantities(
     operator: Operator,
     left: (Dimension, i64),
     right: (Dimension, i64),
-) -> Result<Value, Fault>
+) -> Result<Value, ValueFault>
     ensures { result ≡ operators.of_quantities operator left.0 left.1 right.0 right.1 }
 {
     if left.0 == right.0 {
         of_amounts(left.0, operator, left.1, right.1)
     } else {
-        Err(Fault::Mismatch)
+        Err(ValueFault::Mismatch)
     }
 }
 
@@ -150,7 +150,7 @@ fn of_texts(
     operator: Operator,
     left: &Text,
     right: &Text,
-) -> Result<Result<Value, Fault>, NoMemory>
+) -> Result<Result<Value, ValueFault>, NoMemory>
     ensures { IfOk result (λ found. found ≡ operators.of_texts operator left.now right.now) }
 {
     match operator {
@@ -160,7 +160,7 @@ fn of_texts(
 }
 
 /// Two truth values.
-fn of_truths(operator: Operator, left: bool, right: bool) -> Result<Value, Fault>
+fn of_truths(operator: Operator, left: bool, right: bool) -> Result<Value, ValueFault>
     ensures { result ≡ operators.of_truths operator left right }
 {
     match operator {
@@ -168,7 +168,7 @@ fn of_truths(operator: Operator, left: bool, right: bool) -> Result<Value, Fault
         Operator::And => Ok(Value::Truth(left && right)),
         Operator::Xor | Operator::NotEqual => Ok(Value::Truth(left != right)),
         Operator::Equal => Ok(Value::Truth(left == right)),
-        _ => Err(Fault::Mismatch),
+        _ => Err(ValueFault::Mismatch),
     }
 }
 
@@ -181,7 +181,7 @@ pub fn applied(
     operator: Operator,
     left: &Value,
     right: &Value,
-) -> Result<Result<Value, Fault>, NoMemory>
+) -> Result<Result<Value, ValueFault>, NoMemory>
     ensures { IfOk result (λ found. found ≡ operators.applied operator left.now right.now) }
 {
     match (left, right) {
@@ -193,25 +193,25 @@ pub fn applied(
         (Value::Whole(n), Value::Quantity(d, a)) => Ok(of_number(*d, operator, *n, *a)),
         (Value::Text(a), Value::Text(b)) => of_texts(alloc, operator, a, b),
         (Value::Truth(a), Value::Truth(b)) => Ok(of_truths(operator, *a, *b)),
-        _ => Ok(Err(Fault::Mismatch)),
+        _ => Ok(Err(ValueFault::Mismatch)),
     }
 }
 
 /// What the left side alone decides, for `&&` and `||`.
-pub fn decided(operator: Operator, left: &Value) -> Option<Result<Value, Fault>>
+pub fn decided(operator: Operator, left: &Value) -> Option<Result<Value, ValueFault>>
     ensures { result ≡ operators.decided operator left.now }
 {
     match (operator, left) {
         (Operator::And, Value::Truth(true)) | (Operator::Or, Value::Truth(false)) => None,
         (Operator::And, Value::Truth(false)) => Some(Ok(Value::Truth(false))),
         (Operator::Or, Value::Truth(true)) => Some(Ok(Value::Truth(true))),
-        (Operator::And | Operator::Or, _) => Some(Err(Fault::Mismatch)),
+        (Operator::And | Operator::Or, _) => Some(Err(ValueFault::Mismatch)),
         _ => None,
     }
 }
 
 /// What a sign before a value makes of it.
-pub fn signed(sign: Sign, operand: &Value) -> Result<Value, Fault>
+pub fn signed(sign: Sign, operand: &Value) -> Result<Value, ValueFault>
     ensures { result ≡ operators.signed sign operand.now }
 {
     match (sign, operand) {
@@ -219,7 +219,7 @@ pub fn signed(sign: Sign, operand: &Value) -> Result<Value, Fault>
         (Sign::Minus, Value::Quantity(d, n)) => quantity(*d, negation(*n)),
         (Sign::Not, Value::Truth(b)) => Ok(Value::Truth(!*b)),
         (Sign::Complement, Value::Whole(n)) => Ok(Value::Whole(complement(*n))),
-        _ => Err(Fault::Mismatch),
+        _ => Err(ValueFault::Mismatch),
     }
 }
 
@@ -234,7 +234,7 @@ fn chosen_number(choice: Choice, left: i64, right: i64) -> i64
 }
 
 /// The lesser or the greater of two values, `min` or `max`.
-pub fn chosen(choice: Choice, left: &Value, right: &Value) -> Result<Value, Fault>
+pub fn chosen(choice: Choice, left: &Value, right: &Value) -> Result<Value, ValueFault>
     ensures { result ≡ operators.chosen choice left.now right.now }
 {
     match (left, right) {
@@ -243,10 +243,10 @@ pub fn chosen(choice: Choice, left: &Value, right: &Value) -> Result<Value, Faul
             if *d == *e {
                 Ok(Value::Quantity(*d, chosen_number(choice, *a, *b)))
             } else {
-                Err(Fault::Mismatch)
+                Err(ValueFault::Mismatch)
             }
         }
-        _ => Err(Fault::Mismatch),
+        _ => Err(ValueFault::Mismatch),
     }
 }
 
@@ -263,7 +263,7 @@ pub(crate) fn combined(
     combination: Combination,
     left: &Value,
     right: &Value,
-) -> Result<Result<Value, Fault>, NoMemory>
+) -> Result<Result<Value, ValueFault>, NoMemory>
     ensures { IfOk result (λ found. found ≡ combinations.combined combination left.now right.now) }
 {
     match combination {
@@ -273,7 +273,7 @@ pub(crate) fn combined(
 }
 
 /// What the left side alone decides.
-pub(crate) fn settled(combination: Combination, left: &Value) -> Option<Result<Value, Fault>>
+pub(crate) fn settled(combination: Combination, left: &Value) -> Option<Result<Value, ValueFault>>
     ensures { result ≡ combinations.settled combination left.now }
 {
     match combination {

@@ -5,15 +5,15 @@ use Rattle.param_following.specs.Asking.{Done, Ask, with_value, outcome}
 use Rattle.param_following.specs.Following.{is_on, value_within, followed, or_circle, value_of}
 use Rattle.param_following.proofs.Circles.{no_circle, followed_or_circle}
 use Rattle.sim_values.specs.declared.value.Value.{Value}
-use Rattle.param_eval.specs.declared.fault.Fault.TheVariants.{Circle}
+use Rattle.param_eval.specs.declared.fault.ValueFault.TheVariants.{Circle}
 use Rattle.param_eval.specs.Operators.{Evaluated}
 use Rattle.param_values.specs.declared.key.Key.{Key}
 use Rattle.param_values.specs.Laws.{AlikeIsTheSame, AsksAmong, IsSelfContained, where_ok}
-use Rattle.param_values.specs.Settings.{Setting}
-use Rattle.param_values.specs.Values.{Asked, same_key, asked_of, asking_of, rules_of, value_at}
+use Rattle.param_values.specs.Settings.{ParameterRules}
+use Rattle.param_values.specs.Values.{ValueAsking, same_key, asked_of, asking_of, rules_of, value_at}
 use Rattle.param_values.proofs.Found.{exact, found_is}
 
-module _ (s : Setting) where
+module _ (s : ParameterRules) where
   -- a value that is found while other keys are being evaluated is the value of the key
   value_found : (n : ℕ) (evaluated : List Key) (k : Key) (v : Value) → n ≤ 2 ^ 64 → value_within (rules_of s) n evaluated k ≡ Some (Ok v) → value_at s k ≡ Ok v
   value_found n evaluated k v le h =
@@ -26,7 +26,7 @@ module _ (s : Setting) where
 module _ (values : Key → Evaluated) (among : Key → Bool) (answers others : Key → Option Evaluated)
     (same : (k : Key) → among k ≡ true → answers k ≡ others k) (right : (k : Key) (v : Value) → answers k ≡ Some (Ok v) → values k ≡ Ok v) where
   -- answers that agree on what is asked come to the same
-  outcome_alike : (a : Asked) → AsksAmong values among a → outcome answers a ≡ outcome others a
+  outcome_alike : (a : ValueAsking) → AsksAmong values among a → outcome answers a ≡ outcome others a
   outcome_alike (Done r) asks = refl
   outcome_alike (Ask k rest) asks =
       by (answers k) refl (λ v. outcome_alike (rest v)) ∙ ap (λ o. with_value o (λ v. outcome others (rest v))) (same k asks.0)
@@ -37,7 +37,7 @@ module _ (values : Key → Evaluated) (among : Key → Bool) (answers others : K
       by (Some (Err f)) e next = refl
       by (Some (Ok v)) e next = next v (subst (λ (r : Evaluated). where_ok r (λ v. AsksAmong values among (rest v))) (right k v e) asks.1)
 
-module _ (s t : Setting) (among : Key → Bool) (closed : IsSelfContained s among) (agree : (k : Key) → among k ≡ true → asking_of s k ≡ asking_of t k) where
+module _ (s t : ParameterRules) (among : Key → Bool) (closed : IsSelfContained s among) (agree : (k : Key) → among k ≡ true → asking_of s k ≡ asking_of t k) where
   within_alike : (n : ℕ) (evaluated : List Key) (k : Key) → n ≤ 2 ^ 64 → among k ≡ true → value_within (rules_of s) n evaluated k ≡ value_within (rules_of t) n evaluated k
   within_alike zero evaluated k le here = refl
   within_alike (suc n) evaluated k le here =

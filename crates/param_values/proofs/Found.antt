@@ -14,21 +14,21 @@ use Rattle.ned_trees.specs.declared.expressions.Scope.{Scope}
 use Rattle.ned_trees.specs.declared.expressions.Scope.TheVariants as scope
 use Rattle.ini_trees.specs.declared.entry.EntryValue.{EntryValue}
 use Rattle.ini_trees.specs.declared.entry.EntryValue.TheVariants as entry
-use Rattle.param_eval.specs.declared.fault.Fault.TheVariants.{Unassigned, Circle, Mismatch}
+use Rattle.param_eval.specs.declared.fault.ValueFault.TheVariants.{Unassigned, Circle, Mismatch}
 use Rattle.param_eval.specs.Operators.{Evaluated}
 use Rattle.param_eval.specs.References.{Own, Scoped}
 use Rattle.param_eval.specs.Values.{Valued, valued, asked}
 use Rattle.param_values.specs.declared.key.Key.{Key}
 use Rattle.param_values.specs.declared.kind.Kind.{Kind}
 use Rattle.param_values.specs.declared.kind.Kind.TheVariants as kind
-use Rattle.param_values.specs.declared.place.Place.{Place}
+use Rattle.param_values.specs.declared.place.ParameterPlace.{ParameterPlace}
 use Rattle.param_values.specs.declared.scene.Section.TheVariants as section
 use Rattle.param_values.specs.Going.{same_is}
 use Rattle.param_values.specs.Kinds.{of_kind}
 use Rattle.param_values.specs.Laws.{IsChained, IsFollowed, AreWorked, whole, fixed, own, number, both_ways, fixed_four, default_four, default_kept, no_text}
 use Rattle.param_values.specs.Laws as rows
 use Rattle.param_values.specs.Meaning.{key_of}
-use Rattle.param_values.specs.Settings.{Written, Given, Declared, Setting}
+use Rattle.param_values.specs.Settings.{Written, Given, Declared, ParameterRules}
 use Rattle.param_values.specs.Values.{same_key, referring_to, first_given, place_of, asked_by, asked_of, asking_of, rules_of, value_at, literal_in, literal_of, literal_value, kept_literal, found_or, found_by, found_at}
 
 -- ---- the value of a key
@@ -36,10 +36,10 @@ use Rattle.param_values.specs.Values.{same_key, referring_to, first_given, place
 same_self : (a : Key) → same_key a a ≡ true
 same_self a = ap (λ b. b && bytes_eq a.name a.name) (eq-eqb a.id a.id refl) ∙ (bytes_eq-Decides a.name a.name).1 refl
 
-pub exact : (s : Setting) → IsExact (rules_of s)
+pub exact : (s : ParameterRules) → IsExact (rules_of s)
 exact s = record { same = same_is; self = same_self }
 
-module _ (s : Setting) where
+module _ (s : ParameterRules) where
   -- what is found with fewer keys on the list is the value
   pub found_is : (n : ℕ) (k : Key) (r : Evaluated) → n ≤ 2 ^ 64 → value_within (rules_of s) n [] k ≡ Some r → value_at s k ≡ r
   unfolding value_of
@@ -56,7 +56,7 @@ at_scoped from x = search the_lemmas
 at_name : (x : List ℕ) → valued (expression.Name x) ≡ asked (Own x)
 at_name x = search the_lemmas
 
-module _ (answers : Key → Option Evaluated) (k : Kind) (p : Place) where
+module _ (answers : Key → Option Evaluated) (k : Kind) (p : ParameterPlace) where
   literal_found : (v : Value) → outcome answers (referring_to k p (valued (expression.Literal v))) ≡ Some (of_kind k v)
   literal_found v = ap (λ (t : Valued). outcome answers (referring_to k p t)) (at_literal v)
 
@@ -82,7 +82,7 @@ literal_given answers id d None v e = cc
 literal_given answers id d (Some w) v e =
     ap (λ (x : Expression). outcome answers (referring_to d.kind (place_of id d w) (valued x))) (is_literal w.expression v e) ∙ literal_found answers d.kind (place_of id d w) v
 
-module _ (s : Setting) (k : Key) where
+module _ (s : ParameterRules) (k : Key) where
   found_so : (o : Option Declared) → s.declared k ≡ o → found_by s k o ≡ value_at s k
   found_so None e = sym (found_is s 1 k (Err Unassigned) (omega arith) (ap (λ x. outcome (value_within (rules_of s) 0 (k ∷ [])) (asked_of k.id (s.entry k) x)) e))
   found_so (Some d) e = by (literal_of (first_given d.given (s.entry k))) refl
@@ -98,13 +98,13 @@ is_followed s k = found_so s k (s.declared k) refl
 
 -- ---- chains
 
-abbrev in_type : ℕ → ℕ → Place
+abbrev in_type : ℕ → ℕ → ParameterPlace
 in_type parent id = record { id = id; parent = parent; section = section.OfType }
 
-abbrev in_body : ℕ → ℕ → Place
+abbrev in_body : ℕ → ℕ → ParameterPlace
 in_body parent id = record { id = id; parent = parent; section = section.OfBody }
 
-module _ (s : Setting) (id parent n : ℕ) (name : ℕ → List ℕ) (z : ℤ) (refers : (i : ℕ) → i < n → s.declared (key_of id (name i)) ≡ Some (whole parent (fixed section.OfType (own (name (suc i))))))
+module _ (s : ParameterRules) (id parent n : ℕ) (name : ℕ → List ℕ) (z : ℤ) (refers : (i : ℕ) → i < n → s.declared (key_of id (name i)) ≡ Some (whole parent (fixed section.OfType (own (name (suc i))))))
     (last : s.declared (key_of id (name n)) ≡ Some (whole parent (fixed section.OfType (expression.Literal (value.Whole z))))) where
   chain_found : (j i : ℕ) → i + j ≡ n → followed (rules_of s) (suc j) (key_of id (name i)) ≡ Some (Ok (value.Whole z))
   chain_found zero i e =
@@ -136,26 +136,26 @@ in_count =
     ∙ ap (then_kept (value_within (rules_of both_ways) 2 (rows.count ∷ [])) (kind.Int None) (in_body 1 2)) in_late
 
 -- a number, where a whole one is wanted
-number_found : (s : Setting) (p : Place) (n : ℕ) → value_within (rules_of s) 1 [] rows.count ≡ outcome (value_within (rules_of s) 0 (rows.count ∷ [])) (referring_to (kind.Int None) p (valued (number n)))
+number_found : (s : ParameterRules) (p : ParameterPlace) (n : ℕ) → value_within (rules_of s) 1 [] rows.count ≡ outcome (value_within (rules_of s) 0 (rows.count ∷ [])) (referring_to (kind.Int None) p (valued (number n)))
     → value_at s rows.count ≡ Ok (value.Whole (pos n))
 number_found s p n e = found_is s 1 rows.count (Ok (value.Whole (pos n))) (omega arith) (e ∙ literal_found (value_within (rules_of s) 0 (rows.count ∷ [])) (kind.Int None) p (value.Whole (pos n)))
 
 -- the parameter `late` of this module, where it is that number and given so
-late_found : (s : Setting) (id : ℕ) (p : Place) (n : ℕ) → value_within (rules_of s) 1 (rows.count ∷ []) (late id)
+late_found : (s : ParameterRules) (id : ℕ) (p : ParameterPlace) (n : ℕ) → value_within (rules_of s) 1 (rows.count ∷ []) (late id)
     ≡ outcome (value_within (rules_of s) 0 (late id ∷ rows.count ∷ [])) (referring_to (kind.Int None) p (valued (number n)))
     → value_within (rules_of s) 1 (rows.count ∷ []) (late id) ≡ Some (Ok (value.Whole (pos n)))
 late_found s id p n e = e ∙ literal_found (value_within (rules_of s) 0 (late id ∷ rows.count ∷ [])) (kind.Int None) p (value.Whole (pos n))
 
 -- a reference to it
-referred : (s : Setting) (id : ℕ) (n : ℕ) → value_within (rules_of s) 2 [] rows.count ≡ then_kept (value_within (rules_of s) 1 (rows.count ∷ [])) (kind.Int None) (in_type 0 0) (value_within (rules_of s) 1 (rows.count ∷ []) (late id))
+referred : (s : ParameterRules) (id : ℕ) (n : ℕ) → value_within (rules_of s) 2 [] rows.count ≡ then_kept (value_within (rules_of s) 1 (rows.count ∷ [])) (kind.Int None) (in_type 0 0) (value_within (rules_of s) 1 (rows.count ∷ []) (late id))
     → value_within (rules_of s) 1 (rows.count ∷ []) (late id) ≡ Some (Ok (value.Whole (pos n))) → value_at s rows.count ≡ Ok (value.Whole (pos n))
 referred s id n e found = found_is s 2 rows.count (Ok (value.Whole (pos n))) (omega arith) (e ∙ ap (then_kept (value_within (rules_of s) 1 (rows.count ∷ [])) (kind.Int None) (in_type 0 0)) found)
 
 -- the values that the keys have which `count` asks for
-abbrev before : Setting → Key → Option Evaluated
+abbrev before : ParameterRules → Key → Option Evaluated
 before s = value_within (rules_of s) 1 (rows.count ∷ [])
 
-abbrev lates : Given → Option EntryValue → Setting
+abbrev lates : Given → Option EntryValue → ParameterRules
 lates = rows.lates
 
 pub worked : AreWorked
@@ -164,15 +164,15 @@ worked = record {
   of_fixed = number_found fixed_four (in_body 1 2) 4 refl;
   of_entry = number_found default_four (in_type 1 2) 9 refl;
   of_default = number_found default_kept (in_body 1 2) 4 refl;
-  bare_in_body = let s : Setting = lates (rows.name section.OfBody) None in
+  bare_in_body = let s : ParameterRules = lates (rows.name section.OfBody) None in
       referred s 1 5 (name_found (before s) (kind.Int None) (in_body 1 2) (codes "late")) (late_found s 1 (in_type 0 1) 5 refl);
-  bare_in_type = let s : Setting = lates (rows.name section.OfType) None in
+  bare_in_type = let s : ParameterRules = lates (rows.name section.OfType) None in
       referred s 2 3 (name_found (before s) (kind.Int None) (in_type 1 2) (codes "late")) (late_found s 2 (in_body 1 2) 3 refl);
-  of_this = let s : Setting = lates (fixed section.OfBody (own (codes "late"))) None in
+  of_this = let s : ParameterRules = lates (fixed section.OfBody (own (codes "late"))) None in
       referred s 2 3 (scoped_found (before s) (kind.Int None) (in_body 1 2) scope.This (codes "late")) (late_found s 2 (in_body 1 2) 3 refl);
-  of_parent = let s : Setting = lates (fixed section.OfType (expression.Scoped scope.Parent (codes "late"))) None in
+  of_parent = let s : ParameterRules = lates (fixed section.OfType (expression.Scoped scope.Parent (codes "late"))) None in
       referred s 1 5 (scoped_found (before s) (kind.Int None) (in_type 1 2) scope.Parent (codes "late")) (late_found s 1 (in_type 0 1) 5 refl);
-  bare_in_entry = let s : Setting = lates (rows.default section.OfBody (number 4)) (Some (entry.Given (expression.Name (codes "late")))) in
+  bare_in_entry = let s : ParameterRules = lates (rows.default section.OfBody (number 4)) (Some (entry.Given (expression.Name (codes "late")))) in
       referred s 2 3 (name_found (before s) (kind.Int None) (in_type 1 2) (codes "late")) (late_found s 2 (in_body 1 2) 3 refl);
   of_none = found_is no_text 1 (late 2) (Err Unassigned) (omega arith) refl;
   of_other_kind = found_is no_text 1 rows.count (Err Mismatch) (omega arith) (literal_found (value_within (rules_of no_text) 0 (rows.count ∷ [])) kind.Text (in_type 1 2) (value.Whole (pos 4)));

@@ -8,21 +8,21 @@ use Rattle.sim_values.specs.declared.value.Value.{Value}
 use Rattle.param_eval.specs.Evaluating.{resumed, left}
 use Rattle.param_values.specs.declared.key.Key.{Key}
 use Rattle.param_values.specs.declared.parameters.Going.{Going}
-use Rattle.param_values.specs.declared.parameters.Progress.{Progress}
-use Rattle.param_values.specs.declared.parameters.Progress.TheVariants as progress
-use Rattle.param_values.specs.Values.{Asked, referring_to, same_key}
+use Rattle.param_values.specs.declared.parameters.ParameterProgress.{ParameterProgress}
+use Rattle.param_values.specs.declared.parameters.ParameterProgress.TheVariants as progress
+use Rattle.param_values.specs.Values.{ValueAsking, referring_to, same_key}
 
 -- how an expression goes on with the value of a parameter
-abbrev pub goes_on_from : Going → Value → Asked
+abbrev pub goes_on_from : Going → Value → ValueAsking
 goes_on_from g v = referring_to g.kind g.place (resumed g.evaluation v)
 
 -- how a parameter goes on with a value
-abbrev pub goes_on : Progress → Value → Asked
+abbrev pub goes_on : ParameterProgress → Value → ValueAsking
 goes_on (progress.At g) v = goes_on_from g v
 goes_on progress.Over v = Done (Ok v)
 
 -- how often it asks from there
-abbrev pub weight_of : Progress → ℕ
+abbrev pub weight_of : ParameterProgress → ℕ
 weight_of (progress.At g) = left g.evaluation
 weight_of progress.Over = 0
 

@@ -3,7 +3,7 @@ use Rattle.std.specs.Prelude.{ℕ, List, Option, Some, None}
 use Rattle.ned_trees.specs.declared.expressions.Scope.TheVariants as scope
 use Rattle.param_eval.specs.References.{Reference, Own, Scoped}
 use Rattle.param_values.specs.declared.key.Key.{Key}
-use Rattle.param_values.specs.declared.place.Place.{Place}
+use Rattle.param_values.specs.declared.place.ParameterPlace.{ParameterPlace}
 use Rattle.param_values.specs.declared.scene.Section.{Section}
 use Rattle.param_values.specs.declared.scene.Section.TheVariants as section
 
@@ -18,7 +18,7 @@ key_of id name = record { id = id; name = name }
 
 -- WHICH PARAMETER A REFERENCE MEANS in an expression that stands there. Submodules, gates, vectors
 -- and conditions are not there yet: no parameter is meant by what refers to one
-abbrev pub meant : Place → Reference → Option Key
+abbrev pub meant : ParameterPlace → Reference → Option Key
 meant p (Own x) = Some (key_of (named_in p.section p.parent p.id) x)
 meant p (Scoped scope.This x) = Some (key_of p.id x)
 meant p (Scoped scope.Parent x) = Some (key_of p.parent x)

@@ -2,7 +2,7 @@
 use Rattle.std.specs.Prelude.{Option, Some, None}
 use Rattle.param_values.specs.declared.scene.Given as given_type
 use Rattle.param_values.specs.declared.scene.Given.TheVariants as given
-use Rattle.param_values.specs.declared.scene.Parameter.{Parameter}
+use Rattle.param_values.specs.declared.scene.DeclaredParameter.{DeclaredParameter}
 use Rattle.param_values.specs.declared.scene.Written as written_type
 use Rattle.param_values.specs.Settings.{Written, Given, Fixed, Default, Declared}
 
@@ -18,9 +18,9 @@ given_by None = None
 given_by (Some (given.Fixed w)) = Some (Fixed (written_by w))
 given_by (Some (given.Default w)) = Some (Default (written_by w))
 
-abbrev pub declared_as : Parameter → Declared
+abbrev pub declared_as : DeclaredParameter → Declared
 declared_as p = record { kind = p.kind; parent = p.parent; given = given_by p.given }
 
-abbrev pub declared_by : Option Parameter → Option Declared
+abbrev pub declared_by : Option DeclaredParameter → Option Declared
 declared_by None = None
 declared_by (Some p) = Some (declared_as p)

@@ -24,6 +24,6 @@ pub record Declared : Type 0 where
 
 -- ALL THAT VALUES OF PARAMETERS REST ON: how each is declared, and what the first entry of the ini
 -- text says that matches its full path
-pub record Setting : Type 0 where
+pub record ParameterRules : Type 0 where
   pub declared : Key → Option Declared
   pub entry : Key → Option EntryValue

@@ -3,7 +3,7 @@
 ghost use Rattle.std.specs.Prelude.{◌≡◌};
 ghost use Rattle.param_values.specs.Kinds as kinds;
 
-use param_eval::fault::Fault;
+use param_eval::fault::ValueFault;
 use sim_values::value::{Dimension, Value};
 
 /// Of what kind the values of a parameter are, as it is declared; of a number with the dimension of
@@ -35,12 +35,12 @@ pub fn is_of_kind(kind: Kind, value: &Value) -> bool
 }
 
 /// The value, where it is of that kind.
-pub fn of_kind(kind: Kind, value: Value) -> Result<Value, Fault>
+pub fn of_kind(kind: Kind, value: Value) -> Result<Value, ValueFault>
     ensures { result ≡ kinds.of_kind kind value }
 {
     if is_of_kind(kind, &value) {
         Ok(value)
     } else {
-        Err(Fault::Mismatch)
+        Err(ValueFault::Mismatch)
     }
 }

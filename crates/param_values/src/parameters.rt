@@ -3,7 +3,7 @@
 ghost use Rattle.std.specs.Prelude.{◌≡◌, ◌+◌, ◌≤◌, IfOk};
 ghost use Rattle.std.specs.Option.{option_copied};
 ghost use Rattle.param_engine.specs.Turns.{came_to, asks};
-ghost use Rattle.param_eval.specs.declared.fault.Fault.TheVariants.{Circle};
+ghost use Rattle.param_eval.specs.declared.fault.ValueFault.TheVariants.{Circle};
 ghost use Rattle.param_eval.specs.Evaluating as evaluating;
 ghost use Rattle.param_values.specs.Going.{goes_on, goes_on_from, weight_of, same_is};
 ghost use Rattle.param_values.specs.Scenes.{maybe_written, given_by};
@@ -11,13 +11,13 @@ ghost use Rattle.param_values.specs.Values.{asking_of, first_given, referring_to
 
 use crate::key::Key;
 use crate::kind::{Kind, of_kind};
-use crate::place::{Place, meant};
-use crate::scene::{Given, Parameter, Scene, Section, Written};
+use crate::place::{ParameterPlace, meant};
+use crate::scene::{DeclaredParameter, Given, ParameterSource, Section, Written};
 use ini_trees::entry::EntryValue;
 use param_engine::asker::Asker;
-use param_engine::turn::Turn;
-use param_eval::evaluation::{Evaluation, Turn as Stop};
-use param_eval::fault::Fault;
+use param_engine::turn::EngineStep;
+use param_eval::evaluation::{Evaluation, EvaluationStep as Stop};
+use param_eval::fault::ValueFault;
 use sim_values::NoMemory;
 use sim_values::value::Value;
 use std::alloc::Global;
@@ -32,14 +32,14 @@ pub struct Parameters<'m, S> {
 #[derive(Drop)]
 pub struct Going<'m> {
     evaluation: Evaluation<'m>,
-    place: Place,
+    place: ParameterPlace,
     /// Of what kind the value is to be.
     kind: Kind,
 }
 
 /// A parameter that is being evaluated.
 #[derive(Drop)]
-pub enum Progress<'m> {
+pub enum ParameterProgress<'m> {
     At(Going<'m>),
     /// Nothing gives it a value.
     Over,
@@ -65,7 +65,7 @@ pub(crate) fn chosen<'m>(
 }
 
 /// What gives a parameter its value.
-fn first_given<'m, S: Scene>(
+fn first_given<'m, S: ParameterSource>(
     alloc: Global,
     scene: &'m S,
     key: &Key,
@@ -84,21 +84,21 @@ fn told<'m>(
     alloc: Global,
     going: &Going<'m>,
     stop: Stop<'m>,
-) -> Result<Turn<Key, Value, Fault>, NoMemory>
+) -> Result<EngineStep<Key, Value, ValueFault>, NoMemory>
     ensures turn { IfOk result (λ turn. came_to (goes_on_from going.now) turn
         ≡ referring_to going.now.kind going.now.place (evaluating.came_to going.now.evaluation stop.entry)) }
     ensures asks { IfOk result (λ turn. asks turn ≤ evaluating.asks stop.entry) }
 {
     Ok(match stop {
         Stop::Ask(name) => match meant(alloc, &going.place, name)? {
-            Some(key) => Turn::Ask(key),
-            None => Turn::Fault(Fault::Unassigned),
+            Some(key) => EngineStep::Ask(key),
+            None => EngineStep::Fault(ValueFault::Unassigned),
         },
         Stop::Done(value) => match of_kind(going.kind, value) {
-            Ok(value) => Turn::Done(value),
-            Err(fault) => Turn::Fault(fault),
+            Ok(value) => EngineStep::Done(value),
+            Err(fault) => EngineStep::Fault(fault),
         },
-        Stop::Fault(fault) => Turn::Fault(fault),
+        Stop::Fault(fault) => EngineStep::Fault(fault),
     })
 }
 
@@ -107,7 +107,7 @@ fn go_on<'m>(
     alloc: Global,
     going: &mut Going<'m>,
     value: &Value,
-) -> Result<Turn<Key, Value, Fault>, NoMemory>
+) -> Result<EngineStep<Key, Value, ValueFault>, NoMemory>
     ensures turn { IfOk result (λ turn. came_to (goes_on_from going.new) turn ≡ goes_on_from going.old value.now) }
     ensures less { IfOk result (λ turn. asks turn + evaluating.left going.new.evaluation ≤ evaluating.left going.old.evaluation) }
 {
@@ -117,28 +117,34 @@ fn go_on<'m>(
 }
 
 /// Begins with a parameter.
-fn start<'m, S: Scene>(
+fn start<'m, S: ParameterSource>(
     alloc: Global,
     scene: &'m S,
     key: &Key,
-) -> Result<(Progress<'m>, Turn<Key, Value, Fault>), NoMemory>
+) -> Result<(ParameterProgress<'m>, EngineStep<Key, Value, ValueFault>), NoMemory>
     ensures { IfOk result (λ begun. came_to (goes_on begun.0) begun.1 ≡ asking_of (S.setting scene.now) key.now) }
 {
     let Some(parameter) = scene.parameter(key) else {
-        return Ok((Progress::Over, Turn::Fault(Fault::Unassigned)));
+        return Ok((
+            ParameterProgress::Over,
+            EngineStep::Fault(ValueFault::Unassigned),
+        ));
     };
-    let Parameter {
+    let DeclaredParameter {
         kind,
         parent,
         given,
     } = parameter;
     let Some(written) = first_given(alloc, scene, key, given)? else {
-        return Ok((Progress::Over, Turn::Fault(Fault::Unassigned)));
+        return Ok((
+            ParameterProgress::Over,
+            EngineStep::Fault(ValueFault::Unassigned),
+        ));
     };
     let (evaluation, stop) = Evaluation::start(alloc, written.expression)?;
     let going = Going {
         evaluation,
-        place: Place {
+        place: ParameterPlace {
             id: key.id,
             parent,
             section: written.section,
@@ -146,17 +152,17 @@ fn start<'m, S: Scene>(
         kind,
     };
     let turn = told(alloc, &going, stop)?;
-    Ok((Progress::At(going), turn))
+    Ok((ParameterProgress::At(going), turn))
 }
 
-impl<'m, S: Scene> Asker for Parameters<'m, S> {
+impl<'m, S: ParameterSource> Asker for Parameters<'m, S> {
     type Key = Key;
 
     type Value = Value;
 
-    type Fault = Fault;
+    type Fault = ValueFault;
 
-    type Evaluation = Progress<'m>;
+    type Evaluation = ParameterProgress<'m>;
 
     ghost asking = { λ parameters. asking_of (S.setting parameters.scene.now) };
 
@@ -166,27 +172,27 @@ impl<'m, S: Scene> Asker for Parameters<'m, S> {
 
     ghost left = { weight_of };
 
-    fn circle(&self) -> Fault {
-        Fault::Circle
+    fn circle(&self) -> ValueFault {
+        ValueFault::Circle
     }
 
     fn start(
         &self,
         alloc: Global,
         key: &Key,
-    ) -> Result<(Progress<'m>, Turn<Key, Value, Fault>), NoMemory> {
+    ) -> Result<(ParameterProgress<'m>, EngineStep<Key, Value, ValueFault>), NoMemory> {
         start(alloc, self.scene, key)
     }
 
     fn go_on(
         &self,
         alloc: Global,
-        evaluation: &mut Progress<'m>,
+        evaluation: &mut ParameterProgress<'m>,
         value: &Value,
-    ) -> Result<Turn<Key, Value, Fault>, NoMemory> {
+    ) -> Result<EngineStep<Key, Value, ValueFault>, NoMemory> {
         match evaluation {
-            Progress::At(going) => go_on(alloc, going, value),
-            Progress::Over => Ok(Turn::Done(value.copy(alloc)?)),
+            ParameterProgress::At(going) => go_on(alloc, going, value),
+            ParameterProgress::Over => Ok(EngineStep::Done(value.copy(alloc)?)),
         }
     }
 

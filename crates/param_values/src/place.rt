@@ -13,7 +13,7 @@ use std::alloc::Global;
 
 /// Where an expression stands.
 #[derive(Clone, Copy, PartialEq, Eq)]
-pub struct Place {
+pub struct ParameterPlace {
     /// The id of the module whose parameter it gives a value.
     pub id: u32,
     /// The id of the enclosing module.
@@ -22,7 +22,7 @@ pub struct Place {
 }
 
 /// The id of the module whose parameter a bare name is.
-fn named_in(place: &Place) -> u32
+fn named_in(place: &ParameterPlace) -> u32
     ensures { result ≡ meaning.named_in place.now.section place.now.parent place.now.id }
 {
     match place.section {
@@ -32,7 +32,7 @@ fn named_in(place: &Place) -> u32
 }
 
 /// The parameter that a reference means in an expression that stands there, if it means one.
-pub fn meant(alloc: Global, place: &Place, name: Name<'_>) -> Result<Option<Key>, NoMemory>
+pub fn meant(alloc: Global, place: &ParameterPlace, name: Name<'_>) -> Result<Option<Key>, NoMemory>
     ensures { IfOk result (λ key. key ≡ meaning.meant place.now (reference_of name.entry)) }
 {
     let (id, name) = match name {

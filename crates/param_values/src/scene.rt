@@ -2,7 +2,7 @@
 
 ghost use Rattle.std.specs.Prelude.{◌≡◌, IfOk};
 ghost use Rattle.std.specs.Option.{option_copied};
-ghost use Rattle.param_values.specs.Settings.{Setting};
+ghost use Rattle.param_values.specs.Settings.{ParameterRules};
 ghost use Rattle.param_values.specs.Scenes.{declared_by};
 
 use crate::key::Key;
@@ -39,7 +39,7 @@ pub enum Given<'m> {
 
 /// A parameter of a module, as it is declared.
 #[derive(Clone, Copy)]
-pub struct Parameter<'m> {
+pub struct DeclaredParameter<'m> {
     pub kind: Kind,
     /// The id of the enclosing module.
     pub parent: u32,
@@ -47,12 +47,12 @@ pub struct Parameter<'m> {
 }
 
 /// What a model tells of its parameters.
-pub trait Scene {
+pub trait ParameterSource {
     /// All that values of parameters rest on.
-    ghost setting: { Self → Setting };
+    ghost setting: { Self → ParameterRules };
 
     /// How a parameter is declared, if it is there.
-    fn parameter(&self, key: &Key) -> Option<Parameter<'_>>
+    fn parameter(&self, key: &Key) -> Option<DeclaredParameter<'_>>
         ensures { declared_by result ≡ (setting self.now).declared key.now };
 
     /// What the first entry of the ini text says that matches the full path of the parameter.

@@ -10,18 +10,18 @@ ghost use Rattle.param_values.specs.Values.{rules_of, value_at, literal_of, lite
 use crate::key::Key;
 use crate::kind::of_kind;
 use crate::parameters::{Parameters, chosen};
-use crate::scene::{Parameter, Scene, Written};
+use crate::scene::{DeclaredParameter, ParameterSource, Written};
 use ini_trees::entry::EntryValue;
 use ned_trees::expressions::Expression;
 use param_engine::engine;
 use param_engine::table::Table;
-use param_eval::fault::Fault;
+use param_eval::fault::ValueFault;
 use sim_values::NoMemory;
 use sim_values::value::Value;
 use std::alloc::Global;
 
 /// A table of which nothing is known. It may be kept, whatever the model.
-pub fn empty_table<S: Scene>(alloc: Global, _scene: &S) -> Table<Key, Value>
+pub fn empty_table<S: ParameterSource>(alloc: Global, _scene: &S) -> Table<Key, Value>
     ensures entries { result.entries ≡ [] }
     ensures begun { result.begun ≡ 0 }
     ensures kept { IsKept (rules_of (S.setting _scene.now)) result.entries }
@@ -32,12 +32,12 @@ pub fn empty_table<S: Scene>(alloc: Global, _scene: &S) -> Table<Key, Value>
 /// The value of a parameter, as its place in the table, or its fault. The table, of which nothing
 /// is asked but that it knows values of this model, has what it had, and after that the values that
 /// were found on the way; also after a fault, and after lack of memory.
-pub fn parameter_value<S: Scene>(
+pub fn parameter_value<S: ParameterSource>(
     alloc: Global,
     scene: &S,
     table: &mut Table<Key, Value>,
     key: Key,
-) -> Result<Result<usize, Fault>, NoMemory>
+) -> Result<Result<usize, ValueFault>, NoMemory>
     requires { IsKept (rules_of (S.setting scene.now)) table.old.entries }
     ensures value { IfOk result (λ found. found_in table.new.entries found ≡ Some (value_at (S.setting scene.now) key)) }
     ensures kept { IsKept (rules_of (S.setting scene.now)) table.new.entries }
@@ -68,9 +68,9 @@ fn literal_of<'m>(written: Option<Written<'m>>) -> Option<&'m Value>
 /// declared so, and this is what the ini text says for it.
 pub fn literal_value(
     alloc: Global,
-    parameter: Parameter<'_>,
+    parameter: DeclaredParameter<'_>,
     entry: Option<&EntryValue>,
-) -> Result<Option<Result<Value, Fault>>, NoMemory>
+) -> Result<Option<Result<Value, ValueFault>>, NoMemory>
     ensures { IfOk result (λ found. found ≡ literal_value (declared_as parameter.entry) (option_copied entry.entry)) }
 {
     match literal_of(chosen(parameter.given, entry)) {
@@ -81,12 +81,12 @@ pub fn literal_value(
 
 /// A copy of the value of a parameter, or its fault. It is looked for in the table, and noted there
 /// with those that were found on the way.
-pub fn copied_value<S: Scene>(
+pub fn copied_value<S: ParameterSource>(
     alloc: Global,
     scene: &S,
     table: &mut Table<Key, Value>,
     key: Key,
-) -> Result<Result<Value, Fault>, NoMemory>
+) -> Result<Result<Value, ValueFault>, NoMemory>
     requires { IsKept (rules_of (S.setting scene.now)) table.old.entries }
     ensures value { IfOk result (λ found. found ≡ value_at (S.setting scene.now) key) }
     ensures kept { IsKept (rules_of (S.setting scene.now)) table.new.entries }
@@ -101,11 +101,11 @@ pub fn copied_value<S: Scene>(
 }
 
 /// The value of a parameter, or its fault, by a table of its own.
-pub fn lone_value<S: Scene>(
+pub fn lone_value<S: ParameterSource>(
     alloc: Global,
     scene: &S,
     key: Key,
-) -> Result<Result<Value, Fault>, NoMemory>
+) -> Result<Result<Value, ValueFault>, NoMemory>
     ensures { IfOk result (λ found. found ≡ value_at (S.setting scene.now) key) }
 {
     let mut table = empty_table(alloc, scene);

@@ -8,13 +8,13 @@ use Rattle.event_set.specs.declared.pending.Pending.{Pending}
 use Rattle.event_set.proofs.Order.{each_inserted, each_without}
 use Rattle.model_injections.specs.declared.injection.Due.{Due}
 use Rattle.model_injections.specs.declared.injection.Injection.{Injection}
-use Rattle.model_injections.specs.declared.injection.Turn.{Turn}
+use Rattle.model_injections.specs.declared.injection.InjectionTurn.{InjectionTurn}
 use Rattle.model_injections.specs.Injections.{first_undelivered, goes_first, if_first}
 use Rattle.model_injections.proofs.Left.{IsIn, first_is_left}
 use Rattle.module_api.specs.Behaviour.{Behaviour}
 use Rattle.module_api.specs.Names.{is_scalar_name}
-use Rattle.module_api.specs.declared.call.Prompt.{Prompt}
-use Rattle.module_api.specs.declared.call.Prompt.TheVariants as prompt
+use Rattle.module_api.specs.declared.call.CallReason.{CallReason}
+use Rattle.module_api.specs.declared.call.CallReason.TheVariants as prompt
 use Rattle.module_api.specs.declared.reply.Action.{Action}
 use Rattle.module_api.specs.declared.reply.Action.TheVariants.{Emit, RecordScalar, Send, SendDelayed, SendDirect, ScheduleAt, ScheduleAfter, Cancel, Fail}
 use Rattle.module_api.specs.declared.message.Outgoing.{Outgoing}
@@ -28,7 +28,7 @@ use Rattle.model_questions.specs.declared.answer.Answer.TheVariants as answer
 use Rattle.model_questions.specs.declared.answer.Question.TheVariants.{InjectionBefore}
 use Rattle.run_semantics.specs.declared.occasions.Occasion.{Occasion}
 use Rattle.run_semantics.specs.declared.occasions.Occasion.TheVariants as occasion
-use Rattle.run_semantics.specs.declared.outcome.Fault.{Fault}
+use Rattle.run_semantics.specs.declared.outcome.RunFault.{RunFault}
 use Rattle.run_semantics.specs.declared.outcome.Outcome.TheVariants.{Ended, TimeLimit}
 use Rattle.run_semantics.specs.declared.traces.Instance.{Instance}
 use Rattle.run_semantics.specs.Event.{call_of, changed, called, call_module, begun, event, instance_in, message_of}
@@ -121,7 +121,7 @@ ask_all_short : (id : ℕ) (reads : List Read) (w : World) → Short w → Short
 ask_all_short id [] w h = h
 ask_all_short id (r ∷ rs) w h = ask_all_short id rs (asked (question_of id r) w) h
 
-unless_short : (id : ℕ) (found : Option Fault) (go : World → Flow) (w : World) → Short w → Short (in_flow (go w)) → Short (in_flow (unless_fault id found go w))
+unless_short : (id : ℕ) (found : Option RunFault) (go : World → Flow) (w : World) → Short w → Short (in_flow (go w)) → Short (in_flow (unless_fault id found go w))
 unless_short id (Some f) go w h k = h
 unless_short id None go w h k = k
 
@@ -137,13 +137,13 @@ answered_short b m o id reply w h =
 
 -- ---- calls
 
-called_short : (b : Behaviour) (m : Answers) (id : ℕ) (p : Prompt) (w : World) (found : Option Instance) → Short w → Short (in_flow (called b m (answered b m occasion.Event id) id p w found))
+called_short : (b : Behaviour) (m : Answers) (id : ℕ) (p : CallReason) (w : World) (found : Option Instance) → Short w → Short (in_flow (called b m (answered b m occasion.Event id) id p w found))
 called_short b m id p w None h = h
 called_short b m id p w (Some i) h =
     let r = (b.naming i.kind).reply i.state (call_of m id p w) in
     answered_short b m occasion.Event id r.reply (changed id r.state w) h
 
-call_short : (b : Behaviour) (m : Answers) (id : ℕ) (p : Prompt) (w : World) → Short w → Short (in_flow (call_module b m id p w))
+call_short : (b : Behaviour) (m : Answers) (id : ℕ) (p : CallReason) (w : World) → Short w → Short (in_flow (call_module b m id p w))
 call_short b m id p w h = called_short b m id p w (instance_in id w.modules) h
 
 -- ---- the start
@@ -201,7 +201,7 @@ chosen_short go u ps due (Some i) h k rest = by (goes_first due i)
     by true = aimed_short go (delivered i u) ps i (target_of i.path u) h (k i refl) (rest (delivered i u))
     by false = first_short u ps h
 
-found_short : (last : Option Turn) (is : List Injection) (i : Injection) → AreShort is → first_undelivered last is ≡ Some i → IsShort i.payload
+found_short : (last : Option InjectionTurn) (is : List Injection) (i : Injection) → AreShort is → first_undelivered last is ≡ Some i → IsShort i.payload
 found_short last is i h e = short_of i is (first_is_left last is i e).1 h
 
 coming_short : (left : ℕ) (m : Answers) (ps : List Pending) (v : World) → AreShort m.injections → BringShort ps → ComesShort (upcoming_in left m ps v)

@@ -6,7 +6,7 @@ use Rattle.std.specs.List.{cons_option, find, flat_map, list_any}
 use Rattle.std.specs.Option.{option_and_then}
 use Rattle.ini_trees.specs.declared.entry.EntryMeaning.{EntryMeaning}
 use Rattle.ini_trees.specs.declared.entry.ObjectOption.{ObjectOption}
-use Rattle.ini_trees.specs.declared.lines.Entry.{Entry}
+use Rattle.ini_trees.specs.declared.lines.IniEntry.{IniEntry}
 use Rattle.ini_trees.specs.declared.lines.IniLine.{IniLine}
 use Rattle.ini_trees.specs.declared.lines.LineMeaning.{LineMeaning}
 use Rattle.ini_trees.specs.declared.lines.LineMeaning.TheVariants as line
@@ -21,7 +21,7 @@ use Rattle.std.specs.Str.{is_utf8}
 use Rattle.recorders.proofs.Unwanted.{first_false, rest_false}
 
 -- an entry is of a per-object option
-abbrev says : Entry → Bool
+abbrev says : IniEntry → Bool
 says e = is_some (object_said e.meaning)
 
 abbrev line_says : IniLine → Bool
@@ -36,19 +36,19 @@ both_false true b p q = p
 both_false false b p q = q
 
 -- of entries that say nothing of the kind, none that is found does
-found_first : (test : Entry → Bool) (e : Entry) (es : List Entry) → says e ≡ false → option_and_then (λ (e : Entry). object_said e.meaning) (find test es) ≡ None → option_and_then (λ (e : Entry). object_said e.meaning) (find test (e ∷ es)) ≡ None
+found_first : (test : IniEntry → Bool) (e : IniEntry) (es : List IniEntry) → says e ≡ false → option_and_then (λ (e : IniEntry). object_said e.meaning) (find test es) ≡ None → option_and_then (λ (e : IniEntry). object_said e.meaning) (find test (e ∷ es)) ≡ None
 found_first test e es h rest = go (test e) refl
   where
-    go : (b : Bool) → test e ≡ b → option_and_then (λ (e : Entry). object_said e.meaning) (find test (e ∷ es)) ≡ None
+    go : (b : Bool) → test e ≡ b → option_and_then (λ (e : IniEntry). object_said e.meaning) (find test (e ∷ es)) ≡ None
     go true q = rw q (none_of (object_said e.meaning) h)
     go false q = rw q rest
 
-found_none : (test : Entry → Bool) (es : List Entry) → list_any says es ≡ false → option_and_then (λ (e : Entry). object_said e.meaning) (find test es) ≡ None
+found_none : (test : IniEntry → Bool) (es : List IniEntry) → list_any says es ≡ false → option_and_then (λ (e : IniEntry). object_said e.meaning) (find test es) ≡ None
 found_none test [] h = refl
 found_none test (e ∷ es) h = found_first test e es (first_false (says e) (list_any says es) h) (found_none test es (rest_false (says e) (list_any says es) h))
 
 -- nor does an entry before such
-more_none : (b : Bool) (m : LineMeaning) (rest : List Entry) → is_option_line m ≡ false → list_any says rest ≡ false → list_any says (cons_option (entry_here b m) rest) ≡ false
+more_none : (b : Bool) (m : LineMeaning) (rest : List IniEntry) → is_option_line m ≡ false → list_any says rest ≡ false → list_any says (cons_option (entry_here b m) rest) ≡ false
 more_none true (line.Entry e) rest h r = both_false (says e) (list_any says rest) h r
 more_none true line.Blank rest h r = r
 more_none true line.Comment rest h r = r
@@ -76,5 +76,5 @@ pub none_said : (m : Model) (path name option : List ℕ) → has_option_line m 
 none_said m path name option h =
     let whole : List ℕ = path_under (path_under path name) option in
     sym
-    (either_none (is_utf8 whole) (option_and_then (λ (e : Entry). object_said e.meaning) (find (speaks_of whole) (entries_in m)))
+    (either_none (is_utf8 whole) (option_and_then (λ (e : IniEntry). object_said e.meaning) (find (speaks_of whole) (entries_in m)))
     (found_none (speaks_of whole) (entries_in m) (along_none m.chain m.ini h)))

@@ -1,7 +1,7 @@
 -- Of modules that are not wanted nothing is recorded, and of the others all places are noted.
 use Rattle.std.proofs.Common.{◌≡◌, ℕ, ◌+◌, ◌==◌, Bool, true, false, ◌&&◌, ◌||◌, List, [], ◌∷◌, ◌++◌, Option, Some, None, ℤ, refl, sym, ap, subst, ◌∙◌, length, map, if◌then◌else◌}
 use Rattle.std.proofs.lemmas.Bool.{false≢true}
-use Rattle.ini_trees.specs.declared.lines.Entry.{Entry}
+use Rattle.ini_trees.specs.declared.lines.IniEntry.{IniEntry}
 use Rattle.model_answers.specs.Keyed.{lines_of}
 use Rattle.model_data.specs.declared.model.Model.{Model}
 use Rattle.model_questions.specs.declared.record.Record.{Record}
@@ -74,12 +74,12 @@ no_vectors m records es id e = no_vectors_among m records es id (statistics_of (
 
 -- ---- scalars
 
-no_line : (entries : List Entry) (path name : List ℕ) (value : Option ℤ) → records_scalar_named entries path name ≡ false → line_of_value entries path name value ≡ []
+no_line : (entries : List IniEntry) (path name : List ℕ) (value : Option ℤ) → records_scalar_named entries path name ≡ false → line_of_value entries path name value ≡ []
 no_line entries path name None e = refl
 no_line entries path name (Some value) e =
     ap (λ (b : Bool). if b then record { path = path; name = name; value = value } ∷ [] else []) e
 
-no_mode_lines : (entries : List Entry) (path name : List ℕ) (values : List ℤ) (modes : List Mode) → records_scalar_among entries path name modes ≡ false → mode_lines entries path name values modes ≡ []
+no_mode_lines : (entries : List IniEntry) (path name : List ℕ) (values : List ℤ) (modes : List Mode) → records_scalar_among entries path name modes ≡ false → mode_lines entries path name values modes ≡ []
 no_mode_lines entries path name values [] e = refl
 no_mode_lines entries path name values (mode ∷ modes) e =
     let here : Bool = records_scalar_named entries path (result_name name mode) in

@@ -2,7 +2,7 @@
 -- OMNeT++ Simulation Manual, "Result Recording".
 use Rattle.std.specs.Prelude.{ℕ, ◌+◌, ℤ, Bool, List, [], ◌∷◌, ◌++◌, flat_map, Option, Some, None, ◌==◌, if◌then◌else◌}
 use Rattle.std.specs.List.{list_any}
-use Rattle.ini_trees.specs.declared.lines.Entry.{Entry}
+use Rattle.ini_trees.specs.declared.lines.IniEntry.{IniEntry}
 use Rattle.model_data.specs.declared.model.Model.{Model}
 use Rattle.model_questions.specs.declared.record.Record.{Record}
 use Rattle.model_answers.specs.Keyed.{lines_of}
@@ -21,7 +21,7 @@ use Rattle.run_semantics.specs.declared.traces.Scalar.{Scalar}
 
 -- a scalar of that name and value of the module of that path: a line, where the option lets it be
 -- recorded
-abbrev pub line_of : List Entry → List ℕ → List ℕ → ℤ → List ScalarLine
+abbrev pub line_of : List IniEntry → List ℕ → List ℕ → ℤ → List ScalarLine
 line_of entries path name value =
     if records_scalar_named entries path name then record { path = path; name = name; value = value } ∷ [] else []
 
@@ -34,16 +34,16 @@ abbrev pub recorded_lines : Model → List Record → ℕ → List Scalar → Li
 recorded_lines m records id recorded = flat_map (recorded_line m records id) recorded
 
 -- the line of a value, where there is one
-abbrev pub line_of_value : List Entry → List ℕ → List ℕ → Option ℤ → List ScalarLine
+abbrev pub line_of_value : List IniEntry → List ℕ → List ℕ → Option ℤ → List ScalarLine
 line_of_value entries path name None = []
 line_of_value entries path name (Some value) = line_of entries path name value
 
 -- what a statistic with these values has in a mode, in the name of both
-abbrev pub mode_line : List Entry → List ℕ → List ℕ → List ℤ → Mode → List ScalarLine
+abbrev pub mode_line : List IniEntry → List ℕ → List ℕ → List ℤ → Mode → List ScalarLine
 mode_line entries path statistic values mode = line_of_value entries path (result_name statistic mode) (value_in mode values)
 
 -- the same in each of these modes
-abbrev pub mode_lines : List Entry → List ℕ → List ℕ → List ℤ → List Mode → List ScalarLine
+abbrev pub mode_lines : List IniEntry → List ℕ → List ℕ → List ℤ → List Mode → List ScalarLine
 mode_lines entries path statistic values modes = flat_map (mode_line entries path statistic values) modes
 
 -- the lines of a statistic of the module of that id, one for each mode in which the options let it

@@ -2,7 +2,7 @@
 -- OMNeT++ Simulation Manual, "Configuring Result Collection", "Selecting Recording Modes".
 use Rattle.std.specs.Prelude.{ℕ, Bool, true, false, ◌&&◌, List, [], ◌∷◌, ◌++◌, fold, Option, Some, codes, if◌then◌else◌}
 use Rattle.std.specs.List.{list_any}
-use Rattle.ini_trees.specs.declared.lines.Entry.{Entry}
+use Rattle.ini_trees.specs.declared.lines.IniEntry.{IniEntry}
 use Rattle.ini_trees.specs.declared.entry.ModeItem.{ModeItem}
 use Rattle.ini_trees.specs.declared.entry.ModeItem.TheVariants as item
 use Rattle.ini_trees.specs.declared.entry.ObjectOption.{ObjectOption}
@@ -59,7 +59,7 @@ abbrev pub recorded_modes : List RecordedMode → Option ObjectOption → List M
 recorded_modes modes option = in_order modes (chosen_modes modes option)
 
 -- what an option says of a part of the module of that path
-abbrev pub option_of : List Entry → List ℕ → List ℕ → List ℕ → Option ObjectOption
+abbrev pub option_of : List IniEntry → List ℕ → List ℕ → List ℕ → Option ObjectOption
 option_of entries path name option = object_for (path_under (path_under path name) option) entries
 
 -- the name of what is recorded of a statistic in a mode: `statistic:mode`
@@ -67,38 +67,38 @@ abbrev pub result_name : List ℕ → Mode → List ℕ
 result_name name mode = name ++ (codes ":" ++ mode_name mode)
 
 -- whether the option says that anything is recorded of a statistic of that name
-abbrev pub records_statistic : List Entry → List ℕ → List ℕ → Bool
+abbrev pub records_statistic : List IniEntry → List ℕ → List ℕ → Bool
 records_statistic entries path name = is_on (option_of entries path name (codes "statistic-recording"))
 
 -- the modes in which a statistic of the module of that path is recorded, in their order
-abbrev pub modes_of : List Entry → List ℕ → Statistic → List Mode
+abbrev pub modes_of : List IniEntry → List ℕ → Statistic → List Mode
 modes_of entries path s = recorded_modes s.modes (option_of entries path s.name (codes "result-recording-modes"))
 
 -- THE MODES in which the options let a statistic of the module of that path be recorded, in their
 -- order
-unfoldable pub selected_modes : List Entry → List ℕ → Statistic → List Mode
+unfoldable pub selected_modes : List IniEntry → List ℕ → Statistic → List Mode
 selected_modes entries path s = if records_statistic entries path s.name then modes_of entries path s else []
 
 -- whether the option lets a vector of that name be recorded
-abbrev pub records_vector_named : List Entry → List ℕ → List ℕ → Bool
+abbrev pub records_vector_named : List IniEntry → List ℕ → List ℕ → Bool
 records_vector_named entries path name = is_on (option_of entries path name (codes "vector-recording"))
 
 -- whether the option lets a scalar of that name be recorded
-abbrev pub records_scalar_named : List Entry → List ℕ → List ℕ → Bool
+abbrev pub records_scalar_named : List IniEntry → List ℕ → List ℕ → Bool
 records_scalar_named entries path name = is_on (option_of entries path name (codes "scalar-recording"))
 
 -- whether the option lets a statistic of that name be recorded as a scalar in one of these modes
-abbrev pub records_scalar_among : List Entry → List ℕ → List ℕ → List Mode → Bool
+abbrev pub records_scalar_among : List IniEntry → List ℕ → List ℕ → List Mode → Bool
 records_scalar_among entries path name modes = list_any (λ mode. records_scalar_named entries path (result_name name mode)) modes
 
 -- whether a statistic of the module of that path is recorded as a scalar in one of its modes, if it
 -- makes a value of its values
-abbrev pub records_scalars : List Entry → List ℕ → Statistic → Bool
+abbrev pub records_scalars : List IniEntry → List ℕ → Statistic → Bool
 records_scalars entries path s = records_scalar_among entries path s.name (selected_modes entries path s)
 
 -- WHETHER THE VECTOR of a statistic of the module of that path is recorded: the mode `vector` is
 -- among those that are selected, and the vector is
-abbrev pub records_vector : List Entry → List ℕ → Statistic → Bool
+abbrev pub records_vector : List IniEntry → List ℕ → Statistic → Bool
 records_vector entries path s =
     is_among mode.Vector (selected_modes entries path s)
     && records_vector_named entries path (result_name s.name mode.Vector)

@@ -1,7 +1,7 @@
 -- The modules of whose statistics something is recorded.
 use Rattle.std.specs.Prelude.{◌≡◌, ℕ, ◌+◌, ◌<◌, Bool, false, List, Option, Some, None, length, slice_get}
 use Rattle.std.specs.List.{list_any}
-use Rattle.ini_trees.specs.declared.lines.Entry.{Entry}
+use Rattle.ini_trees.specs.declared.lines.IniEntry.{IniEntry}
 use Rattle.model_data.specs.declared.model.Model.{Model}
 use Rattle.model_questions.specs.declared.record.Record.{Record}
 use Rattle.model_answers.specs.Keyed.{lines_of}
@@ -15,12 +15,12 @@ use Rattle.recorders.specs.declared.wanted.Output.{Output}
 use Rattle.recorders.specs.declared.wanted.Output.TheVariants.{Vector, Scalars}
 
 -- whether the options let the result files have it of a statistic of the module of that path
-abbrev pub has_output : Output → List Entry → List ℕ → Statistic → Bool
+abbrev pub has_output : Output → List IniEntry → List ℕ → Statistic → Bool
 has_output Vector entries path s = records_vector entries path s
 has_output Scalars entries path s = records_scalars entries path s
 
 -- whether they let them have it of one of these statistics
-abbrev pub has_output_among : Output → List Entry → List ℕ → List Statistic → Bool
+abbrev pub has_output_among : Output → List IniEntry → List ℕ → List Statistic → Bool
 has_output_among output entries path statistics = list_any (has_output output entries path) statistics
 
 -- WHETHER A MODULE, of that id, HAS PLACES noted for it: the options let the result files have

@@ -14,7 +14,7 @@ use recorders::scalar_line::ScalarLine;
 use recorders::vector_line::VectorLine;
 use result_lines::header::header;
 use result_lines::lines::{put_data_lines, put_scalar_lines, put_vector_lines};
-use result_lines::progress::{Progress, put};
+use result_lines::progress::{WriteProgress, put};
 use result_lines::writer::{Device, Out};
 use run_semantics::traces::{Emission, Scalar};
 use sim_values::NoMemory;
@@ -69,12 +69,12 @@ pub fn prepare(
 }
 
 /// What a call answers that has written a text so far.
-fn answer_of(progress: Progress) -> Result<(), Device>
+fn answer_of(progress: WriteProgress) -> Result<(), Device>
     ensures { result ≡ answer_of progress }
 {
     match progress {
-        Progress::Whole(_) => Ok(()),
-        Progress::Short(written) => Err(Device { written }),
+        WriteProgress::Whole(_) => Ok(()),
+        WriteProgress::Short(written) => Err(Device { written }),
     }
 }
 
@@ -85,7 +85,7 @@ pub fn write_scalars<O: Out>(out: &mut O, files: &ResultFiles) -> Result<(), Dev
     ensures { IsWritten (O.taken out.old) (O.taken out.new)
         (scalar_text files.now.header files.now.scalars) result }
 {
-    let progress = put(out, Progress::Whole(0), files.header.as_bytes());
+    let progress = put(out, WriteProgress::Whole(0), files.header.as_bytes());
     let progress = put_scalar_lines(out, progress, files.scalars.as_slice());
     answer_of(progress)
 }
@@ -104,7 +104,7 @@ pub fn write_vectors<O: Out>(
         (vector_text files.now.header files.now.vectors records.now emissions.now) result }
 {
     let vectors = files.vectors.as_slice();
-    let progress = put(out, Progress::Whole(0), files.header.as_bytes());
+    let progress = put(out, WriteProgress::Whole(0), files.header.as_bytes());
     let progress = put_vector_lines(out, progress, vectors);
     let progress = put_data_lines(out, progress, records, vectors, emissions);
     answer_of(progress)

@@ -7,7 +7,7 @@ use Rattle.std.proofs.lemmas.List.{get_or-set_same, get_or-set_other, length-set
 use Rattle.std.proofs.lemmas.Option.{slice_get-get_or}
 use Rattle.std.specs.declared.alloc.Global.{Global}
 use Rattle.std.proofs.lemmas.Slice.Eq.{bytes_eq-Decides}
-use Rattle.ini_trees.specs.declared.lines.Entry.{Entry}
+use Rattle.ini_trees.specs.declared.lines.IniEntry.{IniEntry}
 use Rattle.ini_trees.specs.declared.lines.IniLine.{IniLine}
 use Rattle.ini_trees.specs.declared.lines.LineMeaning.{LineMeaning}
 use Rattle.ini_trees.specs.declared.lines.LineMeaning.TheVariants as line
@@ -27,31 +27,31 @@ unlike a b h = go (bytes_eq a b) refl
     go false e = e
 
 -- where a line has no entry for a section, nothing has to be added
-nothing : (es : List Entry) (b : Bool) (m : LineMeaning) → b ≡ false → es ≡ es ++ one_of (entry_here b m)
+nothing : (es : List IniEntry) (b : Bool) (m : LineMeaning) → b ≡ false → es ≡ es ++ one_of (entry_here b m)
 nothing es b m h = sym (ap (λ (c : Bool). es ++ one_of (entry_here c m)) h ∙ append-nil es)
 
-pub added_nowhere : (es : List Entry) (name : Bytes) (m : LineMeaning) → es ≡ es ++ one_of (entry_here (is_in name None) m)
+pub added_nowhere : (es : List IniEntry) (name : Bytes) (m : LineMeaning) → es ≡ es ++ one_of (entry_here (is_in name None) m)
 added_nowhere es name m = nothing es (is_in name None) m refl
 
-pub added_blank : (es : List Entry) (b : Bool) → es ≡ es ++ one_of (entry_here b line.Blank)
+pub added_blank : (es : List IniEntry) (b : Bool) → es ≡ es ++ one_of (entry_here b line.Blank)
 added_blank es true = sym (append-nil es)
 added_blank es false = sym (append-nil es)
 
-pub added_comment : (es : List Entry) (b : Bool) → es ≡ es ++ one_of (entry_here b line.Comment)
+pub added_comment : (es : List IniEntry) (b : Bool) → es ≡ es ++ one_of (entry_here b line.Comment)
 added_comment es true = sym (append-nil es)
 added_comment es false = sym (append-nil es)
 
-pub added_section : (es : List Entry) (b : Bool) (name : Bytes) → es ≡ es ++ one_of (entry_here b (line.Section name))
+pub added_section : (es : List IniEntry) (b : Bool) (name : Bytes) → es ≡ es ++ one_of (entry_here b (line.Section name))
 added_section es true name = sym (append-nil es)
 added_section es false name = sym (append-nil es)
 
 -- nor where no name is that of the section
-pub added_to_none : (names : List Bytes) (name : Bytes) (m : LineMeaning) (k : ℕ) (es : List Entry) → holds names name ≡ false → k < length names → es ≡ es ++ one_of (entry_here (is_in (name_at names k) (Some name)) m)
+pub added_to_none : (names : List Bytes) (name : Bytes) (m : LineMeaning) (k : ℕ) (es : List IniEntry) → holds names name ≡ false → k < length names → es ≡ es ++ one_of (entry_here (is_in (name_at names k) (Some name)) m)
 added_to_none names name m k es none h =
     nothing es (is_in (name_at names k) (Some name)) m (unlike name (name_at names k) (λ e. false≢true (sym none ∙ ap (holds names) e ∙ held_at names k h)))
 
 -- an entry is added to the list of the section that has the name, and to no other
-pub added_to : (names : List Bytes) (name : Bytes) (e : Entry) (i k : ℕ) (old new : EntryLists) → AreApart (name_at names) (length names) → length old ≡ length names → i < length names → name_at names i ≡ name → AddsTo i e old new → k < length names
+pub added_to : (names : List Bytes) (name : Bytes) (e : IniEntry) (i k : ℕ) (old new : EntryLists) → AreApart (name_at names) (length names) → length old ≡ length names → i < length names → name_at names i ≡ name → AddsTo i e old new → k < length names
     → entries_at new k ≡ entries_at old k ++ one_of (entry_here (is_in (name_at names k) (Some name)) (line.Entry e))
 added_to names name e i k old new apart size within is adds h =
     elim (cases_eq k i) [
@@ -66,31 +66,31 @@ added_to names name e i k old new apart size within is adds h =
           adds.1 k (omega (arith, h, size)) other ∙ nothing (entries_at old k) (is_in (name_at names k) (Some name)) (line.Entry e) there
     ]
 
-in_more : (refs : List (Bor Entry)) (r : Bor Entry) → entries_in (refs ++ r ∷ []) ≡ entries_in refs ++ r.now ∷ []
+in_more : (refs : List (Bor IniEntry)) (r : Bor IniEntry) → entries_in (refs ++ r ∷ []) ≡ entries_in refs ++ r.now ∷ []
 in_more [] r = refl
 in_more (q ∷ refs) r = ap (λ es. q.now ∷ es) (in_more refs r)
 
 -- a list that got an entry more
-pub list_set : (lists : EntryLists) (i : ℕ) (v w : Vec (Bor Entry) Global) (r : Bor Entry) → i < length lists → w.items ≡ (get_or lists i v).items ++ r ∷ [] → AddsTo i r.now lists (set lists i w)
+pub list_set : (lists : EntryLists) (i : ℕ) (v w : Vec (Bor IniEntry) Global) (r : Bor IniEntry) → i < length lists → w.items ≡ (get_or lists i v).items ++ r ∷ [] → AddsTo i r.now lists (set lists i w)
 list_set lists i v w r within more = (
   ap entries_of (slice_get-get_or (set lists i w) i w (omega (arith, within, length-set lists i w)))
-      ∙ ap (λ (x : Vec (Bor Entry) Global). entries_in x.items) (get_or-set_same lists i w w within)
+      ∙ ap (λ (x : Vec (Bor IniEntry) Global). entries_in x.items) (get_or-set_same lists i w w within)
       ∙ ap entries_in more
       ∙ in_more (get_or lists i v).items r
-      ∙ sym (ap (λ (o : Option (Vec (Bor Entry) Global)). entries_of o ++ r.now ∷ []) (slice_get-get_or lists i v within)),
+      ∙ sym (ap (λ (o : Option (Vec (Bor IniEntry) Global)). entries_of o ++ r.now ∷ []) (slice_get-get_or lists i v within)),
   λ k h other.
       ap entries_of (slice_get-get_or (set lists i w) k w (omega (arith, h, length-set lists i w)))
-      ∙ ap (λ (x : Vec (Bor Entry) Global). entries_in x.items) (get_or-set_other lists i k w w other)
+      ∙ ap (λ (x : Vec (Bor IniEntry) Global). entries_in x.items) (get_or-set_other lists i k w w other)
       ∙ sym (ap entries_of (slice_get-get_or lists k w h)),
 )
 
 -- ---- all lines
 
-cons_one : (o : Option Entry) (es : List Entry) → cons_option o es ≡ one_of o ++ es
+cons_one : (o : Option IniEntry) (es : List IniEntry) → cons_option o es ≡ one_of o ++ es
 cons_one None es = refl
 cons_one (Some e) es = refl
 
-pub line_done : (name : Bytes) (section : Option Bytes) (l : IniLine) (ls : List IniLine) (old new all : List Entry) → new ≡ old ++ one_of (entry_here (is_in name section) l.meaning)
+pub line_done : (name : Bytes) (section : Option Bytes) (l : IniLine) (ls : List IniLine) (old new all : List IniEntry) → new ≡ old ++ one_of (entry_here (is_in name section) l.meaning)
     → old ++ entries_from name section (l ∷ ls) ≡ all → new ++ entries_from name (section_behind section l.meaning) ls ≡ all
 line_done name section l ls old new all adds told =
     let rest = entries_from name (section_behind section l.meaning) ls in

@@ -1,7 +1,7 @@
 -- The header of a result file.
 use Rattle.std.specs.Prelude.{ℕ, List, [], ◌∷◌, ◌++◌, codes, unwrap_or, if◌then◌else◌}
 use Rattle.std.specs.List.{list_all, flat_map}
-use Rattle.ini_trees.specs.declared.lines.Entry.{Entry}
+use Rattle.ini_trees.specs.declared.lines.IniEntry.{IniEntry}
 use Rattle.ini_trees.specs.Entries.{last_name, network_entry}
 use Rattle.ini_trees.specs.Sections.{is_extends}
 use Rattle.model_data.specs.declared.model.Model.{Model}
@@ -22,11 +22,11 @@ item_line word key value = word ++ 32 ∷ (key ++ 32 ∷ (value_text value ++ 10
 
 -- the line of an entry, but for one that says what is extended: the entries of a base stand there
 -- themselves
-abbrev pub config_line : Entry → List ℕ
+abbrev pub config_line : IniEntry → List ℕ
 config_line e = if is_extends e.meaning then [] else item_line (codes "config") e.key e.value
 
 -- a line for each of these entries, in their order
-abbrev pub config_lines : List Entry → List ℕ
+abbrev pub config_lines : List IniEntry → List ℕ
 config_lines entries = flat_map config_line entries
 
 -- the lines that name the run with the number 0 of a configuration
@@ -40,7 +40,7 @@ attribute_lines config network =
     ++ (item_line (codes "attr") (codes "network") network ++ item_line (codes "attr") (codes "runnumber") (codes "0"))
 
 -- the header of the run with the number 0 of a configuration: an empty line ends it
-abbrev pub header_text : List ℕ → List ℕ → List Entry → List ℕ
+abbrev pub header_text : List ℕ → List ℕ → List IniEntry → List ℕ
 header_text config network entries =
     run_lines config ++ (attribute_lines config network ++ (config_lines entries ++ 10 ∷ []))
 

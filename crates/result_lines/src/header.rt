@@ -9,7 +9,7 @@ ghost use Rattle.result_lines.specs.Sections.{entries_at, entries_in};
 use crate::sections::section_entries;
 use ini_trees::entries::network_entry;
 use ini_trees::entry::EntryMeaning;
-use ini_trees::lines::{Entry, IniLine};
+use ini_trees::lines::{IniEntry, IniLine};
 use ini_trees::names::section_names;
 use ini_trees::speaks::last_name;
 use model_data::model::Model;
@@ -66,7 +66,7 @@ fn push_item(header: &mut Vec<u8>, word: &[u8], key: &[u8], value: &[u8]) -> Res
 }
 
 /// Adds the line of an entry, but for one of the option `extends`.
-fn push_entry(header: &mut Vec<u8>, entry: &Entry) -> Result<(), AllocError>
+fn push_entry(header: &mut Vec<u8>, entry: &IniEntry) -> Result<(), AllocError>
     ensures { OnOk result (header.new.items ≡ header.old.items ++ config_line entry.now) }
 {
     match &entry.meaning {
@@ -81,7 +81,7 @@ fn push_entry(header: &mut Vec<u8>, entry: &Entry) -> Result<(), AllocError>
 }
 
 /// Adds the lines of these entries.
-fn push_listed(header: &mut Vec<u8>, entries: &[&Entry]) -> Result<(), AllocError>
+fn push_listed(header: &mut Vec<u8>, entries: &[&IniEntry]) -> Result<(), AllocError>
     ensures { OnOk result (header.new.items ≡ header.old.items ++ config_lines (entries_in entries.now)) }
 {
     let mut rest = entries;
@@ -95,7 +95,7 @@ fn push_listed(header: &mut Vec<u8>, entries: &[&Entry]) -> Result<(), AllocErro
 /// Adds the lines of the entries of the section of that number.
 fn push_section(
     header: &mut Vec<u8>,
-    lists: &[Vec<&Entry>],
+    lists: &[Vec<&IniEntry>],
     number: usize,
 ) -> Result<(), AllocError>
     requires { number < length lists.now }

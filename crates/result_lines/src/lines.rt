@@ -8,7 +8,7 @@ ghost use Rattle.result_lines.specs.VectorText.{vector_line, vector_lines, data_
 
 use crate::line_bytes::{MAX_LINE, data_line_start};
 use crate::next_vector::{are_by_module, next_place};
-use crate::progress::{Progress, put, put_field, put_number, put_wide};
+use crate::progress::{WriteProgress, put, put_field, put_number, put_wide};
 use crate::writer::Out;
 use model_questions::record::Record;
 use recorders::hearing::hears;
@@ -17,7 +17,11 @@ use recorders::vector_line::VectorLine;
 use run_semantics::traces::Emission;
 
 /// Writes the line of a scalar.
-fn put_scalar_line<O: Out>(out: &mut O, progress: Progress, scalar: &ScalarLine) -> Progress
+fn put_scalar_line<O: Out>(
+    out: &mut O,
+    progress: WriteProgress,
+    scalar: &ScalarLine,
+) -> WriteProgress
     requires { written_in progress < 2 ^ 125 }
     ensures adds { Adds progress (O.taken out.old) result (O.taken out.new) (scalar_line scalar.now) }
     ensures short { written_in result ≤ written_in progress + 2 ^ 65 }
@@ -29,7 +33,11 @@ fn put_scalar_line<O: Out>(out: &mut O, progress: Progress, scalar: &ScalarLine)
 }
 
 /// Writes the lines of scalars, in their order.
-pub fn put_scalar_lines<O: Out>(out: &mut O, progress: Progress, scalars: &[ScalarLine]) -> Progress
+pub fn put_scalar_lines<O: Out>(
+    out: &mut O,
+    progress: WriteProgress,
+    scalars: &[ScalarLine],
+) -> WriteProgress
     requires { written_in progress < 2 ^ 65 }
     ensures { Adds progress (O.taken out.old) result (O.taken out.new) (scalar_lines scalars.now) }
 {
@@ -43,10 +51,10 @@ pub fn put_scalar_lines<O: Out>(out: &mut O, progress: Progress, scalars: &[Scal
 /// Writes the line that declares a vector of that number.
 fn put_vector_line<O: Out>(
     out: &mut O,
-    progress: Progress,
+    progress: WriteProgress,
     number: u64,
     vector: &VectorLine,
-) -> Progress
+) -> WriteProgress
     requires { written_in progress < 2 ^ 125 }
     ensures adds { Adds progress (O.taken out.old) result (O.taken out.new) (vector_line number vector.now) }
     ensures short { written_in result ≤ written_in progress + 2 ^ 65 }
@@ -59,7 +67,11 @@ fn put_vector_line<O: Out>(
 }
 
 /// Writes the lines that declare the vectors, numbered from 0.
-pub fn put_vector_lines<O: Out>(out: &mut O, progress: Progress, vectors: &[VectorLine]) -> Progress
+pub fn put_vector_lines<O: Out>(
+    out: &mut O,
+    progress: WriteProgress,
+    vectors: &[VectorLine],
+) -> WriteProgress
     requires { written_in progress < 2 ^ 65 }
     ensures adds { Adds progress (O.taken out.old) result (O.taken out.new) (vector_lines 0 vectors.now) }
     ensures short { written_in result ≤ written_in progress + 2 ^ 122 }
@@ -75,10 +87,10 @@ pub fn put_vector_lines<O: Out>(out: &mut O, progress: Progress, vectors: &[Vect
 /// to the device at once.
 fn put_data_line<O: Out>(
     out: &mut O,
-    progress: Progress,
+    progress: WriteProgress,
     number: u64,
     emission: &Emission,
-) -> Progress
+) -> WriteProgress
     requires { written_in progress < 2 ^ 125 }
     ensures adds { Adds progress (O.taken out.old) result (O.taken out.new) (data_line number emission.now) }
     ensures short { written_in result ≤ written_in progress + 256 }
@@ -91,12 +103,12 @@ fn put_data_line<O: Out>(
 /// Writes the line of a value in the vector of that number, where it hears it.
 fn put_heard_line<O: Out>(
     out: &mut O,
-    progress: Progress,
+    progress: WriteProgress,
     records: &[Record],
     emission: &Emission,
     number: u64,
     vector: &VectorLine,
-) -> Progress
+) -> WriteProgress
     requires { written_in progress < 2 ^ 125 }
     ensures adds { Adds progress (O.taken out.old) result (O.taken out.new) (heard_line records.now emission.now number vector.now) }
     ensures short { written_in result ≤ written_in progress + 256 }
@@ -112,11 +124,11 @@ fn put_heard_line<O: Out>(
 /// vectors.
 fn put_heard_lines<O: Out>(
     out: &mut O,
-    progress: Progress,
+    progress: WriteProgress,
     records: &[Record],
     emission: &Emission,
     vectors: &[VectorLine],
-) -> Progress
+) -> WriteProgress
     requires { written_in progress < 2 ^ 124 }
     ensures adds { Adds progress (O.taken out.old) result (O.taken out.new) (heard_lines records.now emission.now 0 vectors.now) }
     ensures short { written_in result ≤ written_in progress + 2 ^ 65 }
@@ -132,11 +144,11 @@ fn put_heard_lines<O: Out>(
 /// rising id of the module: those of modules that aren't around the emitter are passed over.
 fn put_lines_around<O: Out>(
     out: &mut O,
-    progress: Progress,
+    progress: WriteProgress,
     records: &[Record],
     emission: &Emission,
     vectors: &[VectorLine],
-) -> Progress
+) -> WriteProgress
     requires rising { AreByModule vectors.now }
     requires few { written_in progress < 2 ^ 124 }
     ensures adds { Adds progress (O.taken out.old) result (O.taken out.new) (heard_lines records.now emission.now 0 vectors.now) }
@@ -159,12 +171,12 @@ fn put_lines_around<O: Out>(
 /// Writes the lines of a value, one for each vector that hears it.
 fn put_value<O: Out>(
     out: &mut O,
-    progress: Progress,
+    progress: WriteProgress,
     records: &[Record],
     emission: &Emission,
     vectors: &[VectorLine],
     by_module: bool,
-) -> Progress
+) -> WriteProgress
     requires rising { IsTrue by_module → AreByModule vectors.now }
     requires few { written_in progress < 2 ^ 124 }
     ensures adds { Adds progress (O.taken out.old) result (O.taken out.new) (heard_lines records.now emission.now 0 vectors.now) }
@@ -182,11 +194,11 @@ fn put_value<O: Out>(
 /// not to emissions times vectors.
 pub fn put_data_lines<O: Out>(
     out: &mut O,
-    progress: Progress,
+    progress: WriteProgress,
     records: &[Record],
     vectors: &[VectorLine],
     emissions: &[Emission],
-) -> Progress
+) -> WriteProgress
     requires { written_in progress < 2 ^ 123 }
     ensures { Adds progress (O.taken out.old) result (O.taken out.new) (data_lines records.now vectors.now emissions.now) }
 {

@@ -10,7 +10,7 @@ use itoa::Buffer;
 
 /// How far the writing of a text has come.
 #[derive(Clone, Copy, PartialEq, Eq)]
-pub enum Progress {
+pub enum WriteProgress {
     /// So many bytes were written, all that there were so far.
     Whole(u128),
     /// The device failed or took nothing after so many bytes, and no more were written.
@@ -18,34 +18,39 @@ pub enum Progress {
 }
 
 /// Writes a piece of a text that stands after so many bytes.
-fn put_all<O: Out>(out: &mut O, before: u128, piece: &[u8]) -> Progress
+fn put_all<O: Out>(out: &mut O, before: u128, piece: &[u8]) -> WriteProgress
     requires { before < 2 ^ 127 }
-    ensures { Adds (Progress.Whole before) (O.taken out.old) result (O.taken out.new) piece.now }
+    ensures { Adds (WriteProgress.Whole before) (O.taken out.old) result (O.taken out.new) piece.now }
 {
     let mut sent = 0;
     while sent < piece.len() {
         match out.write(&piece[sent..]) {
             Ok(taken) if taken > 0 => sent += taken,
-            _ => return Progress::Short(before + sent as u128),
+            _ => return WriteProgress::Short(before + sent as u128),
         }
     }
-    Progress::Whole(before + sent as u128)
+    WriteProgress::Whole(before + sent as u128)
 }
 
 /// Writes a piece of a text, unless the device failed before.
-pub fn put<O: Out>(out: &mut O, progress: Progress, piece: &[u8]) -> Progress
+pub fn put<O: Out>(out: &mut O, progress: WriteProgress, piece: &[u8]) -> WriteProgress
     requires { written_in progress < 2 ^ 127 }
     ensures adds { Adds progress (O.taken out.old) result (O.taken out.new) piece.now }
     ensures short { written_in result ≤ written_in progress + length piece.now }
 {
     match progress {
-        Progress::Whole(before) => put_all(out, before, piece),
-        Progress::Short(written) => Progress::Short(written),
+        WriteProgress::Whole(before) => put_all(out, before, piece),
+        WriteProgress::Short(written) => WriteProgress::Short(written),
     }
 }
 
 /// Writes a text and the byte that ends it.
-pub fn put_field<O: Out>(out: &mut O, progress: Progress, text: &[u8], end: u8) -> Progress
+pub fn put_field<O: Out>(
+    out: &mut O,
+    progress: WriteProgress,
+    text: &[u8],
+    end: u8,
+) -> WriteProgress
     requires { written_in progress < 2 ^ 126 }
     ensures adds { Adds progress (O.taken out.old) result (O.taken out.new) (field text.now end) }
     ensures short { written_in result ≤ written_in progress + length text.now + 1 }
@@ -55,7 +60,12 @@ pub fn put_field<O: Out>(out: &mut O, progress: Progress, text: &[u8], end: u8) 
 }
 
 /// Writes a number and the byte that ends it.
-pub fn put_number<O: Out>(out: &mut O, progress: Progress, number: u64, end: u8) -> Progress
+pub fn put_number<O: Out>(
+    out: &mut O,
+    progress: WriteProgress,
+    number: u64,
+    end: u8,
+) -> WriteProgress
     requires { written_in progress < 2 ^ 126 }
     ensures adds { Adds progress (O.taken out.old) result (O.taken out.new) (field (decimal number) end) }
     ensures short { written_in result ≤ written_in progress + 64 }
@@ -65,7 +75,12 @@ pub fn put_number<O: Out>(out: &mut O, progress: Progress, number: u64, end: u8)
 }
 
 /// Writes a number of up to 128 bits that may be negative and the byte that ends it.
-pub fn put_wide<O: Out>(out: &mut O, progress: Progress, number: i128, end: u8) -> Progress
+pub fn put_wide<O: Out>(
+    out: &mut O,
+    progress: WriteProgress,
+    number: i128,
+    end: u8,
+) -> WriteProgress
     requires { written_in progress < 2 ^ 126 }
     ensures adds { Adds progress (O.taken out.old) result (O.taken out.new) (field (signed_decimal number) end) }
     ensures short { written_in result ≤ written_in progress + 64 }

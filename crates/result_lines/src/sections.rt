@@ -6,13 +6,13 @@ ghost use Rattle.ini_trees.specs.Numbers.{name_at, names_behind, AreApart};
 ghost use Rattle.ini_trees.specs.Sections.{entry_here, entries_under, is_in};
 ghost use Rattle.result_lines.specs.Sections.{entries_at, one_of, AddsTo, HaveEntries};
 
-use ini_trees::lines::{Entry, IniLine, LineMeaning};
+use ini_trees::lines::{IniEntry, IniLine, LineMeaning};
 use ini_trees::names::SectionNames;
 use ini_trees::scan::section_behind;
 use std::alloc::{AllocError, Global};
 
 /// So many empty lists.
-fn empty_lists<'a>(alloc: Global, count: usize) -> Result<Vec<Vec<&'a Entry>>, AllocError>
+fn empty_lists<'a>(alloc: Global, count: usize) -> Result<Vec<Vec<&'a IniEntry>>, AllocError>
     ensures { IfOk result (λ lists. (length lists.items ≡ count) × ((k : ℕ) → entries_at lists.items k ≡ [])) }
 {
     let mut lists = Vec::new(alloc);
@@ -24,9 +24,9 @@ fn empty_lists<'a>(alloc: Global, count: usize) -> Result<Vec<Vec<&'a Entry>>, A
 
 /// Adds an entry to the list of that number.
 fn add_to<'a>(
-    lists: &mut [Vec<&'a Entry>],
+    lists: &mut [Vec<&'a IniEntry>],
     number: usize,
-    entry: &'a Entry,
+    entry: &'a IniEntry,
 ) -> Result<(), AllocError>
     requires { number < length lists.old }
     ensures { OnOk result (AddsTo number entry.now lists.old lists.new) }
@@ -37,7 +37,7 @@ fn add_to<'a>(
 
 /// Adds the entry of a line, where it is one, to the list of the section in which it stands.
 fn add_entry<'a>(
-    lists: &mut [Vec<&'a Entry>],
+    lists: &mut [Vec<&'a IniEntry>],
     names: &SectionNames<'_>,
     section: Option<&[u8]>,
     line: &'a IniLine,
@@ -61,7 +61,7 @@ fn add_entry<'a>(
 
 /// Adds the entries of lines to empty lists, one for each section.
 fn add_entries<'a>(
-    lists: &mut [Vec<&'a Entry>],
+    lists: &mut [Vec<&'a IniEntry>],
     names: &SectionNames<'_>,
     lines: &'a [IniLine],
 ) -> Result<(), AllocError>
@@ -84,7 +84,7 @@ pub(crate) fn section_entries<'a>(
     alloc: Global,
     lines: &'a [IniLine],
     names: &SectionNames<'_>,
-) -> Result<Vec<Vec<&'a Entry>>, AllocError>
+) -> Result<Vec<Vec<&'a IniEntry>>, AllocError>
     requires { names.now ≡ names_behind [] lines.now }
     ensures { IfOk result (λ lists. HaveEntries lines.now names.now lists.items) }
 {

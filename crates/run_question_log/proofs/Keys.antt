@@ -1,7 +1,7 @@
 -- The set of a log that gains a question, or loses its last one.
 use Rattle.std.proofs.Common.{◌≡◌, ℕ, Bool, true, false, cond, ◌||◌, List, [], ◌∷◌, ◌++◌, refl, sym, ap, subst, ◌∙◌, if◌then◌else◌}
 use Rattle.std.specs.List.{list_any}
-use Rattle.model_questions.specs.declared.answer.Asked.{Asked}
+use Rattle.model_questions.specs.declared.answer.AskedQuestion.{AskedQuestion}
 use Rattle.model_questions.specs.declared.answer.Question.{Question}
 use Rattle.model_questions.specs.Questions.{same_question, is_of_modules}
 use Rattle.model_questions.proofs.QuestionLemmas.{same_is}
@@ -11,18 +11,18 @@ use Rattle.run_question_log.proofs.Same.{equal, equal_is, found_alike, flips, ne
 use Rattle.run_question_log.proofs.Once.{or_none, asked_more, never_asked, once_more, once_less}
 
 -- the set has a question about modules exactly where it was asked
-seen_in : (q : Question) (asked now : List Asked) (keys : List Question) (b : Bool) → is_of_modules q ≡ true → asked ≡ now → AreKeysOf asked keys
+seen_in : (q : Question) (asked now : List AskedQuestion) (keys : List Question) (b : Bool) → is_of_modules q ≡ true → asked ≡ now → AreKeysOf asked keys
     → b ≡ list_any (equal q) keys → is_asked q now ≡ b
 seen_in q asked now keys b e v k t = sym (ap (is_asked q) v) ∙ sym (found_alike q keys e ∙ k.found q e) ∙ sym t
 
 -- one that was asked before is not noted again
-pub kept : (event : ℕ) (q : Question) (asked now : List Asked) (keys : List Question) → is_of_modules q ≡ true → asked ≡ now → AreKeysOf asked keys
+pub kept : (event : ℕ) (q : Question) (asked now : List AskedQuestion) (keys : List Question) → is_of_modules q ≡ true → asked ≡ now → AreKeysOf asked keys
     → true ≡ list_any (equal q) keys → now ≡ noted event q now
 kept event q asked now keys e v k t =
     sym (ap (λ b. if b then now else now ++ record { event = event; question = q } ∷ []) (seen_in q asked now keys true e v k t))
 
 -- one that was not stands at the end
-pub added : (event : ℕ) (q : Question) (asked now more : List Asked) (keys : List Question) → is_of_modules q ≡ true → asked ≡ now → AreKeysOf asked keys
+pub added : (event : ℕ) (q : Question) (asked now more : List AskedQuestion) (keys : List Question) → is_of_modules q ≡ true → asked ≡ now → AreKeysOf asked keys
     → false ≡ list_any (equal q) keys → more ≡ asked ++ record { event = event; question = q } ∷ [] → more ≡ noted event q now
 added event q asked now more keys e v k t m =
     m ∙ ap (λ qs. qs ++ record { event = event; question = q } ∷ []) v
@@ -35,7 +35,7 @@ or_cond false true = refl
 or_cond false false = refl
 
 -- with one more about modules, the set has it too
-pub keys_with : (event : ℕ) (q key : Question) (asked more : List Asked) (keys after : List Question) → is_of_modules q ≡ true → key ≡ q
+pub keys_with : (event : ℕ) (q key : Question) (asked more : List AskedQuestion) (keys after : List Question) → is_of_modules q ≡ true → key ≡ q
     → AreKeysOf asked keys → false ≡ list_any (equal q) keys → more ≡ asked ++ record { event = event; question = q } ∷ []
     → ((x : Question) → list_any (equal x) after ≡ cond (equal key x) true (list_any (equal x) keys)) → AreKeysOf more after
 keys_with event q key asked more keys after e same k t m i = record {
@@ -49,7 +49,7 @@ keys_with event q key asked more keys after e same k t m i = record {
 }
 
 -- with one about a time, the set is as it was
-pub keys_without : (event : ℕ) (q : Question) (asked more : List Asked) (keys : List Question) → is_of_modules q ≡ false
+pub keys_without : (event : ℕ) (q : Question) (asked more : List AskedQuestion) (keys : List Question) → is_of_modules q ≡ false
     → AreKeysOf asked keys → more ≡ asked ++ record { event = event; question = q } ∷ [] → AreKeysOf more keys
 keys_without event q asked more keys e k m = record {
   found = λ x f. k.found x f
@@ -57,12 +57,12 @@ keys_without event q asked more keys e k m = record {
   once = subst AreAskedOnce (sym m) (once_more asked (record { event = event; question = q }) k.once (never_asked q asked e));
 }
 
-taken : (x q : Question) (asked : List Asked) (b : Bool) → same_question x q ≡ b → is_asked q asked ≡ false → cond b false (is_asked x asked || b) ≡ is_asked x asked
+taken : (x q : Question) (asked : List AskedQuestion) (b : Bool) → same_question x q ≡ b → is_asked q asked ≡ false → cond b false (is_asked x asked || b) ≡ is_asked x asked
 taken x q asked true s n = sym n ∙ ap (λ z. is_asked z asked) (sym (same_is x q s))
 taken x q asked false s n = or_none (is_asked x asked) false refl
 
 -- the last question was about modules: it leaves the set
-pub fewer_keys : (last : Asked) (asked new : List Asked) (keys after : List Question) → is_of_modules last.question ≡ true → AreKeysOf asked keys
+pub fewer_keys : (last : AskedQuestion) (asked new : List AskedQuestion) (keys after : List Question) → is_of_modules last.question ≡ true → AreKeysOf asked keys
     → asked ≡ new ++ last ∷ [] → ((x : Question) → list_any (equal x) after ≡ cond (equal last.question x) false (list_any (equal x) keys)) → AreKeysOf new after
 fewer_keys last asked new keys after e k a r =
     let less = once_less new last (subst AreAskedOnce a k.once) in
@@ -75,7 +75,7 @@ fewer_keys last asked new keys after e k a r =
     }
 
 -- it was not: the set stays
-pub keys_stay : (last : Asked) (asked new : List Asked) (keys : List Question) → is_of_modules last.question ≡ false → AreKeysOf asked keys
+pub keys_stay : (last : AskedQuestion) (asked new : List AskedQuestion) (keys : List Question) → is_of_modules last.question ≡ false → AreKeysOf asked keys
     → asked ≡ new ++ last ∷ [] → AreKeysOf new keys
 keys_stay last asked new keys e k a =
     record {

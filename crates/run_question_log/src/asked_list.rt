@@ -3,8 +3,8 @@
 ghost use Rattle.std.specs.Prelude.{◌≡◌, [], ◌∷◌, ◌++◌, length, OnOk, OnErr, MatchOption, if◌then◌else◌, ◌<◌, vec_len, vec_capacity};
 ghost use Rattle.run_question_log.specs.Entries.{asked_in, noted_in};
 
-use crate::entry::{Entry, joined, noted, parted};
-use model_questions::answer::{Asked, Question};
+use crate::entry::{LogEntry, joined, noted, parted};
+use model_questions::answer::{AskedQuestion, Question};
 use sim_values::NoMemory;
 use std::alloc::Global;
 use std::marker::Model;
@@ -13,17 +13,17 @@ use std::marker::Model;
 /// time takes one entry, so there are fewer entries than questions. Contracts see the questions.
 #[derive(Drop)]
 pub struct AskedList {
-    entries: Vec<Entry>,
+    entries: Vec<LogEntry>,
     /// How many questions they stand for.
     count: usize,
 }
 
 impl Model for AskedList {
     ghost use Rattle.std.specs.Prelude.{◌≡◌, List, length};
-    ghost use Rattle.model_questions.specs.declared.answer.Asked.{Asked};
+    ghost use Rattle.model_questions.specs.declared.answer.AskedQuestion.{AskedQuestion};
     ghost use Rattle.run_question_log.specs.Entries.{noted_in};
 
-    ghost Value = { List Asked };
+    ghost Value = { List AskedQuestion };
 
     ghost view = { λ l. noted_in l.entries.items };
 
@@ -49,7 +49,7 @@ impl AskedList {
     }
 
     /// What is noted of the questions.
-    pub fn entries(&self) -> &[Entry]
+    pub fn entries(&self) -> &[LogEntry]
         ensures { noted_in result.now ≡ self.now }
     {
         self.entries.as_slice()
@@ -85,7 +85,7 @@ impl AskedList {
     }
 
     /// Forgets the last question.
-    pub fn pop(&mut self) -> Option<Asked>
+    pub fn pop(&mut self) -> Option<AskedQuestion>
         ensures { MatchOption result ((self.old ≡ []) × (self.new ≡ [])) (λ last. self.old ≡ self.new ++ last ∷ []) }
     {
         let last = pop_question(&mut self.entries)?;
@@ -95,7 +95,7 @@ impl AskedList {
 }
 
 /// Takes the last question out of these entries.
-fn pop_question(entries: &mut Vec<Entry>) -> Option<Asked>
+fn pop_question(entries: &mut Vec<LogEntry>) -> Option<AskedQuestion>
     ensures { MatchOption result
         ((noted_in entries.old.items ≡ []) × (noted_in entries.new.items ≡ []))
         (λ last. noted_in entries.old.items ≡ noted_in entries.new.items ++ last ∷ []) }
@@ -109,7 +109,7 @@ fn pop_question(entries: &mut Vec<Entry>) -> Option<Asked>
 }
 
 /// Puts an entry at the end, where there is room for one, so that no memory is wanted.
-fn put_back(entries: &mut Vec<Entry>, entry: Entry)
+fn put_back(entries: &mut Vec<LogEntry>, entry: LogEntry)
     requires { vec_len entries.old < vec_capacity entries.old }
     ensures { entries.new.items ≡ entries.old.items ++ entry ∷ [] }
 {

@@ -4,8 +4,8 @@ ghost use Rattle.std.specs.Prelude.{◌≡◌, [], ◌∷◌, ◌++◌, IfOk, If
 ghost use Rattle.model_questions.specs.declared.answer.Question.TheVariants.{InjectionBefore};
 ghost use Rattle.run_question_log.specs.Entries.{asked_in, asked_in_any, AreOf};
 
-use model_injections::injection::{Due, Turn};
-use model_questions::answer::{Asked, Question};
+use model_injections::injection::{Due, InjectionTurn};
+use model_questions::answer::{AskedQuestion, Question};
 use sim_time::SimTime;
 use sim_values::NoMemory;
 use sqlite_items::Boxed;
@@ -16,7 +16,7 @@ use std::alloc::Global;
 /// together, and no memory beside them. The priority stands before the other fields, since there it
 /// lies in one word with the tag.
 #[derive(Drop)]
-pub enum Entry {
+pub enum LogEntry {
     /// Whether an event at that time, in picoseconds, is later than the time limit allows.
     BeyondLimit {
         event: u64,
@@ -43,18 +43,18 @@ pub enum Entry {
 }
 
 // An entry has three words.
-const _: () = prove!(size_of::<Entry>() == 24);
+const _: () = prove!(size_of::<LogEntry>() == 24);
 
-impl Entry {
+impl LogEntry {
     /// The event in which it was asked.
     pub fn event(&self) -> u64
         ensures { AreOf result (asked_in self.now) }
     {
         match self {
-            Entry::BeyondLimit { event, .. }
-            | Entry::FirstInjection { event, .. }
-            | Entry::Both { event, .. }
-            | Entry::Other { event, .. } => *event,
+            LogEntry::BeyondLimit { event, .. }
+            | LogEntry::FirstInjection { event, .. }
+            | LogEntry::Both { event, .. }
+            | LogEntry::Other { event, .. } => *event,
         }
     }
 }
@@ -72,17 +72,17 @@ fn of_injections(
     alloc: Global,
     event: u64,
     due: Option<Due>,
-    last: Option<Turn>,
-) -> Result<Entry, NoMemory>
+    last: Option<InjectionTurn>,
+) -> Result<LogEntry, NoMemory>
     ensures { IfOk result (λ entry. asked_in entry ≡ record { event = event; question = InjectionBefore due last } ∷ []) }
 {
     match (due, last) {
-        (Some(due), None) => Ok(Entry::FirstInjection {
+        (Some(due), None) => Ok(LogEntry::FirstInjection {
             priority: due.priority,
             event,
             time: due.time,
         }),
-        (due, last) => Ok(Entry::Other {
+        (due, last) => Ok(LogEntry::Other {
             event,
             question: Boxed::new(alloc, Question::InjectionBefore(due, last))?,
         }),
@@ -90,13 +90,13 @@ fn of_injections(
 }
 
 /// What is noted of a question.
-pub fn noted(alloc: Global, event: u64, question: Question) -> Result<Entry, NoMemory>
+pub fn noted(alloc: Global, event: u64, question: Question) -> Result<LogEntry, NoMemory>
     ensures { IfOk result (λ entry. asked_in entry ≡ record { event = event; question = question } ∷ []) }
 {
     match question {
-        Question::BeyondLimit(time) => Ok(Entry::BeyondLimit { event, time }),
+        Question::BeyondLimit(time) => Ok(LogEntry::BeyondLimit { event, time }),
         Question::InjectionBefore(due, last) => of_injections(alloc, event, due, last),
-        question => Ok(Entry::Other {
+        question => Ok(LogEntry::Other {
             event,
             question: Boxed::new(alloc, question)?,
         }),
@@ -105,18 +105,18 @@ pub fn noted(alloc: Global, event: u64, question: Question) -> Result<Entry, NoM
 
 /// What is noted of the questions of an entry and of this one after them, where one entry stands
 /// for them all.
-pub fn joined(last: &Entry, event: u64, question: &Question) -> Option<Entry>
+pub fn joined(last: &LogEntry, event: u64, question: &Question) -> Option<LogEntry>
     ensures { IfSome result (λ entry. asked_in entry ≡ asked_in last.now ++ record { event = event; question = question.now } ∷ []) }
 {
     let Question::BeyondLimit(limit) = question else {
         return None;
     };
     match last {
-        Entry::FirstInjection {
+        LogEntry::FirstInjection {
             priority,
             event: first,
             time,
-        } if *first == event && time.ps() == *limit => Some(Entry::Both {
+        } if *first == event && time.ps() == *limit => Some(LogEntry::Both {
             priority: *priority,
             event,
             time: *time,
@@ -126,44 +126,44 @@ pub fn joined(last: &Entry, event: u64, question: &Question) -> Option<Entry>
 }
 
 /// The last question of an entry, and what is noted of those before it.
-pub fn parted(entry: Entry) -> (Option<Entry>, Asked)
+pub fn parted(entry: LogEntry) -> (Option<LogEntry>, AskedQuestion)
     ensures { asked_in entry ≡ asked_in_any result.0 ++ result.1 ∷ [] }
 {
     match entry {
-        Entry::BeyondLimit { event, time } => (None, of_limit(event, time)),
-        Entry::FirstInjection {
+        LogEntry::BeyondLimit { event, time } => (None, of_limit(event, time)),
+        LogEntry::FirstInjection {
             priority,
             event,
             time,
         } => {
             let question = first_injection(time, priority);
-            (None, Asked { event, question })
+            (None, AskedQuestion { event, question })
         }
-        Entry::Both {
+        LogEntry::Both {
             priority,
             event,
             time,
         } => {
-            let first = Entry::FirstInjection {
+            let first = LogEntry::FirstInjection {
                 priority,
                 event,
                 time,
             };
             (Some(first), of_limit(event, time.ps()))
         }
-        Entry::Other { event, question } => {
+        LogEntry::Other { event, question } => {
             let question = question.into_inner();
-            (None, Asked { event, question })
+            (None, AskedQuestion { event, question })
         }
     }
 }
 
 /// The question of that event whether that time, in picoseconds, is later than the time limit
 /// allows.
-fn of_limit(event: u64, time: u64) -> Asked
+fn of_limit(event: u64, time: u64) -> AskedQuestion
     ensures { result ≡ record { event = event; question = Question.BeyondLimit time } }
 {
-    Asked {
+    AskedQuestion {
         event,
         question: Question::BeyondLimit(time),
     }

@@ -4,7 +4,7 @@
 ghost use Rattle.std.specs.Prelude.{◌≡◌, ℕ, [], List, true};
 ghost use Rattle.std.specs.List.{list_any};
 ghost use Rattle.std.specs.Str.{bytes_eq};
-ghost use Rattle.model_questions.specs.declared.answer.Asked.{Asked};
+ghost use Rattle.model_questions.specs.declared.answer.AskedQuestion.{AskedQuestion};
 ghost use Rattle.model_questions.specs.declared.answer.Question.TheVariants.{Param};
 ghost use Rattle.run_semantics.specs.Perform.{question_of};
 ghost use Rattle.run_semantics.specs.World.{is_asked};
@@ -42,7 +42,7 @@ impl KnownReads {
     /// It is looked for at that place of what is known first, as the replies of a module mostly
     /// read the same in one order.
     pub fn has(&self, id: u32, place: usize, read: &Read) -> bool
-        ensures { (asked : List Asked) → AreKnown asked (reads_in self.now) → result ≡ true
+        ensures { (asked : List AskedQuestion) → AreKnown asked (reads_in self.now) → result ≡ true
             → is_asked (question_of id read.now) asked ≡ true }
     {
         match read {
@@ -53,7 +53,7 @@ impl KnownReads {
 
     /// Whether it is known that the parameter of that name was asked of the module of that id.
     fn has_named(&self, id: u32, place: usize, name: &[u8]) -> bool
-        ensures { (asked : List Asked) → AreKnown asked (reads_in self.now) → result ≡ true
+        ensures { (asked : List AskedQuestion) → AreKnown asked (reads_in self.now) → result ≡ true
             → is_asked (Param id name.now) asked ≡ true }
     {
         match self.lists.get(id) {
@@ -65,7 +65,7 @@ impl KnownReads {
     /// From now on it is known that the module of that id has read this, where it is a parameter
     /// and there is room and memory for it.
     pub fn add(&mut self, alloc: Global, id: u32, read: &Read)
-        ensures { (asked : List Asked) → AreKnown asked (reads_in self.old)
+        ensures { (asked : List AskedQuestion) → AreKnown asked (reads_in self.old)
             → is_asked (question_of id read.now) asked ≡ true → AreKnown asked (reads_in self.new) }
     {
         if let Read::Parameter(name) = read {
@@ -76,7 +76,7 @@ impl KnownReads {
     /// From now on it is known that the parameter of that name was asked of the module of that id,
     /// where there is room and memory for it.
     fn add_named(&mut self, alloc: Global, id: u32, name: &[u8])
-        ensures { (asked : List Asked) → AreKnown asked (reads_in self.old)
+        ensures { (asked : List AskedQuestion) → AreKnown asked (reads_in self.old)
             → is_asked (Param id name.now) asked ≡ true → AreKnown asked (reads_in self.new) }
     {
         let mut known = self.lists.take(id).unwrap_or(Items::new(alloc));
@@ -111,7 +111,7 @@ fn is_among(names: &[Text], place: usize, name: &[u8]) -> bool
 
 /// Adds a name, where there is room and memory for it.
 fn push_few(alloc: Global, known: &mut Items<Text>, name: &[u8])
-    ensures { (asked : List Asked) (id : ℕ) → WereAsked asked id known.old
+    ensures { (asked : List AskedQuestion) (id : ℕ) → WereAsked asked id known.old
         → is_asked (Param id name.now) asked ≡ true → WereAsked asked id known.new }
 {
     if known.len() >= MOST_KNOWN {

@@ -6,8 +6,8 @@ ghost use Rattle.run_semantics.specs.World.{noted};
 ghost use Rattle.run_question_log.specs.Entries.{noted_in};
 
 use crate::asked_list::AskedList;
-use crate::entry::Entry;
-use model_questions::answer::{Asked, Question};
+use crate::entry::LogEntry;
+use model_questions::answer::{AskedQuestion, Question};
 use sim_values::NoMemory;
 use std::alloc::Global;
 use std::collections::HashSet;
@@ -34,10 +34,10 @@ impl Drop for QuestionLog {
 
 impl Model for QuestionLog {
     ghost use Rattle.std.specs.Prelude.{List};
-    ghost use Rattle.model_questions.specs.declared.answer.Asked.{Asked};
+    ghost use Rattle.model_questions.specs.declared.answer.AskedQuestion.{AskedQuestion};
     ghost use Rattle.run_question_log.specs.Keys.{AreKeysOf};
 
-    ghost Value = { List Asked };
+    ghost Value = { List AskedQuestion };
 
     ghost view = { λ l. l.asked };
 
@@ -63,7 +63,7 @@ impl QuestionLog {
     }
 
     /// What is noted of the questions.
-    pub fn entries(&self) -> &[Entry]
+    pub fn entries(&self) -> &[LogEntry]
         ensures { noted_in result.now ≡ self.now }
     {
         self.asked.entries()
@@ -116,7 +116,7 @@ impl QuestionLog {
     }
 
     /// Forgets the last question.
-    fn pop(&mut self) -> Option<Asked>
+    fn pop(&mut self) -> Option<AskedQuestion>
         ensures { MatchOption result ((self.old ≡ []) × (self.new ≡ [])) (λ last. self.old ≡ self.new ++ last ∷ []) }
     {
         let last = self.asked.pop()?;

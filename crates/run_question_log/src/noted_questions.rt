@@ -6,7 +6,7 @@ ghost use Rattle.run_semantics.specs.Perform.{question_of};
 ghost use Rattle.run_semantics.specs.World.{noted};
 ghost use Rattle.run_question_log.specs.Entries.{noted_in};
 
-use crate::entry::Entry;
+use crate::entry::LogEntry;
 use crate::known_reads::KnownReads;
 use crate::log::QuestionLog;
 use crate::reads::question_of;
@@ -33,10 +33,10 @@ impl Drop for NotedQuestions {
 
 impl Model for NotedQuestions {
     ghost use Rattle.std.specs.Prelude.{List};
-    ghost use Rattle.model_questions.specs.declared.answer.Asked.{Asked};
+    ghost use Rattle.model_questions.specs.declared.answer.AskedQuestion.{AskedQuestion};
     ghost use Rattle.run_question_log.specs.Known.{reads_in, AreKnown};
 
-    ghost Value = { List Asked };
+    ghost Value = { List AskedQuestion };
 
     ghost view = { λ n. n.log };
 
@@ -62,7 +62,7 @@ impl NotedQuestions {
     }
 
     /// What is noted of the questions.
-    pub fn entries(&self) -> &[Entry]
+    pub fn entries(&self) -> &[LogEntry]
         ensures { noted_in result.now ≡ self.now }
     {
         self.log.entries()

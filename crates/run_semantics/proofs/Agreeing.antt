@@ -2,7 +2,7 @@
 -- of a longer run.
 use Rattle.std.proofs.Common.{◌≡◌, ⊎_elim, ℕ, zero, suc, ◌≤◌, ◌<◌, List, [], ◌∷◌, ◌++◌, sym, ap, ◌∙◌, arith, subst, append-nil, append_assoc, eq-or-lt_of_le}
 use Rattle.module_api.specs.Behaviour.{Behaviour}
-use Rattle.model_questions.specs.declared.answer.Asked.{Asked}
+use Rattle.model_questions.specs.declared.answer.AskedQuestion.{AskedQuestion}
 use Rattle.model_questions.specs.Answers.{Answers, answer_of}
 use Rattle.model_questions.specs.declared.record.Record.{Record}
 use Rattle.run_semantics.specs.Agreement.{AgreesUpTo}
@@ -13,22 +13,22 @@ use Rattle.run_semantics.proofs.Growth.{AllOfEvent}
 use Rattle.run_semantics.proofs.Reuse.{after_later, fits_after, noted_stay, AgreesUpTo-front, IsLater}
 
 -- questions of later events
-abbrev AllAfter : ℕ → List Asked → Type 0
+abbrev AllAfter : ℕ → List AskedQuestion → Type 0
 AllAfter v [] = Unit {0}
 AllAfter v (a ∷ rest) = (v < a.event) × AllAfter v rest
 
-after-append : (v : ℕ) (xs ys : List Asked) → AllAfter v xs → AllAfter v ys → AllAfter v (xs ++ ys)
+after-append : (v : ℕ) (xs ys : List AskedQuestion) → AllAfter v xs → AllAfter v ys → AllAfter v (xs ++ ys)
 after-append v [] ys f g = g
 after-append v (x ∷ xs) ys f g = (f.0, after-append v xs ys f.1 g)
 
 -- those of one later event
-of_later : (v event : ℕ) (xs : List Asked) → v < event → AllOfEvent event xs → AllAfter v xs
+of_later : (v event : ℕ) (xs : List AskedQuestion) → v < event → AllOfEvent event xs → AllAfter v xs
 of_later v event [] l f = tt
 of_later v event (x ∷ xs) l f = (subst (λ n. v < n) (sym f.0) l, of_later v event xs l f.1)
 
 -- the second world is of the same run as the first, which is that after event v, and no earlier
 record IsBehind (v : ℕ) (old new : World) : Type 0 where
-  rest : List Asked
+  rest : List AskedQuestion
   joined : old.questions ++ rest ≡ new.questions
   later : AllAfter v rest
   more : List Record
@@ -55,13 +55,13 @@ behind_after b m v (suc k) h =
     (eq-or-lt_of_le h)
 
 -- later questions are none of the first events
-agrees_later : (u v : ℕ) (p q : Answers) (rs : List Record) (xs ys : List Asked) → u ≤ v → AllAfter v ys → AgreesUpTo u p q rs xs → AgreesUpTo u p q rs (xs ++ ys)
+agrees_later : (u v : ℕ) (p q : Answers) (rs : List Record) (xs ys : List AskedQuestion) → u ≤ v → AllAfter v ys → AgreesUpTo u p q rs xs → AgreesUpTo u p q rs (xs ++ ys)
 agrees_later u v p q rs [] [] l f h = tt
 agrees_later u v p q rs [] (y ∷ ys) l f h = (λ (e : y.event ≤ u). absurd (omega (arith, l, f.0, e)), agrees_later u v p q rs [] ys l f.1 tt)
 agrees_later u v p q rs (x ∷ xs) ys l f h = (h.0, agrees_later u v p q rs xs ys l f h.1)
 
 -- where the answers are the same with other modules, so is the agreement
-agrees_with : (u : ℕ) (p q : Answers) (rs ss : List Record) (xs : List Asked)
+agrees_with : (u : ℕ) (p q : Answers) (rs ss : List Record) (xs : List AskedQuestion)
     → Each (λ a. answer_of p ss a.question ≡ answer_of p rs a.question) xs → Each (λ a. answer_of q ss a.question ≡ answer_of q rs a.question) xs
     → AgreesUpTo u p q rs xs → AgreesUpTo u p q ss xs
 agrees_with u p q rs ss [] f g h = tt
@@ -81,8 +81,8 @@ shorter_agrees b m p q u v k l h a =
     let f = fits_after b m v in
     let own : AgreesUpTo u p q w.records x.questions = AgreesUpTo-front u p q w.records x.questions g.rest (subst (AgreesUpTo u p q w.records) (sym g.joined) a) in
     agrees_with u p q (x.records ++ g.more) x.records x.questions
-    (each_back (λ (y : Asked). answer_of p (x.records ++ g.more) y.question) (λ (y : Asked). answer_of p x.records y.question) x.questions (noted_stay p x.records g.more f.nested x.questions f.questions))
-    (each_back (λ (y : Asked). answer_of q (x.records ++ g.more) y.question) (λ (y : Asked). answer_of q x.records y.question) x.questions (noted_stay q x.records g.more f.nested x.questions f.questions))
+    (each_back (λ (y : AskedQuestion). answer_of p (x.records ++ g.more) y.question) (λ (y : AskedQuestion). answer_of p x.records y.question) x.questions (noted_stay p x.records g.more f.nested x.questions f.questions))
+    (each_back (λ (y : AskedQuestion). answer_of q (x.records ++ g.more) y.question) (λ (y : AskedQuestion). answer_of q x.records y.question) x.questions (noted_stay q x.records g.more f.nested x.questions f.questions))
     (subst (λ rs. AgreesUpTo u p q rs x.questions) (sym g.records) own)
 
 pub longer_agrees : (b : Behaviour) (m p q : Answers) (u v k : ℕ) → u ≤ v → v ≤ k

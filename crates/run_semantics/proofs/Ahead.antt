@@ -6,7 +6,7 @@ use Rattle.model_questions.specs.declared.answer.Answer.TheVariants as answer
 use Rattle.model_questions.specs.declared.answer.Question.TheVariants.{InjectionBefore}
 use Rattle.model_injections.specs.declared.injection.Due.{Due}
 use Rattle.model_injections.specs.declared.injection.Injection.{Injection}
-use Rattle.model_injections.specs.declared.injection.Turn.{Turn}
+use Rattle.model_injections.specs.declared.injection.InjectionTurn.{InjectionTurn}
 use Rattle.model_questions.specs.Answers.{Answers}
 use Rattle.model_injections.specs.Injections.{due_before, goes_before, turn_of, is_undelivered, sooner, first_undelivered, goes_first, if_first}
 use Rattle.event_set.specs.declared.pending.Pending.{Pending}
@@ -40,29 +40,29 @@ behind_due : (a b : Due) → due_before a b ≡ false → b.time ≤ a.time
 behind_due a b h = behind_by (a.time == b.time) a b refl h
 
 -- by what is due before what
-goes_by : (x y : Bool) (a b : Turn) → due_before a.due b.due ≡ x → due_before b.due a.due ≡ y → (if x then true else (if y then false else nat_lt a.number b.number)) ≡ true → a.due.time ≤ b.due.time
+goes_by : (x y : Bool) (a b : InjectionTurn) → due_before a.due b.due ≡ x → due_before b.due a.due ≡ y → (if x then true else (if y then false else nat_lt a.number b.number)) ≡ true → a.due.time ≤ b.due.time
 goes_by true y a b e f h = before_due a.due b.due e
 goes_by false true a b e f h = absurd (true≢false (sym h))
 goes_by false false a b e f h = behind_due b.due a.due f
 
 -- what goes before is no later
-goes_time : (a b : Turn) → goes_before a b ≡ true → a.due.time ≤ b.due.time
+goes_time : (a b : InjectionTurn) → goes_before a b ≡ true → a.due.time ≤ b.due.time
 goes_time a b h = goes_by (due_before a.due b.due) (due_before b.due a.due) a b refl refl h
 
 -- by what is due before what
-stays_by : (x y : Bool) (a b : Turn) → due_before a.due b.due ≡ x → (if x then true else (if y then false else nat_lt a.number b.number)) ≡ false → b.due.time ≤ a.due.time
+stays_by : (x y : Bool) (a b : InjectionTurn) → due_before a.due b.due ≡ x → (if x then true else (if y then false else nat_lt a.number b.number)) ≡ false → b.due.time ≤ a.due.time
 stays_by true y a b e h = absurd (true≢false h)
 stays_by false y a b e h = behind_due a.due b.due e
 
 -- what does not go before is no earlier
-stays_time : (a b : Turn) → goes_before a b ≡ false → b.due.time ≤ a.due.time
+stays_time : (a b : InjectionTurn) → goes_before a b ≡ false → b.due.time ≤ a.due.time
 stays_time a b h = stays_by (due_before a.due b.due) (due_before b.due a.due) a b refl h
 
 -- ---- injections that are left
 
 -- of these injections none that is not delivered is due before that time, where this one was
 -- delivered last
-abbrev pub IsAhead : ℕ → Option Turn → List Injection → Type 0
+abbrev pub IsAhead : ℕ → Option InjectionTurn → List Injection → Type 0
 IsAhead time last is = Each (λ i. is_undelivered last i ≡ true → time ≤ i.due.time) is
 
 -- an injection is not due before that time, where there is one
@@ -91,7 +91,7 @@ sooner_later time i None h k = h
 sooner_later time i (Some j) h k = either_later (goes_before (turn_of j) (turn_of i)) time i j h k
 
 -- where the first that is left is not due before that time, none that is left is
-ahead_of_first : (time : ℕ) (last : Option Turn) (is : List Injection) → NotSooner time (first_undelivered last is) → IsAhead time last is
+ahead_of_first : (time : ℕ) (last : Option InjectionTurn) (is : List Injection) → NotSooner time (first_undelivered last is) → IsAhead time last is
 ahead_of_first time last [] h = tt
 ahead_of_first time last (i ∷ is) h = by (is_undelivered last i) refl (ahead_of_first time last is) h
   where
@@ -100,7 +100,7 @@ ahead_of_first time last (i ∷ is) h = by (is_undelivered last i) refl (ahead_o
     by false e rest k = ((λ x. absurd (true≢false (sym x ∙ e))), rest k)
 
 -- where none that is left is due before that time, the first is not
-first_ahead : (time : ℕ) (last : Option Turn) (is : List Injection) → IsAhead time last is → NotSooner time (first_undelivered last is)
+first_ahead : (time : ℕ) (last : Option InjectionTurn) (is : List Injection) → IsAhead time last is → NotSooner time (first_undelivered last is)
 first_ahead time last [] h = tt
 first_ahead time last (i ∷ is) h = by (is_undelivered last i) refl (first_ahead time last is h.1)
   where
@@ -114,7 +114,7 @@ ahead_of_delivered time i [] h = tt
 ahead_of_delivered time i (j ∷ is) h = ((λ x. let l = goes_time (turn_of i) (turn_of j) x in omega (arith, h, l)), ahead_of_delivered time i is h)
 
 -- at the time zero nothing is late
-pub ahead_at_zero : (last : Option Turn) (is : List Injection) → IsAhead 0 last is
+pub ahead_at_zero : (last : Option InjectionTurn) (is : List Injection) → IsAhead 0 last is
 ahead_at_zero last [] = tt
 ahead_at_zero last (i ∷ is) = ((λ x. omega arith), ahead_at_zero last is)
 

@@ -5,13 +5,13 @@ use Rattle.module_api.specs.declared.reply.Action.{Action}
 use Rattle.module_api.specs.declared.reply.Action.TheVariants.{Emit, RecordScalar, Send, SendDelayed, SendDirect, ScheduleAt, ScheduleAfter, Cancel, Fail}
 use Rattle.module_api.specs.Actions.{has_large_payload}
 use Rattle.module_api.specs.declared.reply.Reply.{Reply}
-use Rattle.module_api.specs.declared.call.Prompt.TheVariants as prompt
+use Rattle.module_api.specs.declared.call.CallReason.TheVariants as prompt
 use Rattle.module_api.specs.Behaviour.{Behaviour}
 use Rattle.module_api.specs.Names.{is_scalar_name}
 use Rattle.model_questions.specs.Answers.{Answers}
 use Rattle.run_semantics.specs.declared.occasions.Occasion.TheVariants as occasion
-use Rattle.run_semantics.specs.declared.outcome.Fault.{Fault}
-use Rattle.run_semantics.specs.declared.outcome.Fault.TheVariants as fault
+use Rattle.run_semantics.specs.declared.outcome.RunFault.{RunFault}
+use Rattle.run_semantics.specs.declared.outcome.RunFault.TheVariants as fault
 use Rattle.run_semantics.specs.declared.outcome.Outcome.{Outcome}
 use Rattle.run_semantics.specs.declared.traces.Instance.{Instance}
 use Rattle.run_semantics.specs.World.{World}
@@ -88,7 +88,7 @@ acted_closed : (b : Behaviour) (m : Answers) (id : ℕ) (actions : List Action) 
 acted_closed b m id actions w =
     either_closed (nat_lt 1000 (length actions)) (broken id fault.TooManyActions w) (act_all b m occasion.End id actions w) w (closed_same w) (act_all_closed b m id actions w)
 
-unless_closed : (id : ℕ) (found : Option Fault) (go : World → Flow) (w : World) → IsClosed w (in_flow (go w)) → IsClosed w (in_flow (unless_fault id found go w))
+unless_closed : (id : ℕ) (found : Option RunFault) (go : World → Flow) (w : World) → IsClosed w (in_flow (go w)) → IsClosed w (in_flow (unless_fault id found go w))
 unless_closed id (Some f) go w h = closed_same w
 unless_closed id None go w h = h
 

@@ -1,7 +1,7 @@
 -- The world of a flow.
 use Rattle.std.proofs.Common.{◌≡◌, Bool, true, false, refl, if◌then◌else◌}
-use Rattle.run_semantics.specs.declared.outcome.Turn.{Turn}
-use Rattle.run_semantics.specs.declared.outcome.Turn.TheVariants.{GoOn, Stop, Break}
+use Rattle.run_semantics.specs.declared.outcome.EventFlow.{EventFlow}
+use Rattle.run_semantics.specs.declared.outcome.EventFlow.TheVariants.{GoOn, Stop, Break}
 use Rattle.run_semantics.specs.World.{World}
 use Rattle.run_semantics.specs.Perform.{Flow, On, Stopped, Broken, flow_of}
 
@@ -10,7 +10,7 @@ in_flow (On w) = w
 in_flow (Stopped w) = w
 in_flow (Broken w path f) = w
 
-pub in_flow-of : (turn : Turn) (w : World) → in_flow (flow_of turn w) ≡ w
+pub in_flow-of : (turn : EventFlow) (w : World) → in_flow (flow_of turn w) ≡ w
 in_flow-of GoOn w = refl
 in_flow-of Stop w = refl
 in_flow-of (Break path f) w = refl

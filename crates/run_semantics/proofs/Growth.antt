@@ -2,8 +2,8 @@
 use Rattle.std.proofs.Common.{◌≡◌, ℕ, zero, suc, ◌+◌, ◌≤◌, ◌==◌, cond, filter, Bool, true, false, List, [], ◌∷◌, ◌++◌, Option, Some, None, refl, sym, ap, ◌∙◌, arith, subst, append_assoc, append-nil, length-append, slice_get, length, map, if◌then◌else◌, nat_lt, eqb-true, ℤ}
 use Rattle.sim_time.specs.Time.{time_sum}
 use Rattle.module_api.specs.Behaviour.{Behaviour, Replied}
-use Rattle.module_api.specs.declared.call.Prompt.{Prompt}
-use Rattle.module_api.specs.declared.call.Prompt.TheVariants as prompt
+use Rattle.module_api.specs.declared.call.CallReason.{CallReason}
+use Rattle.module_api.specs.declared.call.CallReason.TheVariants as prompt
 use Rattle.module_api.specs.declared.reply.Action.{Action}
 use Rattle.module_api.specs.Names.{is_scalar_name}
 use Rattle.module_api.specs.declared.reply.Action.TheVariants.{Emit, RecordScalar, Send, SendDelayed, SendDirect, ScheduleAt, ScheduleAfter, Cancel, Fail}
@@ -16,7 +16,7 @@ use Rattle.module_api.specs.declared.reply.Appointment.{Appointment}
 use Rattle.module_api.specs.declared.reply.Schedule.{Schedule}
 use Rattle.model_questions.specs.declared.answer.Answer.{Answer}
 use Rattle.model_questions.specs.declared.answer.Answer.TheVariants as answer
-use Rattle.model_questions.specs.declared.answer.Asked.{Asked}
+use Rattle.model_questions.specs.declared.answer.AskedQuestion.{AskedQuestion}
 use Rattle.model_questions.specs.declared.answer.Built.{Built}
 use Rattle.model_questions.specs.declared.answer.Question.{Question}
 use Rattle.model_questions.specs.declared.answer.Question.TheVariants.{Root, Build}
@@ -24,7 +24,7 @@ use Rattle.model_questions.specs.Answers.{Answers, answer_of}
 use Rattle.model_questions.specs.declared.record.Record.{Record}
 use Rattle.run_semantics.specs.declared.occasions.Occasion.{Occasion}
 use Rattle.run_semantics.specs.declared.occasions.Occasion.TheVariants as occasion
-use Rattle.run_semantics.specs.declared.outcome.Fault.{Fault}
+use Rattle.run_semantics.specs.declared.outcome.RunFault.{RunFault}
 use Rattle.run_semantics.specs.declared.traces.Instance.{Instance}
 use Rattle.run_semantics.specs.World.{World, asked, empty, is_asked, live_of, timed}
 use Rattle.event_set.specs.Timers.{has_timer}
@@ -41,12 +41,12 @@ use Rattle.model_questions.proofs.HopLemmas.{neighbour_within}
 -- ---- worlds whose ids are those of records
 
 -- all questions are of that event
-abbrev pub AllOfEvent : ℕ → List Asked → Type 0
+abbrev pub AllOfEvent : ℕ → List AskedQuestion → Type 0
 AllOfEvent event [] = Unit {0}
 AllOfEvent event (a ∷ rest) = (a.event ≡ event) × AllOfEvent event rest
 
 -- all are about modules with ids up to that one
-abbrev pub AllAbout : ℕ → List Asked → Type 0
+abbrev pub AllAbout : ℕ → List AskedQuestion → Type 0
 AllAbout n [] = Unit {0}
 AllAbout n (a ∷ rest) = (about a.question ≤ n) × AllAbout n rest
 
@@ -68,17 +68,17 @@ pub record Fits (w : World) : Type 0 where
   pub questions : AllAbout (length w.records) w.questions
 
 -- two lists of questions of one event
-pub AllOfEvent-append : (n : ℕ) (xs ys : List Asked) → AllOfEvent n xs → AllOfEvent n ys → AllOfEvent n (xs ++ ys)
+pub AllOfEvent-append : (n : ℕ) (xs ys : List AskedQuestion) → AllOfEvent n xs → AllOfEvent n ys → AllOfEvent n (xs ++ ys)
 AllOfEvent-append n [] ys f g = g
 AllOfEvent-append n (x ∷ xs) ys f g = (f.0, AllOfEvent-append n xs ys f.1 g)
 
 -- two lists of questions about these modules
-pub AllAbout-append : (n : ℕ) (xs ys : List Asked) → AllAbout n xs → AllAbout n ys → AllAbout n (xs ++ ys)
+pub AllAbout-append : (n : ℕ) (xs ys : List AskedQuestion) → AllAbout n xs → AllAbout n ys → AllAbout n (xs ++ ys)
 AllAbout-append n [] ys f g = g
 AllAbout-append n (x ∷ xs) ys f g = (f.0, AllAbout-append n xs ys f.1 g)
 
 -- more modules were created
-pub AllAbout-more : (n k : ℕ) (xs : List Asked) → n ≤ k → AllAbout n xs → AllAbout k xs
+pub AllAbout-more : (n k : ℕ) (xs : List AskedQuestion) → n ≤ k → AllAbout n xs → AllAbout k xs
 AllAbout-more n k [] h f = tt
 AllAbout-more n k (x ∷ xs) h f = (omega (arith, f.0), AllAbout-more n k xs h f.1)
 
@@ -115,7 +115,7 @@ found_within n id (x ∷ xs) i f e = by (x.id == id) refl (found_within n id xs 
 -- from the first world to the second, questions of the present event were asked, modules were
 -- created, and no event was executed
 pub record IsGrown (old new : World) : Type 0 where
-  pub rest : List Asked
+  pub rest : List AskedQuestion
   pub joined : old.questions ++ rest ≡ new.questions
   pub present : AllOfEvent old.count rest
   pub count : new.count ≡ old.count
@@ -303,12 +303,12 @@ ask_all_grows id (r ∷ rs) w f l =
 -- ---- replies and calls
 
 -- a fault asks nothing
-unless_grows : (w : World) (id : ℕ) (found : Option Fault) (go : World → Flow) → Fits w → IsGrown w (in_flow (go w)) → IsGrown w (in_flow (unless_fault id found go w))
+unless_grows : (w : World) (id : ℕ) (found : Option RunFault) (go : World → Flow) → Fits w → IsGrown w (in_flow (go w)) → IsGrown w (in_flow (unless_fault id found go w))
 unless_grows w id (Some fault) go f h = grown_same w f
 unless_grows w id None go f h = h
 
 -- what follows the questions
-pub answered_on : (b : Behaviour) (m : Answers) (o : Occasion) (id : ℕ) (found : Option Fault) (actions : List Action) (w : World) → Fits w → id ≤ length w.records → IsGrown w (in_flow (unless_fault id found (acted b m o id actions) w))
+pub answered_on : (b : Behaviour) (m : Answers) (o : Occasion) (id : ℕ) (found : Option RunFault) (actions : List Action) (w : World) → Fits w → id ≤ length w.records → IsGrown w (in_flow (unless_fault id found (acted b m o id actions) w))
 answered_on b m o id found actions w f l = unless_grows w id found (acted b m o id actions) f (acted_grows b m o id actions w f l)
 
 -- a new state leaves the ids
@@ -337,14 +337,14 @@ pub within_of_found : (id : ℕ) (i : Instance) (w : World) → Fits w → insta
 within_of_found id i w f e = found_within (length w.records) id w.modules i f.modules e
 
 -- so does a call of a module that may stand
-called_grows : (b : Behaviour) (m : Answers) (id : ℕ) (p : Prompt) (w : World) (found : Option Instance) → Fits w → instance_in id w.modules ≡ found → IsGrown w (in_flow (called b m (answered b m occasion.Event id) id p w found))
+called_grows : (b : Behaviour) (m : Answers) (id : ℕ) (p : CallReason) (w : World) (found : Option Instance) → Fits w → instance_in id w.modules ≡ found → IsGrown w (in_flow (called b m (answered b m occasion.Event id) id p w found))
 called_grows b m id p w None f e = grown_same w f
 called_grows b m id p w (Some i) f e =
     let r : Replied = (b.naming i.kind).reply i.state (call_of m id p w) in
     replied_grows (answered b m occasion.Event id) id r w f (λ v fits same. answered_grows b m id r.reply v fits (omega (arith, within_of_found id i w f e, ap (λ (rs : List Record). length rs) same)))
 
 -- one call
-pub call_grows : (b : Behaviour) (m : Answers) (id : ℕ) (p : Prompt) (w : World) → Fits w → IsGrown w (in_flow (call_module b m id p w))
+pub call_grows : (b : Behaviour) (m : Answers) (id : ℕ) (p : CallReason) (w : World) → Fits w → IsGrown w (in_flow (call_module b m id p w))
 call_grows b m id p w f = called_grows b m id p w (instance_in id w.modules) f refl
 
 -- ---- boxes and initialization

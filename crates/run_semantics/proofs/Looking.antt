@@ -3,11 +3,11 @@
 use Rattle.std.proofs.Common.{◌≡◌, ℕ, zero, suc, ◌+◌, List, [], ◌∷◌, ◌++◌, Option, Some, None, length, refl, sym, ap, arith, subst, append_assoc, append-nil}
 use Rattle.model_questions.specs.declared.answer.Answer.{Answer}
 use Rattle.model_questions.specs.declared.answer.Answer.TheVariants as answer
-use Rattle.model_questions.specs.declared.answer.Asked.{Asked}
+use Rattle.model_questions.specs.declared.answer.AskedQuestion.{AskedQuestion}
 use Rattle.model_questions.specs.declared.answer.Question.{Question}
 use Rattle.model_questions.specs.declared.answer.Question.TheVariants.{BeyondLimit, InjectionBefore}
 use Rattle.model_injections.specs.declared.injection.Injection.{Injection}
-use Rattle.model_injections.specs.declared.injection.Turn.{Turn}
+use Rattle.model_injections.specs.declared.injection.InjectionTurn.{InjectionTurn}
 use Rattle.model_questions.specs.Answers.{Answers, answer_of}
 use Rattle.model_injections.specs.Injections.{turn_of}
 use Rattle.model_questions.proofs.AnswerLemmas.{about}
@@ -19,32 +19,32 @@ use Rattle.run_semantics.specs.Upcoming.{first_due, delivered, target_of, Upcomi
 use Rattle.run_semantics.proofs.Growth.{AllOfEvent, AllAbout, AllOfEvent-append, AllAbout-append}
 
 -- a world in which more was asked, and that injection was delivered last
-abbrev pub looking : World → Option Turn → List Asked → World
+abbrev pub looking : World → Option InjectionTurn → List AskedQuestion → World
 looking w last rest = record w { delivered = last; questions = w.questions ++ rest }
 
 -- from the first world to the second: questions of the event after the first were asked, about no
 -- module, and injections delivered
 pub record HasLooked (w u : World) : Type 0 where
-  pub last : Option Turn
-  pub rest : List Asked
+  pub last : Option InjectionTurn
+  pub rest : List AskedQuestion
   pub of_next : AllOfEvent (w.count + 1) rest
   pub of_none : AllAbout 0 rest
   pub same : looking w last rest ≡ u
 
 -- nothing was asked
 pub looked_same : (w : World) → HasLooked w w
-looked_same w = record { last = w.delivered; rest = []; of_next = tt; of_none = tt; same = ap (λ (qs : List Asked). record w { questions = qs }) (append-nil w.questions) }
+looked_same w = record { last = w.delivered; rest = []; of_next = tt; of_none = tt; same = ap (λ (qs : List AskedQuestion). record w { questions = qs }) (append-nil w.questions) }
 
 -- one more question
 pub looked_asked : (w v : World) (q : Question) → about q ≡ 0 → HasLooked w v → HasLooked w (asked_next q v)
 looked_asked w v q e h =
-    let a : Asked = record { event = w.count + 1; question = q } in
+    let a : AskedQuestion = record { event = w.count + 1; question = q } in
     subst (λ (u : World). HasLooked w (asked_next q u)) h.same (record {
       last = h.last;
       rest = h.rest ++ a ∷ [];
       of_next = AllOfEvent-append (w.count + 1) h.rest (a ∷ []) h.of_next (refl, tt);
       of_none = AllAbout-append 0 h.rest (a ∷ []) h.of_none (omega (arith, e), tt);
-      same = ap (λ (qs : List Asked). record w { delivered = h.last; questions = qs }) (sym (append_assoc w.questions h.rest (a ∷ [])));
+      same = ap (λ (qs : List AskedQuestion). record w { delivered = h.last; questions = qs }) (sym (append_assoc w.questions h.rest (a ∷ [])));
     })
 
 -- an injection is delivered
@@ -118,8 +118,8 @@ trying_looks w (Nothing u) h = h
 
 -- what was asked up to an event that did not begin is what is noted, and then questions of that
 -- event, about no module
-pub record HasTried (w : World) (qs : List Asked) : Type 0 where
-  pub rest : List Asked
+pub record HasTried (w : World) (qs : List AskedQuestion) : Type 0 where
+  pub rest : List AskedQuestion
   pub joined : w.questions ++ rest ≡ qs
   pub of_next : AllOfEvent (w.count + 1) rest
   pub of_none : AllAbout 0 rest
@@ -131,7 +131,7 @@ upcoming_tried m w =
     subst (HasTried w) (tried_in (upcoming m w)) (record { rest = h.rest; joined = looked_joined w (trying (upcoming m w)) h; of_next = h.of_next; of_none = h.of_none })
 
 -- the first question of the event after a world
-abbrev pub first_asked : World → Asked
+abbrev pub first_asked : World → AskedQuestion
 first_asked w = record { event = w.count + 1; question = InjectionBefore (first_due w.pending) w.delivered }
 
 -- it is asked in any case

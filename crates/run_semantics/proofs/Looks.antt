@@ -5,7 +5,7 @@ use Rattle.model_questions.specs.declared.answer.Question.TheVariants.{Injection
 use Rattle.model_questions.specs.Answers.{Answers}
 use Rattle.model_injections.specs.declared.injection.Due.{Due}
 use Rattle.model_injections.specs.declared.injection.Injection.{Injection}
-use Rattle.model_injections.specs.declared.injection.Turn.{Turn}
+use Rattle.model_injections.specs.declared.injection.InjectionTurn.{InjectionTurn}
 use Rattle.model_injections.specs.Injections.{turn_of, first_undelivered, goes_first, if_first}
 use Rattle.model_injections.proofs.Left.{left_in, left_within, fewer}
 use Rattle.event_set.specs.declared.pending.Pending.{Pending}
@@ -14,7 +14,7 @@ use Rattle.run_semantics.specs.World.{World, asked_next}
 use Rattle.run_semantics.specs.Upcoming.{first_due, delivered, target_of, Upcoming, Nothing, first_of, aimed, chosen, upcoming_in, upcoming}
 
 -- one look less is enough for what is left after the one that is delivered
-one_less : (last : Option Turn) (is : List Injection) (i : Injection) (left : ℕ) → left_in last is < suc left → first_undelivered last is ≡ Some i → left_in (Some (turn_of i)) is < left
+one_less : (last : Option InjectionTurn) (is : List Injection) (i : Injection) (left : ℕ) → left_in last is < suc left → first_undelivered last is ≡ Some i → left_in (Some (turn_of i)) is < left
 one_less last is i left h e = let l = fewer last is i e in omega (arith, h, l)
 
 -- ---- more looks than there are injections left change nothing

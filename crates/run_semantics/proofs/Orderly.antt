@@ -3,8 +3,8 @@
 use Rattle.std.proofs.Common.{◌≡◌, ◌≢◌, ◌⊎◌, inl, inr, ℕ, zero, suc, ◌+◌, ◌≤◌, ◌<◌, ◌==◌, cond, Bool, true, false, List, [], ◌∷◌, ◌++◌, Option, Some, None, refl, sym, ap, ◌∙◌, arith, subst, append_assoc, append-nil, length, if◌then◌else◌, nat_lt, eqb-true, ℤ, ltb-false}
 use Rattle.sim_time.specs.Time.{time_sum}
 use Rattle.module_api.specs.Behaviour.{Behaviour, Replied}
-use Rattle.module_api.specs.declared.call.Prompt.{Prompt}
-use Rattle.module_api.specs.declared.call.Prompt.TheVariants as prompt
+use Rattle.module_api.specs.declared.call.CallReason.{CallReason}
+use Rattle.module_api.specs.declared.call.CallReason.TheVariants as prompt
 use Rattle.module_api.specs.declared.reply.Action.{Action}
 use Rattle.module_api.specs.Names.{is_scalar_name}
 use Rattle.module_api.specs.declared.reply.Action.TheVariants.{Emit, RecordScalar, Send, SendDelayed, SendDirect, ScheduleAt, ScheduleAfter, Cancel, Fail}
@@ -17,8 +17,8 @@ use Rattle.module_api.specs.declared.reply.Schedule.{Schedule}
 use Rattle.model_questions.specs.Answers.{Answers}
 use Rattle.run_semantics.specs.declared.occasions.Occasion.{Occasion}
 use Rattle.run_semantics.specs.declared.occasions.Occasion.TheVariants as occasion
-use Rattle.run_semantics.specs.declared.outcome.Fault.{Fault}
-use Rattle.run_semantics.specs.declared.outcome.Fault.TheVariants as fault
+use Rattle.run_semantics.specs.declared.outcome.RunFault.{RunFault}
+use Rattle.run_semantics.specs.declared.outcome.RunFault.TheVariants as fault
 use Rattle.run_semantics.specs.declared.outcome.Outcome.{Outcome}
 use Rattle.run_semantics.specs.declared.outcome.Outcome.TheVariants.{Ended, TimeLimit}
 use Rattle.event_set.specs.declared.pending.Happening.TheVariants.{Timer}
@@ -323,7 +323,7 @@ ask_all_leads id (r ∷ rs) w f =
     leads_on g (ask_all_leads id rs (asked (question_of id r) w) g.orderly)
 
 -- a fault changes nothing
-unless_leads : (w : World) (id : ℕ) (found : Option Fault) (go : World → Flow) → IsOrderly w → Leads w (in_flow (go w)) → Leads w (in_flow (unless_fault id found go w))
+unless_leads : (w : World) (id : ℕ) (found : Option RunFault) (go : World → Flow) → IsOrderly w → Leads w (in_flow (go w)) → Leads w (in_flow (unless_fault id found go w))
 unless_leads w id (Some fault) go f h = leads_same w f
 unless_leads w id None go f h = h
 
@@ -353,7 +353,7 @@ found_stands id (j ∷ js) i e = by (j.id == id) refl (found_stands id js i) e
     by false t later e = inr (later e)
 
 -- a call of a module that may stand
-called_leads : (b : Behaviour) (m : Answers) (id : ℕ) (p : Prompt) (w : World) (found : Option Instance) → instance_in id w.modules ≡ found → IsOrderly w → IsComplete w → Leads w (in_flow (called b m (answered b m occasion.Event id) id p w found))
+called_leads : (b : Behaviour) (m : Answers) (id : ℕ) (p : CallReason) (w : World) (found : Option Instance) → instance_in id w.modules ≡ found → IsOrderly w → IsComplete w → Leads w (in_flow (called b m (answered b m occasion.Event id) id p w found))
 called_leads b m id p w None e f all = leads_same w f
 called_leads b m id p w (Some i) e f all =
     let r : Replied = (b.naming i.kind).reply i.state (call_of m id p w) in
@@ -362,7 +362,7 @@ called_leads b m id p w (Some i) e f all =
     leads_on g (answered_leads b m id r.reply v g.orderly (stands_on id w v g (found_stands id w.modules i e), complete_on w v g all))
 
 -- one call
-pub call_leads : (b : Behaviour) (m : Answers) (id : ℕ) (p : Prompt) (w : World) → IsOrderly w → IsComplete w → Leads w (in_flow (call_module b m id p w))
+pub call_leads : (b : Behaviour) (m : Answers) (id : ℕ) (p : CallReason) (w : World) → IsOrderly w → IsComplete w → Leads w (in_flow (call_module b m id p w))
 call_leads b m id p w f all = called_leads b m id p w (instance_in id w.modules) refl f all
 
 -- ---- initialization

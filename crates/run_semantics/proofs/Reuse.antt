@@ -4,13 +4,13 @@ use Rattle.std.proofs.Common.{◌≡◌, ℕ, zero, suc, ◌+◌, ◌≤◌, ◌
 use Rattle.std.proofs.Math.Nat.{eq-or-lt_of_le}
 use Rattle.module_api.specs.Behaviour.{Behaviour, Replied}
 use Rattle.module_api.specs.Laws.{AgreesOn, IsLawful}
-use Rattle.module_api.specs.declared.call.Prompt.{Prompt}
-use Rattle.module_api.specs.declared.call.Prompt.TheVariants as prompt
+use Rattle.module_api.specs.declared.call.CallReason.{CallReason}
+use Rattle.module_api.specs.declared.call.CallReason.TheVariants as prompt
 use Rattle.module_api.specs.declared.reply.Read.{Read}
 use Rattle.module_api.specs.declared.reply.Read.TheVariants as read
 use Rattle.model_questions.specs.declared.answer.Answer.{Answer}
 use Rattle.model_questions.specs.declared.answer.Answer.TheVariants as answer
-use Rattle.model_questions.specs.declared.answer.Asked.{Asked}
+use Rattle.model_questions.specs.declared.answer.AskedQuestion.{AskedQuestion}
 use Rattle.model_questions.specs.declared.answer.Built.{Built}
 use Rattle.model_questions.specs.declared.answer.Question.{Question}
 use Rattle.model_questions.specs.declared.answer.Question.TheVariants.{Root, Build, GateSize, Hop, HopBack, BeyondLimit, InjectionBefore}
@@ -40,8 +40,8 @@ use Rattle.run_semantics.specs.Routes.{arriving, busy_of, channels_of, hop_by, i
 use Rattle.run_semantics.proofs.Sending.{LeadsTo, hop_leads, module_within}
 use Rattle.run_semantics.specs.declared.occasions.Occasion.{Occasion}
 use Rattle.run_semantics.specs.declared.occasions.Occasion.TheVariants as occasion
-use Rattle.run_semantics.specs.declared.outcome.Fault.{Fault as FaultValue}
-use Rattle.run_semantics.specs.declared.outcome.Fault.TheVariants as fault
+use Rattle.run_semantics.specs.declared.outcome.RunFault.{RunFault as FaultValue}
+use Rattle.run_semantics.specs.declared.outcome.RunFault.TheVariants as fault
 use Rattle.run_semantics.specs.declared.outcome.Outcome.{Outcome}
 use Rattle.run_semantics.specs.declared.outcome.Outcome.TheVariants.{Ended, EventLimit, NoMoreEvents, TimeLimit, Fault}
 use Rattle.event_set.specs.declared.pending.Pending.{Pending}
@@ -69,17 +69,17 @@ abbrev pub AgreesIn : Answers → Answers → World → Type 0
 AgreesIn m n w = Agrees m n w.records w.questions
 
 -- on the first questions of a list
-Agrees-front : (m n : Answers) (rs : List Record) (xs ys : List Asked) → Agrees m n rs (xs ++ ys) → Agrees m n rs xs
+Agrees-front : (m n : Answers) (rs : List Record) (xs ys : List AskedQuestion) → Agrees m n rs (xs ++ ys) → Agrees m n rs xs
 Agrees-front m n rs [] ys h = tt
 Agrees-front m n rs (x ∷ xs) ys h = (h.0, Agrees-front m n rs xs ys h.1)
 
 -- on its last question
-Agrees-last : (m n : Answers) (rs : List Record) (xs : List Asked) (a : Asked) → Agrees m n rs (xs ++ a ∷ []) → answer_of m rs a.question ≡ answer_of n rs a.question
+Agrees-last : (m n : Answers) (rs : List Record) (xs : List AskedQuestion) (a : AskedQuestion) → Agrees m n rs (xs ++ a ∷ []) → answer_of m rs a.question ≡ answer_of n rs a.question
 Agrees-last m n rs [] a h = h.0
 Agrees-last m n rs (x ∷ xs) a h = Agrees-last m n rs xs a h.1
 
 -- on one of them
-Agrees-asked : (m n : Answers) (rs : List Record) (q : Question) (xs : List Asked) → is_asked q xs ≡ true → Agrees m n rs xs → answer_of m rs q ≡ answer_of n rs q
+Agrees-asked : (m n : Answers) (rs : List Record) (q : Question) (xs : List AskedQuestion) → is_asked q xs ≡ true → Agrees m n rs xs → answer_of m rs q ≡ answer_of n rs q
 Agrees-asked m n rs q [] e h = cc
 Agrees-asked m n rs q (x ∷ xs) e h = by (same_question q x.question) refl e (λ later. Agrees-asked m n rs q xs later h.1)
   where
@@ -88,7 +88,7 @@ Agrees-asked m n rs q (x ∷ xs) e h = by (same_question q x.question) refl e (�
     by false t e later = later e
 
 -- on one more, whether it was asked before or not
-Agrees-noted : (m n : Answers) (rs : List Record) (event : ℕ) (q : Question) (xs : List Asked) → Agrees m n rs (noted event q xs) → answer_of m rs q ≡ answer_of n rs q
+Agrees-noted : (m n : Answers) (rs : List Record) (event : ℕ) (q : Question) (xs : List AskedQuestion) → Agrees m n rs (noted event q xs) → answer_of m rs q ≡ answer_of n rs q
 Agrees-noted m n rs event q xs h = by (is_asked q xs) refl h
   where
     by : (t : Bool) → is_asked q xs ≡ t → Agrees m n rs (if t then xs else xs ++ record { event = event; question = q } ∷ []) → answer_of m rs q ≡ answer_of n rs q
@@ -96,13 +96,13 @@ Agrees-noted m n rs event q xs h = by (is_asked q xs) refl h
     by false t h = Agrees-last m n rs xs (record { event = event; question = q }) h
 
 -- with the modules that were there before
-Agrees-fewer : (m n : Answers) (rs more : List Record) → AreNested 0 rs → (xs : List Asked) → AllAbout (length rs) xs → Agrees m n (rs ++ more) xs → Agrees m n rs xs
+Agrees-fewer : (m n : Answers) (rs more : List Record) → AreNested 0 rs → (xs : List AskedQuestion) → AllAbout (length rs) xs → Agrees m n (rs ++ more) xs → Agrees m n rs xs
 Agrees-fewer m n rs more h [] f a = tt
 Agrees-fewer m n rs more h (x ∷ xs) f a =
     (sym (answer_more m rs more h x.question f.0) ∙ (a.0 ∙ answer_more n rs more h x.question f.0), Agrees-fewer m n rs more h xs f.1 a.1)
 
 -- on what was asked before more was asked and created
-Agrees-grown : (m n : Answers) (u : World) (rest : List Asked) (more rs : List Record) (qs : List Asked) → Fits u → u.questions ++ rest ≡ qs → u.records ++ more ≡ rs → Agrees m n rs qs → AgreesIn m n u
+Agrees-grown : (m n : Answers) (u : World) (rest : List AskedQuestion) (more rs : List Record) (qs : List AskedQuestion) → Fits u → u.questions ++ rest ≡ qs → u.records ++ more ≡ rs → Agrees m n rs qs → AgreesIn m n u
 Agrees-grown m n u rest more rs qs f joined records h =
     let all : Agrees m n (u.records ++ more) (u.questions ++ rest) = subst (λ xs. Agrees m n xs (u.questions ++ rest)) (sym records) (subst (Agrees m n rs) (sym joined) h) in
     Agrees-fewer m n u.records more f.nested u.questions f.questions (Agrees-front m n (u.records ++ more) u.questions rest all)
@@ -203,7 +203,7 @@ fault_alike m n records id (r ∷ rs) h =
     ∙ ap (first_fault (fault_of_read r (answer_of n records (question_of id r)))) (fault_alike m n records id rs h.1)
 
 -- a call shows the same there
-shown_alike : (m n : Answers) (id : ℕ) (p : Prompt) (w : World) (reads : List Read) → AnswerAlike m n w.records id reads → AgreesOn reads (call_of m id p w) (parameters_of n w.records id) (gates_of n w.records id)
+shown_alike : (m n : Answers) (id : ℕ) (p : CallReason) (w : World) (reads : List Read) → AnswerAlike m n w.records id reads → AgreesOn reads (call_of m id p w) (parameters_of n w.records id) (gates_of n w.records id)
 shown_alike m n id p w [] h = tt
 shown_alike m n id p w (read.Parameter name ∷ rs) h = (same_value m n w.records id name h.0, shown_alike m n id p w rs h.1)
 shown_alike m n id p w (read.Gate name ∷ rs) h = (same_gate m n w.records id name h.0, shown_alike m n id p w rs h.1)
@@ -345,7 +345,7 @@ unless_same b m n o id (Some e) actions w f l = does_itself m n w (broken id e w
 unless_same b m n o id None actions w f l = acted_same b m n o id actions w f l
 
 -- a call has the same reply, since the law of reads holds, and the same follows
-called_same : (b : Behaviour) → IsLawful b → (m n : Answers) (id : ℕ) (p : Prompt) (w : World) (found : Option Instance) → Fits w → instance_in id w.modules ≡ found
+called_same : (b : Behaviour) → IsLawful b → (m n : Answers) (id : ℕ) (p : CallReason) (w : World) (found : Option Instance) → Fits w → instance_in id w.modules ≡ found
     → DoesSame m n w (called b m (answered b m occasion.Event id) id p w found) (called b n (answered b n occasion.Event id) id p w found)
 called_same b law m n id p w None f e = does_itself m n w (On w) (grown_same w f)
 called_same b law m n id p w (Some i) f e =
@@ -370,7 +370,7 @@ called_same b law m n id p w (Some i) f e =
     }
 
 -- one call
-call_same : (b : Behaviour) → IsLawful b → (m n : Answers) (id : ℕ) (p : Prompt) (w : World) → Fits w → DoesSame m n w (call_module b m id p w) (call_module b n id p w)
+call_same : (b : Behaviour) → IsLawful b → (m n : Answers) (id : ℕ) (p : CallReason) (w : World) → Fits w → DoesSame m n w (call_module b m id p w) (call_module b n id p w)
 call_same b law m n id p w f = called_same b law m n id p w (instance_in id w.modules) f refl
 
 -- ---- setup, boxes and initialization
@@ -496,7 +496,7 @@ settled_world (Broken w path f) = refl
 -- ---- all that was asked
 
 -- what is noted stands first of it
-noted_first : (P : List Asked → Type 0) → ((xs ys : List Asked) → P (xs ++ ys) → P xs) → (m : Answers) (s : Stage) → P (questions_of m s) → P (world_at s).questions
+noted_first : (P : List AskedQuestion → Type 0) → ((xs ys : List AskedQuestion) → P (xs ++ ys) → P xs) → (m : Answers) (s : Stage) → P (questions_of m s) → P (world_at s).questions
 noted_first P front m (Running w) h = h
 noted_first P front m (Over w Ended) h = h
 noted_first P front m (Over w EventLimit) h = h
@@ -521,7 +521,7 @@ start_same b law m n h = ap settled ((begins_same b law m n).same (subst (Agrees
 -- from the first world to the second one event was executed at most, the one of that number: its
 -- questions were asked
 pub record IsLater (event : ℕ) (old new : World) : Type 0 where
-  pub rest : List Asked
+  pub rest : List AskedQuestion
   pub joined : old.questions ++ rest ≡ new.questions
   pub later : AllOfEvent event rest
   pub more : List Record
@@ -708,28 +708,28 @@ after_same b law m n (suc v) h =
 -- ---- the first events of a longer run
 
 -- all are of events up to that one
-abbrev AllUpTo : ℕ → List Asked → Type 0
+abbrev AllUpTo : ℕ → List AskedQuestion → Type 0
 AllUpTo v [] = Unit {0}
 AllUpTo v (a ∷ rest) = (a.event ≤ v) × AllUpTo v rest
 
 -- two lists of such questions
-AllUpTo-append : (v : ℕ) (xs ys : List Asked) → AllUpTo v xs → AllUpTo v ys → AllUpTo v (xs ++ ys)
+AllUpTo-append : (v : ℕ) (xs ys : List AskedQuestion) → AllUpTo v xs → AllUpTo v ys → AllUpTo v (xs ++ ys)
 AllUpTo-append v [] ys f g = g
 AllUpTo-append v (x ∷ xs) ys f g = (f.0, AllUpTo-append v xs ys f.1 g)
 
 -- a later event bounds them too
-AllUpTo-more : (u v : ℕ) (xs : List Asked) → u ≤ v → AllUpTo u xs → AllUpTo v xs
+AllUpTo-more : (u v : ℕ) (xs : List AskedQuestion) → u ≤ v → AllUpTo u xs → AllUpTo v xs
 AllUpTo-more u v [] h f = tt
 AllUpTo-more u v (x ∷ xs) h f = (omega (arith, f.0), AllUpTo-more u v xs h f.1)
 
 -- questions of one event that is not later
-AllUpTo-of : (v event : ℕ) (xs : List Asked) → event ≤ v → AllOfEvent event xs → AllUpTo v xs
+AllUpTo-of : (v event : ℕ) (xs : List AskedQuestion) → event ≤ v → AllOfEvent event xs → AllUpTo v xs
 AllUpTo-of v event [] h f = tt
 AllUpTo-of v event (x ∷ xs) h f = (omega (arith, f.0), AllUpTo-of v event xs h f.1)
 
 -- from a world that goes on to the stage after the next turn, questions of that event were asked
 record HasAsked (m : Answers) (event : ℕ) (w : World) (s : Stage) : Type 0 where
-  rest : List Asked
+  rest : List AskedQuestion
   joined : w.questions ++ rest ≡ questions_of m s
   of_event : AllOfEvent event rest
 
@@ -780,28 +780,28 @@ up_to_after b m zero =
 up_to_after b m (suc v) = next_up_to b m v (after b m v) (runs_on b m v) (fits_after b m v) (up_to_after b m v)
 
 -- the first of such questions
-AllUpTo-front : (v : ℕ) (xs ys : List Asked) → AllUpTo v (xs ++ ys) → AllUpTo v xs
+AllUpTo-front : (v : ℕ) (xs ys : List AskedQuestion) → AllUpTo v (xs ++ ys) → AllUpTo v xs
 AllUpTo-front v [] ys h = tt
 AllUpTo-front v (x ∷ xs) ys h = (h.0, AllUpTo-front v xs ys h.1)
 
 -- the last of such questions
-AllUpTo-back : (v : ℕ) (xs ys : List Asked) → AllUpTo v (xs ++ ys) → AllUpTo v ys
+AllUpTo-back : (v : ℕ) (xs ys : List AskedQuestion) → AllUpTo v (xs ++ ys) → AllUpTo v ys
 AllUpTo-back v [] ys h = h
 AllUpTo-back v (x ∷ xs) ys h = AllUpTo-back v xs ys h.1
 
 -- where all questions are of the events up to v, the models agree on all
-Agrees-up_to : (v : ℕ) (m n : Answers) (rs : List Record) (xs : List Asked) → AllUpTo v xs → AgreesUpTo v m n rs xs → Agrees m n rs xs
+Agrees-up_to : (v : ℕ) (m n : Answers) (rs : List Record) (xs : List AskedQuestion) → AllUpTo v xs → AgreesUpTo v m n rs xs → Agrees m n rs xs
 Agrees-up_to v m n rs [] f a = tt
 Agrees-up_to v m n rs (x ∷ xs) f a = (a.0 f.0, Agrees-up_to v m n rs xs f.1 a.1)
 
 -- on the first questions of a list
-pub AgreesUpTo-front : (v : ℕ) (m n : Answers) (rs : List Record) (xs ys : List Asked) → AgreesUpTo v m n rs (xs ++ ys) → AgreesUpTo v m n rs xs
+pub AgreesUpTo-front : (v : ℕ) (m n : Answers) (rs : List Record) (xs ys : List AskedQuestion) → AgreesUpTo v m n rs (xs ++ ys) → AgreesUpTo v m n rs xs
 AgreesUpTo-front v m n rs [] ys h = tt
 AgreesUpTo-front v m n rs (x ∷ xs) ys h = (h.0, AgreesUpTo-front v m n rs xs ys h.1)
 
 -- the second world is of the same run as the first, and no earlier
 pub record IsPast (old new : World) : Type 0 where
-  pub rest : List Asked
+  pub rest : List AskedQuestion
   pub joined : old.questions ++ rest ≡ new.questions
   pub more : List Record
   pub records : old.records ++ more ≡ new.records
@@ -829,7 +829,7 @@ past_after b m v (suc k) h =
     (eq-or-lt_of_le h)
 
 -- more modules change no answer about those that were there
-pub noted_stay : (m : Answers) (rs more : List Record) → AreNested 0 rs → (qs : List Asked) → AllAbout (length rs) qs → Each (λ a. answer_of m (rs ++ more) a.question ≡ answer_of m rs a.question) qs
+pub noted_stay : (m : Answers) (rs more : List Record) → AreNested 0 rs → (qs : List AskedQuestion) → AllAbout (length rs) qs → Each (λ a. answer_of m (rs ++ more) a.question ≡ answer_of m rs a.question) qs
 noted_stay m rs more h [] f = tt
 noted_stay m rs more h (a ∷ qs) f = (answer_more m rs more h a.question f.0, noted_stay m rs more h qs f.1)
 
@@ -854,8 +854,8 @@ noted_after b m other n k h =
     let u : World = world_at (after b m n) in
     let p = past_after b m n k h in
     let f = fits_after b m n in
-    let qs : List Asked = questions_of m (after b m n) in
-    subst (λ rs. Each (λ (a : Asked). answer_of other rs a.question ≡ answer_of other u.records a.question) qs) p.records (noted_stay other u.records p.more f.nested qs (asked_about m (after b m n) f))
+    let qs : List AskedQuestion = questions_of m (after b m n) in
+    subst (λ rs. Each (λ (a : AskedQuestion). answer_of other rs a.question ≡ answer_of other u.records a.question) qs) p.records (noted_stay other u.records p.more f.nested qs (asked_about m (after b m n) f))
 
 -- by the first events of a longer run the models agree on what is noted
 noted_same : (b : Behaviour) (m n : Answers) (v k : ℕ) → v ≤ k → AgreesUpTo v m n (world_at (after b m k)).records (world_at (after b m k)).questions → AgreesIn m n (world_at (after b m v))

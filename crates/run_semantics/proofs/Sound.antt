@@ -4,7 +4,7 @@ use Rattle.std.proofs.Common.{◌≡◌, ℕ, suc, ◌+◌, ◌≤◌, Bool, tru
 use Rattle.std.proofs.lemmas.Bool.Decides.{nat_tests}
 use Rattle.sim_time.specs.Time.{time_sum}
 use Rattle.module_api.specs.Behaviour.{Behaviour, Replied}
-use Rattle.module_api.specs.declared.call.Prompt.{Prompt}
+use Rattle.module_api.specs.declared.call.CallReason.{CallReason}
 use Rattle.module_api.specs.declared.reply.Action.{Action}
 use Rattle.module_api.specs.Names.{is_scalar_name}
 use Rattle.module_api.specs.declared.reply.Action.TheVariants.{Emit, RecordScalar, Send, SendDelayed, SendDirect, ScheduleAt, ScheduleAfter, Cancel, Fail}
@@ -17,8 +17,8 @@ use Rattle.module_api.specs.declared.reply.Schedule.{Schedule}
 use Rattle.model_questions.specs.Answers.{Answers}
 use Rattle.run_semantics.specs.declared.occasions.Occasion.{Occasion}
 use Rattle.run_semantics.specs.declared.occasions.Occasion.TheVariants as occasion
-use Rattle.run_semantics.specs.declared.outcome.Fault.{Fault}
-use Rattle.run_semantics.specs.declared.outcome.Turn.{Turn}
+use Rattle.run_semantics.specs.declared.outcome.RunFault.{RunFault}
+use Rattle.run_semantics.specs.declared.outcome.EventFlow.{EventFlow}
 use Rattle.run_semantics.specs.declared.traces.Instance.{Instance}
 use Rattle.run_semantics.specs.World.{World, asked}
 use Rattle.event_set.specs.Timers.{has_timer}
@@ -129,7 +129,7 @@ ask_all_keeps : (id : ℕ) (reads : List Read) (w : World) → Keeps 0 w (ask_al
 ask_all_keeps id [] w = keeps_same 0 w
 ask_all_keeps id (r ∷ rs) w = let f = ask_all_keeps id rs (asked (question_of id r) w) in record { count = f.count; next = f.next }
 
-unless_keeps : (n id : ℕ) (found : Option Fault) (go : World → Flow) (w : World) → Keeps n w (in_flow (go w)) → Keeps n w (in_flow (unless_fault id found go w))
+unless_keeps : (n id : ℕ) (found : Option RunFault) (go : World → Flow) (w : World) → Keeps n w (in_flow (go w)) → Keeps n w (in_flow (unless_fault id found go w))
 unless_keeps n id (Some f) go w h = keeps_same n w
 unless_keeps n id None go w h = h
 
@@ -143,21 +143,21 @@ answered_keeps b m o id reply w =
     keeps_on 0 1000 w v _ (ask_noted_keeps o id reply.reads w) (unless_keeps 1000 id (read_fault m w.records id reply.reads) (acted b m o id reply.actions) v (acted_keeps b m o id reply.actions v))
 
 -- so many insertions follow a call as follow a reply
-called_keeps : (n : ℕ) (b : Behaviour) (m : Answers) (follow : Reply → World → Flow) (id : ℕ) (p : Prompt) (w : World) (i : Option Instance) → ((reply : Reply) (v : World) → Keeps n v (in_flow (follow reply v))) → Keeps n w (in_flow (called b m follow id p w i))
+called_keeps : (n : ℕ) (b : Behaviour) (m : Answers) (follow : Reply → World → Flow) (id : ℕ) (p : CallReason) (w : World) (i : Option Instance) → ((reply : Reply) (v : World) → Keeps n v (in_flow (follow reply v))) → Keeps n w (in_flow (called b m follow id p w i))
 called_keeps n b m follow id p w None h = keeps_same n w
 called_keeps n b m follow id p w (Some i) h =
     let r : Replied = (b.naming i.kind).reply i.state (call_of m id p w) in
     let f = h r.reply (changed id r.state w) in
     record { count = f.count; next = f.next }
 
-pub call_at_keeps : (b : Behaviour) (m : Answers) (o : Occasion) (id : ℕ) (p : Prompt) (w : World) → Keeps 1000 w (in_flow (call_at b m o id p w))
+pub call_at_keeps : (b : Behaviour) (m : Answers) (o : Occasion) (id : ℕ) (p : CallReason) (w : World) → Keeps 1000 w (in_flow (call_at b m o id p w))
 call_at_keeps b m o id p w = called_keeps 1000 b m (answered b m o id) id p w (instance_in id w.modules) (answered_keeps b m o id)
 
-pub call_keeps : (b : Behaviour) (m : Answers) (id : ℕ) (p : Prompt) (w : World) → Keeps 1000 w (in_flow (call_module b m id p w))
+pub call_keeps : (b : Behaviour) (m : Answers) (id : ℕ) (p : CallReason) (w : World) → Keeps 1000 w (in_flow (call_module b m id p w))
 call_keeps b m id p w = call_at_keeps b m occasion.Event id p w
 
 -- what a call leaves, by what the code says of it
-pub call_leaves : (b : Behaviour) (m : Answers) (o : Occasion) (id : ℕ) (p : Prompt) (turn : Turn) (w v : World) → flow_of turn v ≡ call_at b m o id p w → Keeps 1000 w v
+pub call_leaves : (b : Behaviour) (m : Answers) (o : Occasion) (id : ℕ) (p : CallReason) (turn : EventFlow) (w v : World) → flow_of turn v ≡ call_at b m o id p w → Keeps 1000 w v
 call_leaves b m o id p turn w v e =
     let same : in_flow (call_at b m o id p w) ≡ v = ap in_flow (sym e) ∙ in_flow-of turn v in
     subst (λ (u : World). Keeps 1000 w u) same (call_at_keeps b m o id p w)

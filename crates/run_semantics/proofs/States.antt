@@ -3,8 +3,8 @@ use Rattle.std.proofs.Common.{◌≡◌, ℕ, zero, suc, ◌==◌, cond, Bool, t
 use Rattle.sim_time.specs.Time.{time_sum}
 use Rattle.module_api.specs.Behaviour.{Behaviour, Replied}
 use Rattle.module_api.specs.Laws.{IsLawful}
-use Rattle.module_api.specs.declared.call.Prompt.{Prompt}
-use Rattle.module_api.specs.declared.call.Prompt.TheVariants as prompt
+use Rattle.module_api.specs.declared.call.CallReason.{CallReason}
+use Rattle.module_api.specs.declared.call.CallReason.TheVariants as prompt
 use Rattle.module_api.specs.declared.reply.Action.{Action}
 use Rattle.module_api.specs.declared.reply.Action.TheVariants.{Emit, RecordScalar, Send, SendDelayed, SendDirect, ScheduleAt, ScheduleAfter, Cancel, Fail}
 use Rattle.module_api.specs.declared.message.Outgoing.{Outgoing}
@@ -20,8 +20,8 @@ use Rattle.event_set.specs.Timers.{has_timer}
 use Rattle.event_set.proofs.Order.{each_append}
 use Rattle.run_semantics.specs.declared.occasions.Occasion.{Occasion}
 use Rattle.run_semantics.specs.declared.occasions.Occasion.TheVariants as occasion
-use Rattle.run_semantics.specs.declared.outcome.Fault.{Fault}
-use Rattle.run_semantics.specs.declared.outcome.Fault.TheVariants as fault
+use Rattle.run_semantics.specs.declared.outcome.RunFault.{RunFault}
+use Rattle.run_semantics.specs.declared.outcome.RunFault.TheVariants as fault
 use Rattle.run_semantics.specs.declared.outcome.Outcome.{Outcome}
 use Rattle.run_semantics.specs.declared.outcome.Outcome.TheVariants.{Ended, TimeLimit}
 use Rattle.run_semantics.specs.declared.traces.Instance.{Instance}
@@ -115,7 +115,7 @@ ask_all_in : (b : Behaviour) (id : ℕ) (reads : List Read) (w : World) → AllI
 ask_all_in b id [] w h = h
 ask_all_in b id (r ∷ rs) w h = ask_all_in b id rs (asked (question_of id r) w) h
 
-unless_in : (b : Behaviour) (id : ℕ) (found : Option Fault) (go : World → Flow) (w : World) → AllIn b w → AllIn b (in_flow (go w)) → AllIn b (in_flow (unless_fault id found go w))
+unless_in : (b : Behaviour) (id : ℕ) (found : Option RunFault) (go : World → Flow) (w : World) → AllIn b w → AllIn b (in_flow (go w)) → AllIn b (in_flow (unless_fault id found go w))
 unless_in b id (Some f) go w h k = h
 unless_in b id None go w h k = k
 
@@ -146,7 +146,7 @@ changed_in b id state (j ∷ js) i e s h = by (j.id == id) (λ x. changed_in b i
     by false later e = (h.0, later e)
 
 -- a call of a module that may stand
-called_in : (b : Behaviour) → IsLawful b → (m : Answers) (id : ℕ) (p : Prompt) (w : World) (found : Option Instance) → instance_in id w.modules ≡ found → AllIn b w → AllIn b (in_flow (called b m (answered b m occasion.Event id) id p w found))
+called_in : (b : Behaviour) → IsLawful b → (m : Answers) (id : ℕ) (p : CallReason) (w : World) (found : Option Instance) → instance_in id w.modules ≡ found → AllIn b w → AllIn b (in_flow (called b m (answered b m occasion.Event id) id p w found))
 called_in b l m id p w None e h = h
 called_in b l m id p w (Some i) e h =
     let f = found_in b id w.modules i e h in
@@ -155,7 +155,7 @@ called_in b l m id p w (Some i) e h =
     (changed_in b id r.state w.modules i e ((l.states i.kind f.known).goes_on i.state (call_of m id p w) f.state) h)
 
 -- one call
-call_in : (b : Behaviour) → IsLawful b → (m : Answers) (id : ℕ) (p : Prompt) (w : World) → AllIn b w → AllIn b (in_flow (call_module b m id p w))
+call_in : (b : Behaviour) → IsLawful b → (m : Answers) (id : ℕ) (p : CallReason) (w : World) → AllIn b w → AllIn b (in_flow (call_module b m id p w))
 call_in b l m id p w h = called_in b l m id p w (instance_in id w.modules) refl h
 
 -- ---- setup: no module stands, and then each is placed in its state at first

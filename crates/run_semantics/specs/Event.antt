@@ -1,8 +1,8 @@
 -- One event.
 use Rattle.std.specs.Prelude.{ℕ, ℤ, ◌+◌, ◌==◌, List, [], ◌∷◌, Option, Some, None, if◌then◌else◌}
 use Rattle.module_api.specs.declared.call.Call.{Call}
-use Rattle.module_api.specs.declared.call.Prompt.{Prompt}
-use Rattle.module_api.specs.declared.call.Prompt.TheVariants as prompt
+use Rattle.module_api.specs.declared.call.CallReason.{CallReason}
+use Rattle.module_api.specs.declared.call.CallReason.TheVariants as prompt
 use Rattle.module_api.specs.declared.message.Message.{Message}
 use Rattle.module_api.specs.declared.message.Origin.TheVariants as origin
 use Rattle.module_api.specs.declared.reply.Reply.{Reply}
@@ -22,7 +22,7 @@ use Rattle.run_semantics.specs.Perform.{Flow, On, answered}
 -- ---- calls
 
 -- what a module is told
-abbrev pub call_of : Answers → ℕ → Prompt → World → Call
+abbrev pub call_of : Answers → ℕ → CallReason → World → Call
 call_of m id prompt w = record {
   time = w.clock;
   event = w.count;
@@ -51,21 +51,21 @@ changed id state w = record w { modules = with_state id state w.modules }
 abbrev pub replied : (Reply → World → Flow) → ℕ → Replied → World → Flow
 replied follow id r w = follow r.reply (changed id r.state w)
 
-abbrev pub called : Behaviour → Answers → (Reply → World → Flow) → ℕ → Prompt → World → Option Instance → Flow
+abbrev pub called : Behaviour → Answers → (Reply → World → Flow) → ℕ → CallReason → World → Option Instance → Flow
 called b m follow id prompt w None = On w
 called b m follow id prompt w (Some i) = replied follow id ((b.naming i.kind).reply i.state (call_of m id prompt w)) w
 
 -- a call of the module of that id, and what follows its reply; a call of what isn't there is passed
 -- over
-abbrev pub calling : Behaviour → Answers → (Reply → World → Flow) → ℕ → Prompt → World → Flow
+abbrev pub calling : Behaviour → Answers → (Reply → World → Flow) → ℕ → CallReason → World → Flow
 calling b m follow id prompt w = called b m follow id prompt w (instance_in id w.modules)
 
 -- ONE CALL of the module of that id
-abbrev pub call_at : Behaviour → Answers → Occasion → ℕ → Prompt → World → Flow
+abbrev pub call_at : Behaviour → Answers → Occasion → ℕ → CallReason → World → Flow
 call_at b m o id prompt w = calling b m (answered b m o id) id prompt w
 
 -- one within an event
-abbrev pub call_module : Behaviour → Answers → ℕ → Prompt → World → Flow
+abbrev pub call_module : Behaviour → Answers → ℕ → CallReason → World → Flow
 call_module b m id prompt w = call_at b m occasion.Event id prompt w
 
 -- ---- events

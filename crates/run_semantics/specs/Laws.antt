@@ -5,7 +5,7 @@ use Rattle.std.specs.List.{filter}
 use Rattle.module_api.specs.Behaviour.{Behaviour}
 use Rattle.model_injections.specs.Injections.{first_undelivered}
 use Rattle.model_questions.specs.Answers.{Answers}
-use Rattle.model_questions.specs.declared.answer.Asked.{Asked}
+use Rattle.model_questions.specs.declared.answer.AskedQuestion.{AskedQuestion}
 use Rattle.event_set.specs.declared.pending.Pending.{Pending}
 use Rattle.run_semantics.specs.declared.traces.Emission.{Emission}
 use Rattle.run_semantics.specs.declared.traces.Instance.{Instance}
@@ -72,12 +72,12 @@ HasEnded m ps w = (ps ≡ []) × (first_undelivered w.delivered m.injections ≡
 -- ---- questions
 
 -- all of these are asked, one after another, and each is noted where it was not noted before
-abbrev pub noted_all : List Asked → List Asked → List Asked
+abbrev pub noted_all : List AskedQuestion → List AskedQuestion → List AskedQuestion
 noted_all [] qs = qs
 noted_all (a ∷ rest) qs = noted_all rest (noted a.event a.question qs)
 
 -- along them the numbers of events do not fall, from this one on
-abbrev pub AreFrom : ℕ → List Asked → Type 0
+abbrev pub AreFrom : ℕ → List AskedQuestion → Type 0
 AreFrom event [] = Unit {0}
 AreFrom event (a ∷ rest) = (event ≤ a.event) × AreFrom a.event rest
 

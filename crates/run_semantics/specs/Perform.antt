@@ -30,12 +30,12 @@ use Rattle.model_questions.specs.declared.answer.Question.TheVariants.{Param, Ga
 use Rattle.model_questions.specs.Answers.{Answers, answer_of}
 use Rattle.model_questions.specs.declared.record.Record.{Record}
 use Rattle.model_questions.specs.Records.{path_of}
-use Rattle.run_semantics.specs.declared.outcome.Fault.{Fault}
-use Rattle.run_semantics.specs.declared.outcome.Fault.TheVariants as fault
+use Rattle.run_semantics.specs.declared.outcome.RunFault.{RunFault}
+use Rattle.run_semantics.specs.declared.outcome.RunFault.TheVariants as fault
 use Rattle.run_semantics.specs.declared.occasions.Occasion.{Occasion}
 use Rattle.run_semantics.specs.declared.occasions.Occasion.TheVariants as occasion
-use Rattle.run_semantics.specs.declared.outcome.Turn.{Turn}
-use Rattle.run_semantics.specs.declared.outcome.Turn.TheVariants.{GoOn, Stop, Break}
+use Rattle.run_semantics.specs.declared.outcome.EventFlow.{EventFlow}
+use Rattle.run_semantics.specs.declared.outcome.EventFlow.TheVariants.{GoOn, Stop, Break}
 use Rattle.event_set.specs.declared.pending.Happening.TheVariants.{Timer}
 use Rattle.event_set.specs.Order.{inserted}
 use Rattle.event_set.specs.Timers.{has_timer, without_timer}
@@ -50,10 +50,10 @@ use Rattle.run_semantics.specs.World.{World, asked}
 pub data Flow : Type 0 where
   On : (world : World) → Flow
   Stopped : (world : World) → Flow
-  Broken : (world : World) (path : List ℕ) (fault : Fault) → Flow
+  Broken : (world : World) (path : List ℕ) (fault : RunFault) → Flow
 
 -- what a turn in code says of the world that it leaves
-abbrev pub flow_of : Turn → World → Flow
+abbrev pub flow_of : EventFlow → World → Flow
 flow_of GoOn w = On w
 flow_of Stop w = Stopped w
 flow_of (Break path f) w = Broken w path f
@@ -75,11 +75,11 @@ abbrev pub asking : Answers → Question → (Answer → World → Flow) → Wor
 asking m q next w = next (answer_of m w.records q) (asked q w)
 
 -- a fault of the module of that id
-abbrev pub broken : ℕ → Fault → World → Flow
+abbrev pub broken : ℕ → RunFault → World → Flow
 broken id f w = Broken w (path_of w.records id) f
 
 -- the fault that a model answers
-abbrev pub model_fault : ModelFault → Fault
+abbrev pub model_fault : ModelFault → RunFault
 model_fault model_fault_kind.UnknownType = fault.UnknownType
 model_fault model_fault_kind.Interface = fault.Interface
 model_fault model_fault_kind.Unassigned = fault.Unassigned
@@ -141,7 +141,7 @@ deed id (SendDirect place message flight) w = On w
 -- ---- sending: the module of that id sends, and its path is told with a fault
 
 -- the fault of a message on its channels
-abbrev pub channel_fault : ChannelFault → Fault
+abbrev pub channel_fault : ChannelFault → RunFault
 channel_fault channel_fault_kind.Busy = fault.Busy
 channel_fault channel_fault_kind.TwoTransmissionChannels = fault.TwoTransmissionChannels
 channel_fault channel_fault_kind.TimeOverflow = fault.TimeOverflow
@@ -246,7 +246,7 @@ abbrev pub ask_all : ℕ → List Read → World → World
 ask_all id [] w = w
 ask_all id (r ∷ rs) w = ask_all id rs (asked (question_of id r) w)
 
-abbrev pub parameter_fault : Answer → Option Fault
+abbrev pub parameter_fault : Answer → Option RunFault
 parameter_fault (answer.Value v) = None
 parameter_fault (answer.Fault path f) = Some (model_fault f)
 parameter_fault (answer.Root name) = Some fault.NoParameter
@@ -257,7 +257,7 @@ parameter_fault (answer.Beyond beyond) = Some fault.NoParameter
 parameter_fault (answer.Injection i) = Some fault.NoParameter
 parameter_fault answer.Absent = Some fault.NoParameter
 
-abbrev pub gate_fault : Answer → Option Fault
+abbrev pub gate_fault : Answer → Option RunFault
 gate_fault (answer.Gate g) = None
 gate_fault (answer.Root name) = Some fault.NoGate
 gate_fault (answer.Inside bs) = Some fault.NoGate
@@ -269,16 +269,16 @@ gate_fault (answer.Injection i) = Some fault.NoGate
 gate_fault answer.Absent = Some fault.NoGate
 
 -- what is wrong with a read, by its answer
-abbrev pub fault_of_read : Read → Answer → Option Fault
+abbrev pub fault_of_read : Read → Answer → Option RunFault
 fault_of_read (read.Parameter name) a = parameter_fault a
 fault_of_read (read.Gate name) a = gate_fault a
 
-abbrev pub first_fault : Option Fault → Option Fault → Option Fault
+abbrev pub first_fault : Option RunFault → Option RunFault → Option RunFault
 first_fault (Some f) other = Some f
 first_fault None other = other
 
 -- the fault of the first read that has one
-abbrev pub read_fault : Answers → List Record → ℕ → List Read → Option Fault
+abbrev pub read_fault : Answers → List Record → ℕ → List Read → Option RunFault
 read_fault m records id [] = None
 read_fault m records id (r ∷ rs) =
     first_fault (fault_of_read r (answer_of m records (question_of id r))) (read_fault m records id rs)
@@ -339,7 +339,7 @@ is_noted occasion.End = false
 abbrev pub ask_noted : Occasion → ℕ → List Read → World → World
 ask_noted o id reads w = if is_noted o then ask_all id reads w else w
 
-abbrev pub unless_fault : ℕ → Option Fault → (World → Flow) → World → Flow
+abbrev pub unless_fault : ℕ → Option RunFault → (World → Flow) → World → Flow
 unless_fault id (Some f) go w = broken id f w
 unless_fault id None go w = go w
 

@@ -9,7 +9,7 @@ use Rattle.module_api.specs.declared.reply.Action.TheVariants.{Send, SendDelayed
 use Rattle.module_api.specs.Behaviour.{Behaviour}
 use Rattle.model_questions.specs.declared.answer.Answer.{Answer}
 use Rattle.model_questions.specs.declared.answer.Answer.TheVariants as answer
-use Rattle.model_questions.specs.declared.answer.Asked.{Asked}
+use Rattle.model_questions.specs.declared.answer.AskedQuestion.{AskedQuestion}
 use Rattle.model_questions.specs.declared.answer.Channel.{Channel}
 use Rattle.model_questions.specs.declared.answer.ChannelKind.TheVariants.{Ideal, Delay, Datarate}
 use Rattle.model_questions.specs.declared.answer.Neighbour.TheVariants.{Beside, Inside}
@@ -19,8 +19,8 @@ use Rattle.model_questions.specs.declared.record.Record.{Record}
 use Rattle.model_questions.specs.Answers.{Answers}
 use Rattle.model_questions.specs.Records.{path_along}
 use Rattle.run_semantics.specs.declared.occasions.Occasion.TheVariants as occasion
-use Rattle.run_semantics.specs.declared.outcome.Fault.{Fault}
-use Rattle.run_semantics.specs.declared.outcome.Fault.TheVariants as fault
+use Rattle.run_semantics.specs.declared.outcome.RunFault.{RunFault}
+use Rattle.run_semantics.specs.declared.outcome.RunFault.TheVariants as fault
 use Rattle.run_semantics.specs.declared.routes.Transmission.{Transmission}
 use Rattle.run_semantics.specs.Perform.{Flow, On, Broken, act, chain, perform}
 use Rattle.run_semantics.specs.Example.{made}
@@ -73,7 +73,7 @@ linked channel taken = record {
 abbrev pub at_event : ℕ → List Transmission → World
 at_event clock ts = record empty { clock = clock; count = 1; records = sending_records; next = 7; transmissions = ts }
 
-abbrev pub through : List Question → List Asked
+abbrev pub through : List Question → List AskedQuestion
 through [] = []
 through (q ∷ qs) = record { event = 1; question = q } ∷ through qs
 
@@ -103,7 +103,7 @@ send index bits = Send (record { name = codes "out"; index = index }) (with_bits
 abbrev pub direct : List ℕ → ℕ → ℕ → Action
 direct path delay duration = SendDirect (record { path = path; name = codes "in"; index = 0 }) (with_bits 8) (record { delay = delay; duration = duration })
 
-abbrev pub told : Fault → World → Flow
+abbrev pub told : RunFault → World → Flow
 told f w = Broken w (codes "N.s") f
 
 -- ---- what becomes of it

@@ -1,9 +1,9 @@
 -- What a run is at a moment.
 use Rattle.std.specs.Prelude.{ℕ, ◌+◌, ◌-◌, ◌*◌, ◌^◌, ◌≤◌, Bool, false, List, [], ◌∷◌, ◌++◌, length, Option, None, if◌then◌else◌}
 use Rattle.std.specs.List.{list_any}
-use Rattle.model_questions.specs.declared.answer.Asked.{Asked}
+use Rattle.model_questions.specs.declared.answer.AskedQuestion.{AskedQuestion}
 use Rattle.model_questions.specs.declared.answer.Question.{Question}
-use Rattle.model_injections.specs.declared.injection.Turn.{Turn}
+use Rattle.model_injections.specs.declared.injection.InjectionTurn.{InjectionTurn}
 use Rattle.model_questions.specs.declared.record.Record.{Record}
 use Rattle.model_questions.specs.Questions.{same_question}
 use Rattle.event_set.specs.declared.pending.Pending.{Pending}
@@ -31,11 +31,11 @@ pub record World : Type 0 where
   pub pending : List Pending
   pub next : ℕ
   pub ended : Bool
-  pub delivered : Option Turn
+  pub delivered : Option InjectionTurn
   pub transmissions : List Transmission
   pub emissions : List Emission
   pub scalars : List Scalar
-  pub questions : List Asked
+  pub questions : List AskedQuestion
 
 -- nothing stands, and nothing happened
 abbrev pub empty : World
@@ -66,12 +66,12 @@ abbrev pub live_count : World → ℕ
 live_count w = length w.records - length w.dead
 
 -- whether a question was asked before
-abbrev pub is_asked : Question → List Asked → Bool
-is_asked q qs = list_any (λ (a : Asked). same_question q a.question) qs
+abbrev pub is_asked : Question → List AskedQuestion → Bool
+is_asked q qs = list_any (λ (a : AskedQuestion). same_question q a.question) qs
 
 -- with a question of that event: one that was asked before is not noted again, as nothing new rests
 -- on it
-abbrev pub noted : ℕ → Question → List Asked → List Asked
+abbrev pub noted : ℕ → Question → List AskedQuestion → List AskedQuestion
 noted event q qs = if is_asked q qs then qs else qs ++ record { event = event; question = q } ∷ []
 
 -- A QUESTION is asked in the event that is executed

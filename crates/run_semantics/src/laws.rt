@@ -5,7 +5,7 @@ ghost use Rattle.module_api.specs.Behaviour.{Behaviour};
 ghost use Rattle.module_api.specs.Laws.{IsLawful};
 ghost use Rattle.model_questions.specs.Answers.{Answers, answer_of};
 ghost use Rattle.run_semantics.specs.declared.outcome.Outcome.{Outcome};
-ghost use Rattle.model_questions.specs.declared.answer.Asked.{Asked};
+ghost use Rattle.model_questions.specs.declared.answer.AskedQuestion.{AskedQuestion};
 ghost use Rattle.model_questions.specs.declared.record.Record.{Record};
 ghost use Rattle.run_semantics.specs.Agreement.{Agrees, AgreesUpTo, questions_of};
 ghost use Rattle.run_semantics.specs.Ending.{ending};
@@ -208,7 +208,7 @@ pub fn nothing_comes_where_nothing_is_left()
 /// where they agree on the plain list of all that was asked, event by event.
 #[tactic(auto, using(crate::proofs::Once::once_agrees))]
 pub fn noting_once_is_enough()
-    ensures { (m n : Answers) (records : List Record) (v : ℕ) (plain : List Asked) → AreFrom 0 plain
+    ensures { (m n : Answers) (records : List Record) (v : ℕ) (plain : List AskedQuestion) → AreFrom 0 plain
         → AgreesUpTo v m n records (noted_all plain []) ↔ AgreesUpTo v m n records plain }
 {}
 

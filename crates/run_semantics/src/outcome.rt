@@ -11,7 +11,7 @@ use std::alloc::{AllocError, Global};
 
 /// Why a run can't go on.
 #[derive(Drop)]
-pub enum Fault {
+pub enum RunFault {
     /// A submodule's type isn't declared.
     UnknownType,
     /// The type that was chosen for a submodule doesn't keep the interface that it has to keep.
@@ -92,87 +92,87 @@ pub enum Outcome {
     /// The next event is later than the option sim-time-limit allows.
     TimeLimit,
     /// The event of that number had a fault, told with a module's path.
-    Fault(u64, Text, Fault),
+    Fault(u64, Text, RunFault),
 }
 
 /// Whether an event goes on.
 #[derive(Drop)]
-pub enum Turn {
+pub enum EventFlow {
     GoOn,
     /// The rest of the event is discarded.
     Stop,
     /// The run is over, with a fault told with that path.
-    Break(Text, Fault),
+    Break(Text, RunFault),
 }
 
 /// The fault that a model answers.
-pub fn fault_of(fault: ModelFault) -> Fault
+pub fn fault_of(fault: ModelFault) -> RunFault
     ensures { result ≡ model_fault fault }
 {
     match fault {
-        ModelFault::UnknownType => Fault::UnknownType,
-        ModelFault::Interface => Fault::Interface,
-        ModelFault::Unassigned => Fault::Unassigned,
-        ModelFault::Circle => Fault::Circle,
-        ModelFault::Overflow => Fault::Overflow,
-        ModelFault::Inexact => Fault::Inexact,
-        ModelFault::Mismatch => Fault::Mismatch,
-        ModelFault::GateSize => Fault::GateSize,
-        ModelFault::NoGate => Fault::NoGate,
-        ModelFault::AlreadyConnected => Fault::AlreadyConnected,
-        ModelFault::Unconnected => Fault::Unconnected,
-        ModelFault::TooManyTurns => Fault::TooManyTurns,
-        ModelFault::TooManyModules => Fault::TooManyModules,
-        ModelFault::TooDeep => Fault::TooDeep,
+        ModelFault::UnknownType => RunFault::UnknownType,
+        ModelFault::Interface => RunFault::Interface,
+        ModelFault::Unassigned => RunFault::Unassigned,
+        ModelFault::Circle => RunFault::Circle,
+        ModelFault::Overflow => RunFault::Overflow,
+        ModelFault::Inexact => RunFault::Inexact,
+        ModelFault::Mismatch => RunFault::Mismatch,
+        ModelFault::GateSize => RunFault::GateSize,
+        ModelFault::NoGate => RunFault::NoGate,
+        ModelFault::AlreadyConnected => RunFault::AlreadyConnected,
+        ModelFault::Unconnected => RunFault::Unconnected,
+        ModelFault::TooManyTurns => RunFault::TooManyTurns,
+        ModelFault::TooManyModules => RunFault::TooManyModules,
+        ModelFault::TooDeep => RunFault::TooDeep,
     }
 }
 
 /// The fault of a message on its channels.
-pub fn fault_on_way(fault: ChannelFault) -> Fault
+pub fn fault_on_way(fault: ChannelFault) -> RunFault
     ensures { result ≡ channel_fault fault }
 {
     match fault {
-        ChannelFault::Busy => Fault::Busy,
-        ChannelFault::TwoTransmissionChannels => Fault::TwoTransmissionChannels,
-        ChannelFault::TimeOverflow => Fault::TimeOverflow,
+        ChannelFault::Busy => RunFault::Busy,
+        ChannelFault::TwoTransmissionChannels => RunFault::TwoTransmissionChannels,
+        ChannelFault::TimeOverflow => RunFault::TimeOverflow,
     }
 }
 
-impl Fault {
+impl RunFault {
     /// An equal fault.
-    pub fn copy(&self, alloc: Global) -> Result<Fault, AllocError>
+    pub fn copy(&self, alloc: Global) -> Result<RunFault, AllocError>
         ensures { IfOk result (λ fault. fault ≡ self.now) }
     {
         Ok(match self {
-            Fault::UnknownType => Fault::UnknownType,
-            Fault::Interface => Fault::Interface,
-            Fault::Unassigned => Fault::Unassigned,
-            Fault::Circle => Fault::Circle,
-            Fault::Overflow => Fault::Overflow,
-            Fault::Inexact => Fault::Inexact,
-            Fault::Mismatch => Fault::Mismatch,
-            Fault::GateSize => Fault::GateSize,
-            Fault::AlreadyConnected => Fault::AlreadyConnected,
-            Fault::Unconnected => Fault::Unconnected,
-            Fault::TooManyTurns => Fault::TooManyTurns,
-            Fault::TooManyModules => Fault::TooManyModules,
-            Fault::TooDeep => Fault::TooDeep,
-            Fault::UnknownClass => Fault::UnknownClass,
-            Fault::NoParameter => Fault::NoParameter,
-            Fault::NoGate => Fault::NoGate,
-            Fault::TooManyActions => Fault::TooManyActions,
-            Fault::NotInFinish => Fault::NotInFinish,
-            Fault::BadName => Fault::BadName,
-            Fault::TimeOverflow => Fault::TimeOverflow,
-            Fault::NotConnected => Fault::NotConnected,
-            Fault::TooManyHops => Fault::TooManyHops,
-            Fault::TwoTransmissionChannels => Fault::TwoTransmissionChannels,
-            Fault::Busy => Fault::Busy,
-            Fault::NoModule => Fault::NoModule,
-            Fault::PayloadTooLarge => Fault::PayloadTooLarge,
-            Fault::Past => Fault::Past,
-            Fault::AlreadyScheduled => Fault::AlreadyScheduled,
-            Fault::ModuleFailed(text) => Fault::ModuleFailed(text.copy(alloc)?),
+            RunFault::UnknownType => RunFault::UnknownType,
+            RunFault::Interface => RunFault::Interface,
+            RunFault::Unassigned => RunFault::Unassigned,
+            RunFault::Circle => RunFault::Circle,
+            RunFault::Overflow => RunFault::Overflow,
+            RunFault::Inexact => RunFault::Inexact,
+            RunFault::Mismatch => RunFault::Mismatch,
+            RunFault::GateSize => RunFault::GateSize,
+            RunFault::AlreadyConnected => RunFault::AlreadyConnected,
+            RunFault::Unconnected => RunFault::Unconnected,
+            RunFault::TooManyTurns => RunFault::TooManyTurns,
+            RunFault::TooManyModules => RunFault::TooManyModules,
+            RunFault::TooDeep => RunFault::TooDeep,
+            RunFault::UnknownClass => RunFault::UnknownClass,
+            RunFault::NoParameter => RunFault::NoParameter,
+            RunFault::NoGate => RunFault::NoGate,
+            RunFault::TooManyActions => RunFault::TooManyActions,
+            RunFault::NotInFinish => RunFault::NotInFinish,
+            RunFault::BadName => RunFault::BadName,
+            RunFault::TimeOverflow => RunFault::TimeOverflow,
+            RunFault::NotConnected => RunFault::NotConnected,
+            RunFault::TooManyHops => RunFault::TooManyHops,
+            RunFault::TwoTransmissionChannels => RunFault::TwoTransmissionChannels,
+            RunFault::Busy => RunFault::Busy,
+            RunFault::NoModule => RunFault::NoModule,
+            RunFault::PayloadTooLarge => RunFault::PayloadTooLarge,
+            RunFault::Past => RunFault::Past,
+            RunFault::AlreadyScheduled => RunFault::AlreadyScheduled,
+            RunFault::ModuleFailed(text) => RunFault::ModuleFailed(text.copy(alloc)?),
         })
     }
 }

@@ -6,13 +6,13 @@ use crate::own::{Own, own_of};
 use crate::refused::{why_refused_command, why_refused_edit};
 use crate::texts::SessionTexts;
 use crate::undoing::{Messages, Undo, undo_of, undo_of_ned};
-use desk_client::told::Told;
+use desk_client::told::AnswerContent;
 use desk_commands::commands::{Command, command_of};
 use explain_files::messages::discarded_line;
 use explain_files::runs::fault_line;
 use explain_types::sources::Sources;
 use model_edits::edit::{Edit, Refusal};
-use run_semantics::outcome::{Fault, Outcome};
+use run_semantics::outcome::{Outcome, RunFault};
 use sim_values::NoMemory;
 use sim_values::text::Text;
 use std::alloc::{AllocError, Global};
@@ -270,7 +270,7 @@ impl Notes {
         alloc: Global,
         sources: &Sources<'_>,
         path: &[u8],
-        fault: &Fault,
+        fault: &RunFault,
         classes: &[&[u8]],
     ) -> Result<String, NoMemory> {
         match &self.texts {
@@ -316,7 +316,11 @@ impl Notes {
 
     /// The program's own command that was asked last, where it is one and the session told that it
     /// knows no such command.
-    pub fn own(&self, alloc: Global, told: Option<&Told>) -> Result<Option<Own>, NoMemory> {
+    pub fn own(
+        &self,
+        alloc: Global,
+        told: Option<&AnswerContent>,
+    ) -> Result<Option<Own>, NoMemory> {
         if !is_no_command(told) {
             return Ok(None);
         }
@@ -327,7 +331,7 @@ impl Notes {
     }
 
     /// Whether a blank line was asked last, and the session told that it is no command.
-    pub fn is_blank(&self, told: Option<&Told>) -> bool {
+    pub fn is_blank(&self, told: Option<&AnswerContent>) -> bool {
         match bytes_in(&self.asked) {
             Some(line) => is_no_command(told) && line.trim_ascii().is_empty(),
             None => false,
@@ -374,27 +378,27 @@ impl Notes {
         &mut self,
         alloc: Global,
         sources: &Sources<'_>,
-        told: Option<&Told>,
+        told: Option<&AnswerContent>,
         classes: &[&[u8]],
     ) -> Result<String, NoMemory> {
         match told {
-            Some(Told::Edited(injection)) => {
+            Some(AnswerContent::Edited(injection)) => {
                 self.follow(alloc, sources, *injection)?;
                 self.why_discarded(alloc, sources)
             }
-            Some(Told::Done(Outcome::Fault(_, path, fault))) => {
+            Some(AnswerContent::Done(Outcome::Fault(_, path, fault))) => {
                 self.why_fault(alloc, sources, path.as_bytes(), fault, classes)
             }
-            Some(Told::Refused(refusal)) => self.why_no_edit(alloc, sources, *refusal),
-            Some(Told::NoCommand) | Some(Told::TooLarge) | Some(Told::NotDone) => {
-                self.why_no_command(alloc)
-            }
+            Some(AnswerContent::Refused(refusal)) => self.why_no_edit(alloc, sources, *refusal),
+            Some(AnswerContent::NoCommand)
+            | Some(AnswerContent::TooLarge)
+            | Some(AnswerContent::NotDone) => { self.why_no_command(alloc) }
             _ => Ok(String::new(alloc)),
         }
     }
 }
 
 /// Whether it is told that a line is no command.
-fn is_no_command(told: Option<&Told>) -> bool {
-    matches!(told, Some(Told::NoCommand))
+fn is_no_command(told: Option<&AnswerContent>) -> bool {
+    matches!(told, Some(AnswerContent::NoCommand))
 }

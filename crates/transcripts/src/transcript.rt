@@ -5,10 +5,10 @@ ghost use Rattle.std.specs.Borrow.{ftrue};
 ghost use Rattle.std.specs.Coded.{coded_list};
 ghost use Rattle.transcripts.specs.Asks.{asked_code};
 ghost use Rattle.transcripts.specs.Heard.{Heard, Answer, Files, OutOfMemory, Read, heard_code};
-ghost use Rattle.transcripts.specs.declared.asked.Asked.{Asked as AskedValue};
-ghost use Rattle.transcripts.specs.declared.asked.Asked.TheVariants as asks;
+ghost use Rattle.transcripts.specs.declared.asked.AskedLine.{AskedLine as AskedValue};
+ghost use Rattle.transcripts.specs.declared.asked.AskedLine.TheVariants as asks;
 
-use input_texts::noted::Noted;
+use input_texts::noted::GhostBytes;
 use sim_values::NoMemory;
 use std::marker::{Model, PhantomData};
 
@@ -56,7 +56,12 @@ impl Transcript {
     {}
 
     /// Both files of a run of the configuration of that name were kept, of these bytes.
-    pub fn hears_files(&mut self, _config: &Noted, _scalars: &Noted, _vectors: &Noted)
+    pub fn hears_files(
+        &mut self,
+        _config: &GhostBytes,
+        _scalars: &GhostBytes,
+        _vectors: &GhostBytes,
+    )
         ensures heard { self.new.heard ≡ self.old.heard
             ++ Files _config.now.bytes _scalars.now.bytes _vectors.now.bytes ∷ [] }
         ensures asked { self.new.asked ≡ self.old.asked }

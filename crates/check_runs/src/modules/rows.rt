@@ -1,6 +1,6 @@
 //! Calls from tables, and replies as texts.
 
-use module_api::call::{Call, Parameter, Prompt};
+use module_api::call::{Call, CallReason, Parameter};
 use module_api::message::{Message, Origin};
 use module_api::name::Name;
 use module_api::reply::{Action, Read, Reply};
@@ -35,7 +35,7 @@ fn parameters_of(alloc: Global, rows: &[Row]) -> Result<Items<Parameter>, AllocE
 }
 
 /// A call with these parameters and no gates.
-pub fn call_of(alloc: Global, rows: &[Row], prompt: Prompt) -> Result<Call, AllocError> {
+pub fn call_of(alloc: Global, rows: &[Row], prompt: CallReason) -> Result<Call, AllocError> {
     let parameters = parameters_of(alloc, rows)?;
     let path = Text::from_str(alloc, "net.tick")?;
     Ok(Call {
@@ -51,8 +51,8 @@ pub fn call_of(alloc: Global, rows: &[Row], prompt: Prompt) -> Result<Call, Allo
 }
 
 /// A message from there.
-pub fn message_from(alloc: Global, origin: Origin) -> Prompt {
-    Prompt::Message(Message {
+pub fn message_from(alloc: Global, origin: Origin) -> CallReason {
+    CallReason::Message(Message {
         kind: 0,
         priority: 0,
         bits: 0,

@@ -2,7 +2,7 @@
 
 ghost use Rattle.std.specs.Prelude.{◌≡◌, [], ◌∷◌, ◌++◌, IfOk, IfSome, OnOk};
 ghost use Rattle.module_api.specs.Meaning.{IsFresh};
-ghost use Rattle.module_api.specs.declared.call.Prompt.{Prompt};
+ghost use Rattle.module_api.specs.declared.call.CallReason.{CallReason};
 ghost use Rattle.check_runs.specs.Clerk.{actions_of, office, office_module, only};
 
 use module_api::call::Call;
@@ -51,7 +51,7 @@ impl Clerk {
     /// What it does where it begins.
     fn begin(&self, alloc: Global) -> Result<Reply, NoMemory>
         ensures { IfOk result (λ reply. reply
-            ≡ record { reads = []; actions = actions_of self.now.is_clerk (Prompt.Initialize 0) }) }
+            ≡ record { reads = []; actions = actions_of self.now.is_clerk (CallReason.Initialize 0) }) }
     {
         let mut reply = nothing(alloc);
         if self.is_clerk {

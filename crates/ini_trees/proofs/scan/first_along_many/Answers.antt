@@ -1,7 +1,7 @@
 use Rattle.std.proofs.Common.{◌≡◌, ℕ, ◌+◌, [], ◌∷◌, List, Option, Some, drop, take, sym, ap, subst, ◌∙◌, Bor}
 use Rattle.std.specs.Option.{option_copied, option_or}
 use Rattle.std.proofs.lemmas.List.{drop_all, drop_more}
-use Rattle.ini_trees.specs.declared.lines.Entry.{Entry}
+use Rattle.ini_trees.specs.declared.lines.IniEntry.{IniEntry}
 use Rattle.ini_trees.specs.declared.lines.IniLine.{IniLine}
 use Rattle.ini_trees.specs.Scans.{first_among, IsWantedAmong}
 use Rattle.ini_trees.specs.Sections.{section_behind}
@@ -25,20 +25,20 @@ loop-line-preserved c =
       | in-Some b ↦
           let e = b.in-Some.entry.now in
           let at = b.in-Some.at in
-          let is = subst (λ (o : Option (ℕ × Bor Entry)). IsWantedAmong w names section l.meaning o) b.in-Some.is c.wanted_among.ensures in
+          let is = subst (λ (o : Option (ℕ × Bor IniEntry)). IsWantedAmong w names section l.meaning o) b.in-Some.is c.wanted_among.ensures in
           let past = among_found w names is.0 l rest e at found is.3 is.4 is.1 in
           let stands : section ≡ Some is.0 = is.2 in
           let step = ap (λ (s : Option Bytes). option_or (first_among w (take at names) (section_behind s l.meaning) rest) (Some e)) stands ∙ sym past ∙ ap (λ (s : Option Bytes). option_or (first_among w names s (l ∷ rest)) found) (sym stands) in
-          ap (λ (o : Option (Bor Entry)). option_or (first_among w c.match-wanted_among.before.now (option_copied c.section_behind-section.result) rest) (option_copied o)) b.found-is
+          ap (λ (o : Option (Bor IniEntry)). option_or (first_among w c.match-wanted_among.before.now (option_copied c.section_behind-section.result) rest) (option_copied o)) b.found-is
           ∙ ap (λ (ns : Bor (List Bytes)). option_or (first_among w ns.now (option_copied c.section_behind-section.result) rest) (Some e)) b.before-is
           ∙ ap (λ (s : Option Bytes). option_or (first_among w (take at names) s rest) (Some e)) c.section_behind-section.ensures
           ∙ step ∙ here
       | in_default b ↦
-          let none = subst (λ (o : Option (ℕ × Bor Entry)). IsWantedAmong w names section l.meaning o) b.in_default.is c.wanted_among.ensures in
-          ap (λ (o : Option (Bor Entry)). option_or (first_among w c.match-wanted_among.before.now (option_copied c.section_behind-section.result) rest) (option_copied o)) b.found-is
+          let none = subst (λ (o : Option (ℕ × Bor IniEntry)). IsWantedAmong w names section l.meaning o) b.in_default.is c.wanted_among.ensures in
+          ap (λ (o : Option (Bor IniEntry)). option_or (first_among w c.match-wanted_among.before.now (option_copied c.section_behind-section.result) rest) (option_copied o)) b.found-is
           ∙ ap (λ (ns : Bor (List Bytes)). option_or (first_among w ns.now (option_copied c.section_behind-section.result) rest) found) b.before-is
           ∙ ap (λ (s : Option Bytes). option_or (first_among w names s rest) found) c.section_behind-section.ensures
-          ∙ ap (λ (o : Option Entry). option_or o found) (sym (among_past w names section l rest none)) ∙ here
+          ∙ ap (λ (o : Option IniEntry). option_or o found) (sym (among_past w names section l rest none)) ∙ here
     ]
 
 pub returns : goal.returns

@@ -7,7 +7,7 @@ use Rattle.inside_run.proofs.asker.body_around.Goals as goal
 
 pub returns-clause-costs : goal.returns-clause-costs
 returns-clause-costs g c =
-    let s = g.S.Scene.setting c.args.scene.now in
+    let s = g.S.ModuleSource.setting c.args.scene.now in
     let found = c.submodule_in-submodule.ensures in
     costs_more s c.with_body.result _ _
     (most_of (λ u. body_weight s c.args.site.now c.args.what.now c.args.declared.now (body_by (submodule_named c.args.name.now u.submodules))) s.types c.in_ok-number.number c.in_ok-number.around.now c.in_ok-number.ensures.there)

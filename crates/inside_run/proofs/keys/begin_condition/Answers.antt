@@ -7,6 +7,6 @@ use Rattle.inside_run.proofs.keys.begin_condition.Goals as goal
 
 pub returns-clause-costs : goal.returns-clause-costs
 returns-clause-costs g c =
-    let s = g.S.Scene.setting c.args.scene.now in
+    let s = g.S.ModuleSource.setting c.args.scene.now in
     let same : maybe_posed c.in_ok-posed.posed ≡ condition_posed s c.args.site.now c.args.declared.now c.args.name.now = search rules in
     costs_as s c.begin_posed.result _ _ (ap posed_weight same) (c.begin_posed.ensures.costs s)

@@ -13,10 +13,10 @@ use Rattle.inside_run.proofs.placed.placed.Given as goal
 
 abbrev pub invariant-loop-turn : goal.invariant-loop-turn
 invariant-loop-turn g l = record {
-  same : blame.placed (value_at (g.S.Scene.setting l.scene)) l.site (option_copied l.around) (came_to (goes_on (g.S.Scene.setting l.progress.scene.now) l.progress.progress) l.turn)
-      ≡ blame.placed (value_at (g.S.Scene.setting l.scene)) l.site (option_copied l.around) (asking_of (g.S.Scene.setting l.scene) (key l.site of.Inside));
-  kept : IsKept (rules_of (g.S.Scene.setting l.scene)) l.table.entries;
+  same : blame.placed (value_at (g.S.ModuleSource.setting l.scene)) l.site (option_copied l.around) (came_to (goes_on (g.S.ModuleSource.setting l.progress.scene.now) l.progress.progress) l.turn)
+      ≡ blame.placed (value_at (g.S.ModuleSource.setting l.scene)) l.site (option_copied l.around) (asking_of (g.S.ModuleSource.setting l.scene) (key l.site of.Inside));
+  kept : IsKept (rules_of (g.S.ModuleSource.setting l.scene)) l.table.entries;
 }
 
 abbrev pub decreases-loop-turn : goal.decreases-loop-turn
-decreases-loop-turn g l = asks l.turn + weight (g.S.Scene.setting l.progress.scene.now) l.progress.progress
+decreases-loop-turn g l = asks l.turn + weight (g.S.ModuleSource.setting l.progress.scene.now) l.progress.progress

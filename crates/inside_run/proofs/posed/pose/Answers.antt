@@ -7,7 +7,7 @@ use Rattle.inside_keys.specs.Values.{kept}
 use Rattle.inside_run.specs.Going.{Moves}
 use Rattle.inside_run.specs.declared.progress.Moved.TheVariants as moved
 use Rattle.inside_run.specs.declared.progress.Posing.{Posing}
-use Rattle.inside_run.specs.declared.progress.Progress.TheVariants as waits
+use Rattle.inside_run.specs.declared.progress.KeyProgress.TheVariants as waits
 use Rattle.inside_run.proofs.Moves.{costs_more, reached_key, reached_value}
 use Rattle.inside_run.proofs.posed.pose.Goals as goal
 

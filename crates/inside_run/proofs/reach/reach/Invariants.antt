@@ -2,13 +2,13 @@
 use Rattle.std.proofs.Common.{◌≡◌, ◌+◌, ◌≤◌}
 use Rattle.sim_values.specs.declared.value.Value.{Value}
 use Rattle.param_eval.specs.Evaluating.{came_to, asks, left}
-use Rattle.inside_keys.specs.Asked.{Asked, valued_then}
+use Rattle.inside_keys.specs.Asked.{KeyAsking, valued_then}
 use Rattle.inside_keys.specs.Places.{meant_under}
 use Rattle.inside_run.proofs.reach.reach.Given as goal
 
 abbrev pub invariant-loop-turn : goal.invariant-loop-turn
 invariant-loop-turn g l = record {
-  same : (next : Value → Asked) → valued_then (meant_under (g.V.Variables.scope l.variables) l.place) (came_to l.evaluation l.turn) next
+  same : (next : Value → KeyAsking) → valued_then (meant_under (g.V.Variables.scope l.variables) l.place) (came_to l.evaluation l.turn) next
       ≡ valued_then (meant_under (g.V.Variables.scope l.variables) l.place) (came_to l.fn.evaluation l.fn.turn) next;
   less : asks l.turn + left l.evaluation ≤ asks l.fn.turn + left l.fn.evaluation;
 }

@@ -6,8 +6,8 @@ use Rattle.inside_run.proofs.types.inner_along.Given as goal
 
 abbrev pub invariant-loop-next : goal.invariant-loop-next
 invariant-loop-next g l =
-    inner_along (g.S.Scene.setting l.scene) l.left (option_copied l.next) l.name
-    ≡ inner_along (g.S.Scene.setting l.scene) (length (g.S.Scene.setting l.scene).types) (Some l.declared) l.name
+    inner_along (g.S.ModuleSource.setting l.scene) l.left (option_copied l.next) l.name
+    ≡ inner_along (g.S.ModuleSource.setting l.scene) (length (g.S.ModuleSource.setting l.scene).types) (Some l.declared) l.name
 
 abbrev pub decreases-loop-next : goal.decreases-loop-next
 decreases-loop-next g l = l.left

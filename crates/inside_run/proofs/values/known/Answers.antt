@@ -8,7 +8,7 @@ use Rattle.inside_run.proofs.values.known.Goals as goal
 
 pub returns-in-Some : goal.returns-in-Some
 returns-in-Some g c =
-    let s = g.S.Scene.setting c.args._scene.now in
+    let s = g.S.ModuleSource.setting c.args._scene.now in
     let es = c.args.table.now.entries in
     let h = c.in-Some.ensures in
     ap said h.there ∙ ap Some (sym

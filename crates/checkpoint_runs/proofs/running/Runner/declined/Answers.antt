@@ -1,5 +1,5 @@
 use Rattle.std.proofs.Common.{◌≡◌, Some, sym, ap, ◌∙◌}
-use Rattle.run_semantics.specs.declared.outcome.Fault.TheVariants.{UnknownClass}
+use Rattle.run_semantics.specs.declared.outcome.RunFault.TheVariants.{UnknownClass}
 use Rattle.run_semantics.specs.declared.outcome.Outcome.TheVariants.{Fault}
 use Rattle.run_semantics.specs.Run.{Over}
 use Rattle.kernel.specs.Kernels.{world_in}

@@ -2,14 +2,14 @@ use Rattle.std.proofs.Common.{◌≡◌, ◌+◌, ◌++◌, length, map, sym, ap
 use Rattle.std.proofs.lemmas.List.{length-map}
 use Rattle.run_semantics.specs.Run.{part_of, standing}
 use Rattle.kernel_boxes.specs.Seats.{instance_of, seat_of}
-use Rattle.kernel.specs.Kernels.{seats_in, world_in}
+use Rattle.kernel.specs.Kernels.{boxes_in, world_in}
 use Rattle.checkpoint_runs.specs.Kept.{waiting_in}
 use Rattle.checkpoint_runs.specs.Running.{parts_in}
 use Rattle.checkpoint_runs.proofs.running.Runner.held.Goals as goal
 
 pub returns : goal.returns
 returns g c =
-    let seats = seats_in (λ b. (g.dyn-1.0.entry b.vtable).1) c.args.self.now.kernel in
+    let seats = boxes_in (λ b. (g.dyn-1.0.entry b.vtable).1) c.args.self.now.kernel in
     let waiting = waiting_in (λ b. (g.dyn-1.0.entry b.vtable).1) c.args.self.now in
     let stand : length (parts_in seats) ≡ length seats = length-map (map instance_of seats) part_of ∙ length-map seats instance_of in
     let wait : length (parts_in waiting) ≡ length waiting = length-map (map instance_of waiting) part_of ∙ length-map waiting instance_of in

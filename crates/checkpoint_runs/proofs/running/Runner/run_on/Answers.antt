@@ -1,7 +1,7 @@
 use Rattle.std.proofs.Common.{◌≡◌, Bool, refl, sym, ap, ◌∙◌, subst}
 use Rattle.checkpoints.specs.Stored.{counts_of}
 use Rattle.kernel_call_views.specs.Tables.{AreShown}
-use Rattle.kernel.specs.Kernels.{seats_in, world_in, ran_in}
+use Rattle.kernel.specs.Kernels.{boxes_in, world_in, ran_in}
 use Rattle.kernel_actions.specs.Positions.{position_of}
 use Rattle.run_semantics.specs.Ending.{ending}
 use Rattle.run_semantics.specs.Run.{is_fault}
@@ -15,7 +15,7 @@ use Rattle.checkpoint_runs.proofs.running.Runner.run_on.Goals as goal
 pub keep_if-requires : goal.keep_if-requires
 keep_if-requires g c =
     let from = c.args.self.now.kernel.core.count in
-    let mid = c.go_on.new.self in
+    let mid = c.run_events.new.self in
     let due : c.is_owed-due.result ≡ is_owed from (is_fault c.in_ok-outcome.outcome) mid.kernel.core.count (counts_of mid.positions.stored) =
     rw (c.count-from.ensures, c.is_fault.ensures, c.ends_at.ensures, c.count-last.ensures) at c.is_owed-due.ensures in
     record {
@@ -25,25 +25,25 @@ keep_if-requires g c =
 
 pub finish-requires-clause-shown : goal.finish-requires-clause-shown
 finish-requires-clause-shown g c =
-    subst (λ K. AreShown g.A.Answers.answers (world_in (λ b. (g.dyn-1.0.entry b.vtable).1) K).records c.go_on.new.shown) (sym c.in_ok-keep_if.ensures.kept) c.in_ok-outcome.ensures.shown
+    subst (λ K. AreShown g.A.Answers.answers (world_in (λ b. (g.dyn-1.0.entry b.vtable).1) K).records c.run_events.new.shown) (sym c.in_ok-keep_if.ensures.kept) c.in_ok-outcome.ensures.shown
 
 pub returns-clause-good : goal.returns-clause-good
 returns-clause-good g c =
     let b = g.C.Catalogue.behaviour in
     let m = g.A.Answers.answers in
     let from = c.args.self.now.kernel.core.count in
-    let mid = c.go_on.new.self in
+    let mid = c.run_events.new.self in
     let w = world_in (λ b. (g.dyn-1.0.entry b.vtable).1) mid.kernel in
     let new = c.keep_if.new.self in
     let due : c.is_owed-due.result ≡ is_owed from (is_fault c.in_ok-outcome.outcome) mid.kernel.core.count (counts_of mid.positions.stored) =
     rw (c.count-from.ensures, c.is_fault.ensures, c.ends_at.ensures, c.count-last.ensures) at c.is_owed-due.ensures in
-    let good : AreGood b m (seats_in (λ b. (g.dyn-1.0.entry b.vtable).1) mid.kernel) w new.positions.stored =
-    good_stored b m (seats_in (λ b. (g.dyn-1.0.entry b.vtable).1) mid.kernel) w c.is_owed-due.result mid.positions new.positions
+    let good : AreGood b m (boxes_in (λ b. (g.dyn-1.0.entry b.vtable).1) mid.kernel) w new.positions.stored =
+    good_stored b m (boxes_in (λ b. (g.dyn-1.0.entry b.vtable).1) mid.kernel) w c.is_owed-due.result mid.positions new.positions
     (λ owed. owed_lasts b m from c.args.self.now.positions mid.positions w c.in_ok-outcome.outcome c.in_ok-outcome.ensures.stored (sym due ∙ owed))
-    c.in_ok-outcome.ensures.ran.room refl c.in_ok-keep_if.ensures.ok c.go_on.ensures.good in
-    good_on b m (seats_in (λ b. (g.dyn-1.0.entry b.vtable).1) new.kernel) (seats_in (λ b. (g.dyn-1.0.entry b.vtable).1) c.finish.new.self) (world_in (λ b. (g.dyn-1.0.entry b.vtable).1) new.kernel) (world_in (λ b. (g.dyn-1.0.entry b.vtable).1) c.finish.new.self)
+    c.in_ok-outcome.ensures.ran.room refl c.in_ok-keep_if.ensures.ok c.run_events.ensures.good in
+    good_on b m (boxes_in (λ b. (g.dyn-1.0.entry b.vtable).1) new.kernel) (boxes_in (λ b. (g.dyn-1.0.entry b.vtable).1) c.finish.new.self) (world_in (λ b. (g.dyn-1.0.entry b.vtable).1) new.kernel) (world_in (λ b. (g.dyn-1.0.entry b.vtable).1) c.finish.new.self)
     new.positions.stored c.finish.ensures.kept c.finish.ensures.grown
-    (subst (λ K. AreGood b m (seats_in (λ b. (g.dyn-1.0.entry b.vtable).1) K) (world_in (λ b. (g.dyn-1.0.entry b.vtable).1) K) new.positions.stored) (sym c.in_ok-keep_if.ensures.kept) good)
+    (subst (λ K. AreGood b m (boxes_in (λ b. (g.dyn-1.0.entry b.vtable).1) K) (world_in (λ b. (g.dyn-1.0.entry b.vtable).1) K) new.positions.stored) (sym c.in_ok-keep_if.ensures.kept) good)
 
 pub returns-clause-ran : goal.returns-clause-ran
 returns-clause-ran g c =
@@ -55,7 +55,7 @@ returns-clause-ran g c =
 pub returns-clause-left : goal.returns-clause-left
 returns-clause-left g c =
     let from = c.args.self.now.kernel.core.count in
-    let mid = c.go_on.new.self in
+    let mid = c.run_events.new.self in
     let w = world_in (λ b. (g.dyn-1.0.entry b.vtable).1) mid.kernel in
     let due : c.is_owed-due.result ≡ is_owed from (is_fault c.in_ok-outcome.outcome) mid.kernel.core.count (counts_of mid.positions.stored) =
     rw (c.count-from.ensures, c.is_fault.ensures, c.ends_at.ensures, c.count-last.ensures) at c.is_owed-due.ensures in
@@ -66,7 +66,7 @@ returns-clause-left g c =
 pub returns-in_err-keep_if-clause-stopped : goal.returns-in_err-keep_if-clause-stopped
 returns-in_err-keep_if-clause-stopped g c =
     let from = c.args.self.now.kernel.core.count in
-    let mid = c.go_on.new.self in
+    let mid = c.run_events.new.self in
     let w = world_in (λ b. (g.dyn-1.0.entry b.vtable).1) mid.kernel in
     let due : c.is_owed-due.result ≡ is_owed from (is_fault c.in_ok-outcome.outcome) mid.kernel.core.count (counts_of mid.positions.stored) =
     rw (c.count-from.ensures, c.is_fault.ensures, c.ends_at.ensures, c.count-last.ensures) at c.is_owed-due.ensures in
@@ -76,7 +76,7 @@ returns-in_err-keep_if-clause-stopped g c =
 pub returns-clause-stopped : goal.returns-clause-stopped
 returns-clause-stopped g c =
     let from = c.args.self.now.kernel.core.count in
-    let mid = c.go_on.new.self in
+    let mid = c.run_events.new.self in
     let w = world_in (λ b. (g.dyn-1.0.entry b.vtable).1) mid.kernel in
     let due : c.is_owed-due.result ≡ is_owed from (is_fault c.in_ok-outcome.outcome) mid.kernel.core.count (counts_of mid.positions.stored) =
     rw (c.count-from.ensures, c.is_fault.ensures, c.ends_at.ensures, c.count-last.ensures) at c.is_owed-due.ensures in

@@ -1,6 +1,6 @@
 use Rattle.std.proofs.Common.{ap, ◌∙◌, rules}
 use Rattle.desk_answers.specs.Turns.{editing_at}
-use Rattle.input_texts.specs.declared.noted.Noted.{Noted}
+use Rattle.input_texts.specs.declared.noted.GhostBytes.{GhostBytes}
 use Rattle.module_stock.specs.Stock.{stock}
 use Rattle.desk_server.specs.Serving.{seen_in}
 use Rattle.desk_server.proofs.Hearing.{misses_files, tells_written}
@@ -15,7 +15,7 @@ returns-in-Ok-keep g c = record {
   comes = tells_written stock (seen_in (λ b. (g.dyn-1.0.entry b.vtable).1) g.K.Client.asked g.K.Client.heard g.K.Client.left c.args.self.now)
       (seen_in (λ b. (g.dyn-1.0.entry b.vtable).1) g.K.Client.asked g.K.Client.heard g.K.Client.left c.hear.new.self) (g.K.Client.heard c.keep.new.self) c.write_both.new.pages.config.bytes _ _ c.hear.result
       (c.hear.ensures.asked ∙ c.in-Ok-keep.ensures.asked) (c.hear.ensures.left ∙ c.in-Ok-keep.ensures.left) (c.hear.ensures.running ∙ c.requires.ready.idle)
-      (ap (editing_at (λ b. (g.dyn-1.0.entry b.vtable).1)) c.hear.ensures.desk) (ap (λ (n : Noted). n.bytes) c.in-Ok.ensures.config ∙ c.requires.config) c.in-Ok.ensures.written c.in-Ok-keep.ensures.heard
+      (ap (editing_at (λ b. (g.dyn-1.0.entry b.vtable).1)) c.hear.ensures.desk) (ap (λ (n : GhostBytes). n.bytes) c.in-Ok.ensures.config ∙ c.requires.config) c.in-Ok.ensures.written c.in-Ok-keep.ensures.heard
       (rw c.as_slice.ensures at c.hear.ensures.heard);
 }
 

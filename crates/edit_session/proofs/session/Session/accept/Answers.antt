@@ -1,10 +1,10 @@
 use Rattle.std.proofs.Common.{◌++◌, option_map, ap, ◌∙◌}
 use Rattle.run_semantics.specs.Run.{standing}
 use Rattle.kernel_boxes.specs.Saved.{seats_held}
-use Rattle.checkpoint_runs.specs.Kept.{boxes_in, waiting_in}
+use Rattle.checkpoint_runs.specs.Kept.{standing_in, waiting_in}
 use Rattle.checkpoint_runs.specs.Running.{parts_in}
 use Rattle.checkpoints.specs.Stored.{counts_in}
-use Rattle.kernel.specs.Kernels.{seats_in, world_in}
+use Rattle.kernel.specs.Kernels.{boxes_in, world_in}
 use Rattle.edit_session.specs.Sessions.{completed_of, editing_of}
 use Rattle.checkpoint_runs.proofs.Counting.{kept_counts}
 use Rattle.edit_session.proofs.Valid.{edited_same, kept_edited}
@@ -15,14 +15,14 @@ returns-clause-sound g c =
     let old = c.args.self.now in
     let new = c.keep_up_to.new.self in
     let kernel = rw c.give_up.ensures at c.keep_up_to.ensures.kernel in
-    rw c.give_up.ensures (kept_edited g.C.Catalogue.behaviour (seats_in (λ b. (g.dyn-1.0.entry b.vtable).1) old.runner.kernel) (seats_in (λ b. (g.dyn-1.0.entry b.vtable).1) new.kernel) (waiting_in (λ b. (g.dyn-1.0.entry b.vtable).1) old.runner) (waiting_in (λ b. (g.dyn-1.0.entry b.vtable).1) new) (world_in (λ b. (g.dyn-1.0.entry b.vtable).1) old.runner.kernel)
+    rw c.give_up.ensures (kept_edited g.C.Catalogue.behaviour (boxes_in (λ b. (g.dyn-1.0.entry b.vtable).1) old.runner.kernel) (boxes_in (λ b. (g.dyn-1.0.entry b.vtable).1) new.kernel) (waiting_in (λ b. (g.dyn-1.0.entry b.vtable).1) old.runner) (waiting_in (λ b. (g.dyn-1.0.entry b.vtable).1) new) (world_in (λ b. (g.dyn-1.0.entry b.vtable).1) old.runner.kernel)
     (world_in (λ b. (g.dyn-1.0.entry b.vtable).1) new.kernel) old.model c.args.change.model old.phase (option_map completed_of old.done) old.known c.args.change.edited.valid_to old.runner.positions new.positions c.requires.sound
-    (ap (λ K. seats_in (λ b. (g.dyn-1.0.entry b.vtable).1) K) kernel) (ap (λ K. world_in (λ b. (g.dyn-1.0.entry b.vtable).1) K) kernel) (rw c.give_up.ensures at c.keep_up_to.ensures.positions)
+    (ap (λ K. boxes_in (λ b. (g.dyn-1.0.entry b.vtable).1) K) kernel) (ap (λ K. world_in (λ b. (g.dyn-1.0.entry b.vtable).1) K) kernel) (rw c.give_up.ensures at c.keep_up_to.ensures.positions)
     c.requires.changed.1.known c.requires.changed.1.good)
 
 pub returns-clause-left : goal.returns-clause-left
 returns-clause-left g c =
-    rw c.give_up.ensures (edited_same (editing_of (λ b. (g.dyn-1.0.entry b.vtable).1) c.args.self.now) c.args.change (boxes_in (λ b. (g.dyn-1.0.entry b.vtable).1) c.keep_up_to.new.self) (counts_in c.keep_up_to.new.self.positions)
+    rw c.give_up.ensures (edited_same (editing_of (λ b. (g.dyn-1.0.entry b.vtable).1) c.args.self.now) c.args.change (standing_in (λ b. (g.dyn-1.0.entry b.vtable).1) c.keep_up_to.new.self) (counts_in c.keep_up_to.new.self.positions)
     (ap (λ K. standing (world_in (λ b. (g.dyn-1.0.entry b.vtable).1) K).modules ++ parts_in (waiting_in (λ b. (g.dyn-1.0.entry b.vtable).1) c.keep_up_to.new.self)) (rw c.give_up.ensures at c.keep_up_to.ensures.kernel)
     ∙ ap (λ t. standing (world_in (λ b. (g.dyn-1.0.entry b.vtable).1) c.args.self.now.runner.kernel).modules ++ parts_in (seats_held (λ b. (g.dyn-1.0.entry b.vtable).1) t)) (rw c.give_up.ensures at c.keep_up_to.ensures.waiting))
     (ap counts_in (rw c.give_up.ensures at c.keep_up_to.ensures.positions) ∙ kept_counts c.args.change.edited.valid_to c.args.self.now.runner.positions))

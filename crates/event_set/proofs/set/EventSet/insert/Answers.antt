@@ -4,7 +4,7 @@ use Rattle.std.proofs.Math.Facts.{to_z-of_z}
 use Rattle.event_set.specs.Events.{Events, scheduled}
 use Rattle.event_set.specs.Order.{Each, inserted}
 use Rattle.event_set.specs.declared.places.Key.{Key}
-use Rattle.event_set.specs.declared.entry.Entry.{Entry}
+use Rattle.event_set.specs.declared.entry.EventEntry.{EventEntry}
 use Rattle.event_set.specs.Keys.{pending_of, list_of, place_at, noted, timer_in, timer_of, IsFree}
 use Rattle.event_set.specs.Timers.{is_pending}
 use Rattle.event_set.proofs.Sets.{free_if, sound_more, sound_undone, list_inserted}
@@ -40,7 +40,7 @@ pub returns-clause-ok : goal.returns-clause-ok
 returns-clause-ok c =
     let es = c.self.inside.events.entries in
     let e = c.in_ok-entry.entry in
-    let listed = ap list_of c.in_default.ensures.entries ∙ list_inserted c.key_of-key.result e es (subst (λ n. Each (λ (x : Key × Entry). x.0.number < n) es) (sym (ap (λ (k : Key). k.number) c.key_of-key.ensures)) c.self.invariant.below) in
+    let listed = ap list_of c.in_default.ensures.entries ∙ list_inserted c.key_of-key.result e es (subst (λ n. Each (λ (x : Key × EventEntry). x.0.number < n) es) (sym (ap (λ (k : Key). k.number) c.key_of-key.ensures)) c.self.invariant.below) in
     let entry : pending_of (c.key_of-key.result, e) ≡ record { time = c.args.time; priority = to_z w16 (of_z w16 c.args.priority); number = c.self.inside.next; id = c.args.id; what = c.args.what } =
     (λ i. record { time = (c.key_of-key.ensures i).time; priority = (c.key_of-key.ensures i).priority; number = (c.key_of-key.ensures i).number; id = c.in_ok-entry.ensures.id i; what = c.in_ok-entry.ensures.what i }) in
     let same : record { list = list_of c.put_entry.new.events.entries; next = c.self.inside.next + 1 } ≡ scheduled c.args.time c.args.priority c.args.id c.args.what (record { list = list_of es; next = c.self.inside.next }) =

@@ -5,7 +5,7 @@ use Rattle.run_semantics.specs.World.{World}
 use Rattle.run_semantics.specs.Perform.{On, answered}
 use Rattle.kernel_boxes.specs.Seats.{seat_of, AreKept}
 use Rattle.kernel.specs.Seats.{world_of, IsCalled}
-use Rattle.kernel.specs.Kernels.{seats_in}
+use Rattle.kernel.specs.Kernels.{boxes_in}
 use Rattle.kernel_actions.specs.Positions.{IsGrownFrom}
 use Rattle.kernel_actions.proofs.Lasting.{growth_is}
 use Rattle.kernel.proofs.Calling.{boxed_grows, ok_step, served_kept, passed_over, called_is}
@@ -13,12 +13,12 @@ use Rattle.kernel.proofs.kernel.Kernel.carry_out.Goals as goal
 
 pub returns-in_default-clause-step : goal.returns-in_default-clause-step
 returns-in_default-clause-step g c =
-    ap (λ core. On (world_of core (seats_in (λ b. (g.dyn-1.0.entry b.vtable).1) c.reply_of.new.self))) c.reply_of.ensures.core
-    ∙ passed_over g.C.Catalogue.behaviour g.A.Answers.answers c.args.occasion c.args.call.now.id c.args.call.now.prompt c.args.self.now.core (seats_in (λ b. (g.dyn-1.0.entry b.vtable).1) c.args.self.now) (seats_in (λ b. (g.dyn-1.0.entry b.vtable).1) c.reply_of.new.self) (rw c.in_default.is at c.reply_of.ensures.served)
+    ap (λ core. On (world_of core (boxes_in (λ b. (g.dyn-1.0.entry b.vtable).1) c.reply_of.new.self))) c.reply_of.ensures.core
+    ∙ passed_over g.C.Catalogue.behaviour g.A.Answers.answers c.args.occasion c.args.call.now.id c.args.call.now.prompt c.args.self.now.core (boxes_in (λ b. (g.dyn-1.0.entry b.vtable).1) c.args.self.now) (boxes_in (λ b. (g.dyn-1.0.entry b.vtable).1) c.reply_of.new.self) (rw c.in_default.is at c.reply_of.ensures.served)
 
 pub returns-in_err-reply-clause-kept : goal.returns-in_err-reply-clause-kept
 returns-in_err-reply-clause-kept g c =
-    served_kept g.C.Catalogue.behaviour c.args.call.now.id (seats_in (λ b. (g.dyn-1.0.entry b.vtable).1) c.args.self.now) (seats_in (λ b. (g.dyn-1.0.entry b.vtable).1) c.reply_of.new.self) _ c.reply_of.result c.reply_of.ensures.served c.requires.callable.kinds
+    served_kept g.C.Catalogue.behaviour c.args.call.now.id (boxes_in (λ b. (g.dyn-1.0.entry b.vtable).1) c.args.self.now) (boxes_in (λ b. (g.dyn-1.0.entry b.vtable).1) c.reply_of.new.self) _ c.reply_of.result c.reply_of.ensures.served c.requires.callable.kinds
 
 pub follow-requires-clause-told : goal.follow-requires-clause-told
 follow-requires-clause-told g c =
@@ -27,24 +27,24 @@ follow-requires-clause-told g c =
 
 pub returns-clause-kept : goal.returns-clause-kept
 returns-clause-kept g c =
-    subst (λ seats. AreKept g.C.Catalogue.behaviour (seats_in (λ b. (g.dyn-1.0.entry b.vtable).1) c.args.self.now) seats) (sym (ap (λ h. map (seat_of (λ b. (g.dyn-1.0.entry b.vtable).1)) h.seats) c.follow.ensures.boxes))
-    (served_kept g.C.Catalogue.behaviour c.args.call.now.id (seats_in (λ b. (g.dyn-1.0.entry b.vtable).1) c.args.self.now) (seats_in (λ b. (g.dyn-1.0.entry b.vtable).1) c.reply_of.new.self) _ c.reply_of.result c.reply_of.ensures.served c.requires.callable.kinds)
+    subst (λ seats. AreKept g.C.Catalogue.behaviour (boxes_in (λ b. (g.dyn-1.0.entry b.vtable).1) c.args.self.now) seats) (sym (ap (λ h. map (seat_of (λ b. (g.dyn-1.0.entry b.vtable).1)) h.seats) c.follow.ensures.boxes))
+    (served_kept g.C.Catalogue.behaviour c.args.call.now.id (boxes_in (λ b. (g.dyn-1.0.entry b.vtable).1) c.args.self.now) (boxes_in (λ b. (g.dyn-1.0.entry b.vtable).1) c.reply_of.new.self) _ c.reply_of.result c.reply_of.ensures.served c.requires.callable.kinds)
 
 pub returns-clause-step : goal.returns-clause-step
 returns-clause-step g c = ok_step c.follow.result c.follow.ensures.step (λ turn step.
-    called_is g.C.Catalogue.behaviour g.A.Answers.answers c.args.occasion c.args.call.now.id c.args.call.now.prompt c.args.self.now.core _ (seats_in (λ b. (g.dyn-1.0.entry b.vtable).1) c.args.self.now) (seats_in (λ b. (g.dyn-1.0.entry b.vtable).1) c.reply_of.new.self)
+    called_is g.C.Catalogue.behaviour g.A.Answers.answers c.args.occasion c.args.call.now.id c.args.call.now.prompt c.args.self.now.core _ (boxes_in (λ b. (g.dyn-1.0.entry b.vtable).1) c.args.self.now) (boxes_in (λ b. (g.dyn-1.0.entry b.vtable).1) c.reply_of.new.self)
     c.in_ok-reply.reply turn c.requires.callable.kinds
-    (subst (λ (k : Call). IsCalled c.args.call.now.id (seats_in (λ b. (g.dyn-1.0.entry b.vtable).1) c.args.self.now) (seats_in (λ b. (g.dyn-1.0.entry b.vtable).1) c.reply_of.new.self) k (Ok c.in_ok-reply.reply)) c.requires.told (rw c.in_ok-reply.was at c.in-Some.ensures.served))
-    (step ∙ ap (λ core. answered g.C.Catalogue.behaviour g.A.Answers.answers c.args.occasion c.args.call.now.id c.in_ok-reply.reply (world_of core (seats_in (λ b. (g.dyn-1.0.entry b.vtable).1) c.reply_of.new.self))) c.reply_of.ensures.core))
+    (subst (λ (k : Call). IsCalled c.args.call.now.id (boxes_in (λ b. (g.dyn-1.0.entry b.vtable).1) c.args.self.now) (boxes_in (λ b. (g.dyn-1.0.entry b.vtable).1) c.reply_of.new.self) k (Ok c.in_ok-reply.reply)) c.requires.told (rw c.in_ok-reply.was at c.in-Some.ensures.served))
+    (step ∙ ap (λ core. answered g.C.Catalogue.behaviour g.A.Answers.answers c.args.occasion c.args.call.now.id c.in_ok-reply.reply (world_of core (boxes_in (λ b. (g.dyn-1.0.entry b.vtable).1) c.reply_of.new.self))) c.reply_of.ensures.core))
 
 pub returns-in_default-clause-grown : goal.returns-in_default-clause-grown
 returns-in_default-clause-grown g c =
-    boxed_grows c.args.self.now.core c.reply_of.new.self.core (seats_in (λ b. (g.dyn-1.0.entry b.vtable).1) c.args.self.now) (seats_in (λ b. (g.dyn-1.0.entry b.vtable).1) c.reply_of.new.self) (growth_is c.args.self.now.core c.reply_of.new.self.core c.reply_of.ensures.core)
+    boxed_grows c.args.self.now.core c.reply_of.new.self.core (boxes_in (λ b. (g.dyn-1.0.entry b.vtable).1) c.args.self.now) (boxes_in (λ b. (g.dyn-1.0.entry b.vtable).1) c.reply_of.new.self) (growth_is c.args.self.now.core c.reply_of.new.self.core c.reply_of.ensures.core)
 
 pub returns-in_err-reply-clause-grown : goal.returns-in_err-reply-clause-grown
 returns-in_err-reply-clause-grown g c =
-    boxed_grows c.args.self.now.core c.reply_of.new.self.core (seats_in (λ b. (g.dyn-1.0.entry b.vtable).1) c.args.self.now) (seats_in (λ b. (g.dyn-1.0.entry b.vtable).1) c.reply_of.new.self) (growth_is c.args.self.now.core c.reply_of.new.self.core c.reply_of.ensures.core)
+    boxed_grows c.args.self.now.core c.reply_of.new.self.core (boxes_in (λ b. (g.dyn-1.0.entry b.vtable).1) c.args.self.now) (boxes_in (λ b. (g.dyn-1.0.entry b.vtable).1) c.reply_of.new.self) (growth_is c.args.self.now.core c.reply_of.new.self.core c.reply_of.ensures.core)
 
 pub returns-clause-grown : goal.returns-clause-grown
 returns-clause-grown g c =
-    boxed_grows c.args.self.now.core c.follow.new.self.core (seats_in (λ b. (g.dyn-1.0.entry b.vtable).1) c.args.self.now) (seats_in (λ b. (g.dyn-1.0.entry b.vtable).1) c.follow.new.self) (subst (λ (w : World). IsGrownFrom w c.follow.new.self.core) c.reply_of.ensures.core c.follow.ensures.grown)
+    boxed_grows c.args.self.now.core c.follow.new.self.core (boxes_in (λ b. (g.dyn-1.0.entry b.vtable).1) c.args.self.now) (boxes_in (λ b. (g.dyn-1.0.entry b.vtable).1) c.follow.new.self) (subst (λ (w : World). IsGrownFrom w c.follow.new.self.core) c.reply_of.ensures.core c.follow.ensures.grown)

@@ -3,10 +3,10 @@ use Rattle.run_semantics.specs.World.{World}
 use Rattle.run_semantics.specs.Perform.{Flow, On, ◌>>=◌, flow_of}
 use Rattle.run_semantics.specs.Ending.{marked}
 use Rattle.run_semantics.specs.declared.occasions.Occasion.TheVariants.{End}
-use Rattle.module_api.specs.declared.call.Prompt.TheVariants.{Finish}
+use Rattle.module_api.specs.declared.call.CallReason.TheVariants.{Finish}
 use Rattle.run_semantics.proofs.Sound.{call_leaves}
 use Rattle.kernel.specs.Seats.{world_of}
-use Rattle.kernel.specs.Kernels.{seats_in, world_in}
+use Rattle.kernel.specs.Kernels.{boxes_in, world_in}
 use Rattle.kernel.proofs.Starting.{stops}
 use Rattle.kernel.proofs.kernel.Kernel.finish_one.Goals as goal
 
@@ -17,7 +17,7 @@ returns-in_ok-mark_finished-in-GoOn-clause-next g c =
 
 pub returns-in_ok-mark_finished-in-GoOn-clause-step : goal.returns-in_ok-mark_finished-in-GoOn-clause-step
 returns-in_ok-mark_finished-in-GoOn-clause-step g c =
-    ap (λ (core : World). On (world_of core (seats_in (λ b. (g.dyn-1.0.entry b.vtable).1) c.call_last.new.self))) c.in_ok-mark_finished-in-GoOn.ensures.marked
+    ap (λ (core : World). On (world_of core (boxes_in (λ b. (g.dyn-1.0.entry b.vtable).1) c.call_last.new.self))) c.in_ok-mark_finished-in-GoOn.ensures.marked
     ∙ ap (λ (fl : Flow). fl >>= marked c.args.id) (rw c.in-GoOn.is at c.in_ok-turn.ensures.step)
 
 pub returns-in_default-clause-next : goal.returns-in_default-clause-next

@@ -2,7 +2,7 @@ use Rattle.std.proofs.Common.{ap, ◌∙◌, arith, map}
 use Rattle.run_semantics.specs.World.{World}
 use Rattle.run_semantics.proofs.Sound.{ask_noted-next}
 use Rattle.kernel_boxes.specs.Seats.{instance_of}
-use Rattle.kernel.specs.Kernels.{seats_in, world_in}
+use Rattle.kernel.specs.Kernels.{boxes_in, world_in}
 use Rattle.kernel.proofs.Calling.{ok_step}
 use Rattle.kernel.proofs.Following.{follow_broken, follow_on}
 use Rattle.kernel.proofs.kernel.Kernel.follow.Goals as goal
@@ -13,10 +13,10 @@ act_few-requires g c =
 
 pub returns-in-Some-clause-step : goal.returns-in-Some-clause-step
 returns-in-Some-clause-step g c = ok_step c.broken.result c.broken.ensures (λ turn step.
-    follow_broken g.C.Catalogue.behaviour g.A.Answers.answers c.args.occasion (map instance_of (seats_in (λ b. (g.dyn-1.0.entry b.vtable).1) c.args.self.now)) c.args.call.now.id c.args.reply.now c.args.self.now.core c.ask_noted.new.self c.in_ok-fault.fault c.in-Some.fault turn c.as_slice-reads.result.now c.as_slice-reads.ensures
+    follow_broken g.C.Catalogue.behaviour g.A.Answers.answers c.args.occasion (map instance_of (boxes_in (λ b. (g.dyn-1.0.entry b.vtable).1) c.args.self.now)) c.args.call.now.id c.args.reply.now c.args.self.now.core c.ask_noted.new.self c.in_ok-fault.fault c.in-Some.fault turn c.as_slice-reads.result.now c.as_slice-reads.ensures
     c.in_ok-fault.ensures c.in-Some.is c.in_ok-ask_noted.ensures.noted step)
 
 pub returns-in-None-clause-step : goal.returns-in-None-clause-step
 returns-in-None-clause-step g c = ok_step c.act_few.result c.act_few.ensures.step (λ turn step.
-    follow_on g.C.Catalogue.behaviour g.A.Answers.answers c.args.occasion (map instance_of (seats_in (λ b. (g.dyn-1.0.entry b.vtable).1) c.args.self.now)) c.args.call.now.id c.args.reply.now c.args.self.now.core c.ask_noted.new.self (world_in (λ b. (g.dyn-1.0.entry b.vtable).1) c.act_few.new.self) c.in_ok-fault.fault turn c.as_slice-reads.result.now c.as_slice.result.now c.as_slice-reads.ensures c.as_slice.ensures
+    follow_on g.C.Catalogue.behaviour g.A.Answers.answers c.args.occasion (map instance_of (boxes_in (λ b. (g.dyn-1.0.entry b.vtable).1) c.args.self.now)) c.args.call.now.id c.args.reply.now c.args.self.now.core c.ask_noted.new.self (world_in (λ b. (g.dyn-1.0.entry b.vtable).1) c.act_few.new.self) c.in_ok-fault.fault turn c.as_slice-reads.result.now c.as_slice.result.now c.as_slice-reads.ensures c.as_slice.ensures
     c.in_ok-fault.ensures c.in-None.is c.in_ok-ask_noted.ensures.noted step)

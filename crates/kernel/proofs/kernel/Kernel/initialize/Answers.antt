@@ -1,4 +1,4 @@
-use Rattle.module_api.specs.declared.call.Prompt.TheVariants.{Initialize}
+use Rattle.module_api.specs.declared.call.CallReason.TheVariants.{Initialize}
 use Rattle.run_semantics.specs.declared.occasions.Occasion.TheVariants.{Event}
 use Rattle.run_semantics.proofs.Sound.{call_leaves}
 use Rattle.kernel.specs.Kernels.{world_in}

@@ -1,6 +1,6 @@
 use Rattle.std.proofs.Common.{refl, sym, ap, ◌∙◌}
 use Rattle.std.proofs.lemmas.List.{drop_all}
-use Rattle.kernel.specs.Kernels.{seats_in, world_in}
+use Rattle.kernel.specs.Kernels.{boxes_in, world_in}
 use Rattle.kernel_boxes.specs.Saved.{with_states}
 use Rattle.kernel_boxes.proofs.Keeping.{still_kept}
 use Rattle.kernel_boxes.proofs.Loading.{next_takes, next_left, modules_loaded}
@@ -19,7 +19,7 @@ load-requires-clause-kinds g c = c.loop-instance.invariant.kept.kinds
 
 pub load-requires-clause-takes : goal.load-requires-clause-takes
 load-requires-clause-takes g c =
-    next_takes g.C.Catalogue.behaviour c.args.self.now.boxes.room c.loop-instance.instance-index c.args.saved.now c.instance-item.result (seats_in (λ b. (g.dyn-1.0.entry b.vtable).1) c.args.self.now) (seats_in (λ b. (g.dyn-1.0.entry b.vtable).1) c.loop-instance.self)
+    next_takes g.C.Catalogue.behaviour c.args.self.now.boxes.room c.loop-instance.instance-index c.args.saved.now c.instance-item.result (boxes_in (λ b. (g.dyn-1.0.entry b.vtable).1) c.args.self.now) (boxes_in (λ b. (g.dyn-1.0.entry b.vtable).1) c.loop-instance.self)
     (seats_rise (λ v. (g.dyn-1.0.entry v.vtable).1.meaning v.value) 0 c.args.self.now.boxes.room c.args.self.now.boxes.seats c.room-ids_rise.ensures.rising) c.requires c.loop-instance.invariant.kept c.loop-instance-test.true c.instance-item.is
 
 pub returns-in_err-load-clause-core : goal.returns-in_err-load-clause-core
@@ -47,5 +47,5 @@ pub returns-clause-ok : goal.returns-clause-ok
 returns-clause-ok g c =
     ap (λ xs. with_states xs (world_in (λ b. (g.dyn-1.0.entry b.vtable).1) c.loop-instance.self).modules) (sym (drop_all c.loop-instance.instance-index c.args.saved.now c.loop-instance-test.false))
     ∙ c.loop-instance.invariant.left
-    ∙ modules_loaded g.C.Catalogue.behaviour c.args.self.now.boxes.room c.args.saved.now (seats_in (λ b. (g.dyn-1.0.entry b.vtable).1) c.args.self.now)
+    ∙ modules_loaded g.C.Catalogue.behaviour c.args.self.now.boxes.room c.args.saved.now (boxes_in (λ b. (g.dyn-1.0.entry b.vtable).1) c.args.self.now)
     (seats_rise (λ v. (g.dyn-1.0.entry v.vtable).1.meaning v.value) 0 c.args.self.now.boxes.room c.args.self.now.boxes.seats c.room-ids_rise.ensures.rising) c.requires

@@ -3,7 +3,7 @@ use Rattle.sim_time.specs.Time.{time_sum}
 use Rattle.module_api.specs.declared.reply.Action.{Action}
 use Rattle.run_semantics.specs.Perform.{perform, sent}
 use Rattle.kernel_boxes.specs.Seats.{instance_of}
-use Rattle.kernel.specs.Kernels.{seats_in, world_in}
+use Rattle.kernel.specs.Kernels.{boxes_in, world_in}
 use Rattle.kernel.proofs.Apart.{deed_is}
 use Rattle.kernel.proofs.Calling.{ok_step}
 use Rattle.kernel.proofs.Sendings.{direct_is, other_is_deed, sent_is}
@@ -14,7 +14,7 @@ pub returns-in-Send-clause-step : goal.returns-in-Send-clause-step
 returns-in-Send-clause-step g c =
     let world = world_in (λ b. (g.dyn-1.0.entry b.vtable).1) c.args.self.now in
     ok_step c.send.result c.send.ensures.flow (λ turn step.
-    sent_is (map instance_of (seats_in (λ b. (g.dyn-1.0.entry b.vtable).1) c.args.self.now)) g.A.Answers.answers c.args.id c.in-Send.gate c.in-Send.message (Some c.clock.result) c.args.self.now.core c.send.new.core turn step
+    sent_is (map instance_of (boxes_in (λ b. (g.dyn-1.0.entry b.vtable).1) c.args.self.now)) g.A.Answers.answers c.args.id c.in-Send.gate c.in-Send.message (Some c.clock.result) c.args.self.now.core c.send.new.core turn step
     ∙ ap (λ (t : ℕ). sent g.A.Answers.answers c.args.id c.in-Send.gate c.in-Send.message (Some t) world) c.clock.ensures
     ∙ ap (λ (a : Action). perform g.C.Catalogue.behaviour g.A.Answers.answers c.args.id a world) (sym c.in-Send.is))
 
@@ -22,7 +22,7 @@ pub returns-in-SendDelayed-clause-step : goal.returns-in-SendDelayed-clause-step
 returns-in-SendDelayed-clause-step g c =
     let world = world_in (λ b. (g.dyn-1.0.entry b.vtable).1) c.args.self.now in
     ok_step c.send-in-SendDelayed.result c.send-in-SendDelayed.ensures.flow (λ turn step.
-    sent_is (map instance_of (seats_in (λ b. (g.dyn-1.0.entry b.vtable).1) c.args.self.now)) g.A.Answers.answers c.args.id c.in-SendDelayed.gate c.in-SendDelayed.message c.ok-departure.result c.args.self.now.core c.send-in-SendDelayed.new.core turn step
+    sent_is (map instance_of (boxes_in (λ b. (g.dyn-1.0.entry b.vtable).1) c.args.self.now)) g.A.Answers.answers c.args.id c.in-SendDelayed.gate c.in-SendDelayed.message c.ok-departure.result c.args.self.now.core c.send-in-SendDelayed.new.core turn step
     ∙ ap (λ (d : Option ℕ). sent g.A.Answers.answers c.args.id c.in-SendDelayed.gate c.in-SendDelayed.message d world)
     (c.ok-departure.ensures.value ∙ c.checked_add.ensures ∙ ap (λ (t : ℕ). time_sum t c.in-SendDelayed.delay) c.clock-in-SendDelayed.ensures)
     ∙ ap (λ (a : Action). perform g.C.Catalogue.behaviour g.A.Answers.answers c.args.id a world) (sym c.in-SendDelayed.is))
@@ -31,7 +31,7 @@ pub returns-in-SendDirect-clause-step : goal.returns-in-SendDirect-clause-step
 returns-in-SendDirect-clause-step g c =
     let world = world_in (λ b. (g.dyn-1.0.entry b.vtable).1) c.args.self.now in
     ok_step c.send_direct.result c.send_direct.ensures.flow (λ turn step.
-    direct_is (map instance_of (seats_in (λ b. (g.dyn-1.0.entry b.vtable).1) c.args.self.now)) g.A.Answers.answers c.args.id c.in-SendDirect.place c.in-SendDirect.message c.in-SendDirect.flight c.args.self.now.core c.send_direct.new.core turn step
+    direct_is (map instance_of (boxes_in (λ b. (g.dyn-1.0.entry b.vtable).1) c.args.self.now)) g.A.Answers.answers c.args.id c.in-SendDirect.place c.in-SendDirect.message c.in-SendDirect.flight c.args.self.now.core c.send_direct.new.core turn step
     ∙ ap (λ (a : Action). perform g.C.Catalogue.behaviour g.A.Answers.answers c.args.id a world) (sym c.in-SendDirect.is))
 
 pub returns-in_default : goal.returns-in_default
@@ -40,7 +40,7 @@ returns-in_default g c =
     record {
       boxes = refl;
       step = ok_step c.deed.result c.deed.ensures.flow (λ turn step.
-          deed_is (map instance_of (seats_in (λ b. (g.dyn-1.0.entry b.vtable).1) c.args.self.now)) c.args.id c.args.action.now c.args.self.now.core c.deed.new.self turn step
+          deed_is (map instance_of (boxes_in (λ b. (g.dyn-1.0.entry b.vtable).1) c.args.self.now)) c.args.id c.args.action.now c.args.self.now.core c.deed.new.self turn step
           ∙ sym (other_is_deed g.C.Catalogue.behaviour g.A.Answers.answers c.args.id c.args.action.now world c.in_default.not-Send c.in_default.not-SendDelayed c.in_default.not-SendDirect));
       grown = deed_left c.deed.result c.args.id c.args.action.now c.args.self.now.core c.deed.new.self c.deed.ensures.flow c.deed.ensures.err;
     }

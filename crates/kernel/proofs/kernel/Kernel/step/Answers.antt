@@ -1,11 +1,11 @@
 use Rattle.std.proofs.Common.{arith, ap, sym, ◌∙◌, map}
-use Rattle.module_api.specs.declared.call.Prompt.TheVariants.{Message}
+use Rattle.module_api.specs.declared.call.CallReason.TheVariants.{Message}
 use Rattle.run_semantics.specs.declared.occasions.Occasion.TheVariants.{Event}
 use Rattle.run_semantics.proofs.Sound.{call_leaves}
 use Rattle.run_semantics.specs.Event.{call_module, message_of}
 use Rattle.run_semantics.specs.Run.{settled}
 use Rattle.kernel_boxes.specs.Seats.{instance_of}
-use Rattle.kernel.specs.Kernels.{seats_in, world_in}
+use Rattle.kernel.specs.Kernels.{boxes_in, world_in}
 use Rattle.kernel.proofs.Apart.{with_modules}
 use Rattle.kernel.proofs.Shown.{shown_grows}
 use Rattle.kernel.proofs.Upcoming.{begins_boxed, begins_counted, next_begins}
@@ -28,7 +28,7 @@ returns-in_ok-turn-in-Ok-clause-step g c =
     let b = g.C.Catalogue.behaviour in
     let m = g.A.Answers.answers in
     let id = c.in-Ok.event.id in
-    let ms = map instance_of (seats_in (λ b. (g.dyn-1.0.entry b.vtable).1) c.args.self.now) in
+    let ms = map instance_of (boxes_in (λ b. (g.dyn-1.0.entry b.vtable).1) c.args.self.now) in
     let before = world_in (λ b. (g.dyn-1.0.entry b.vtable).1) c.args.self.now in
     let begun = with_modules ms c.begin.new.self in
     let begins = begins_boxed m c.args.limit ms c.in_ok-look.next c.args.self.now.core c.begin.new.self c.in_ok-look.look c.in-Ok.event c.in_ok-look.ensures (rw c.in-Ok.is at c.in_ok-event.ensures.begins) in

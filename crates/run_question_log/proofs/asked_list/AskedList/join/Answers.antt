@@ -1,6 +1,6 @@
 use Rattle.std.proofs.Common.{◌≡◌, ◌-◌, List, ◌∷◌, [], ◌++◌, length, set, sym, ap, ◌∙◌, arith}
 use Rattle.std.specs.List.{slice_get}
-use Rattle.run_question_log.specs.declared.entry.Entry.{Entry}
+use Rattle.run_question_log.specs.declared.entry.LogEntry.{LogEntry}
 use Rattle.run_question_log.specs.Entries.{noted_in}
 use Rattle.run_question_log.proofs.Noted.{twice_at_most, noted_joined, counted_more}
 use Rattle.run_question_log.proofs.asked_list.AskedList.join.Goals as goal
@@ -16,7 +16,7 @@ joined c =
     let entries = c.self.inside.entries in
     let place : c.len-place.result - 1 ≡ length entries.items - 1 = ap (λ n. n - 1) (c.len-place.ensures ∙ entries.ok.0) in
     noted_joined _ c.in-Some.last.now c.in-Some-joined.both entries.items (c.len-place.result - 1) place
-    (ap (slice_get entries.items) place ∙ sym (c.in-Some.ensures.value ∙ ap (λ (es : List Entry). slice_get es (length es - 1)) c.deref.ensures.value))
+    (ap (slice_get entries.items) place ∙ sym (c.in-Some.ensures.value ∙ ap (λ (es : List LogEntry). slice_get es (length es - 1)) c.deref.ensures.value))
     c.in-Some-joined.ensures
 
 pub invariant_of-self : goal.invariant_of-self

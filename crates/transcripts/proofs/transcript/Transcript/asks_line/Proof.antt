@@ -1,6 +1,6 @@
 -- An empty body. The borrow is opened and closed at another ghost value.
 use Rattle.transcripts.proofs.Steps.{[], ◌∷◌, ◌++◌, refl, proved, id⊢, ftrue, flft, named, vunit, ‵, ◌⊛◌, ◌$◌, ◌∵◌, !, qed, done, move, keep, use1, split, join, fsplit3, feq_i, suffices, frame, group, enter, of_opd, unit_lit, returns, alloc_all, pass_all, free_all, look_at, sets, u8, yes, owns, MutRef, mut_vals, mut_Tells, plain, ShrSlice, shr_slice_vals, shr_slice_Tells, opens, closes, Stays, walk_of, stay_ref, Goes-ref, stay_none_slice, Goes-none_slice, ends_at, says_both}
-use Rattle.transcripts.specs.declared.asked.Asked.TheVariants.{Line}
+use Rattle.transcripts.specs.declared.asked.AskedLine.TheVariants.{Line}
 use Rattle.transcripts.specs.declared.transcript.Transcript.{Transcript}
 use Rattle.transcripts.specs.contracts.transcript.Transcript.{the_row as R}
 use Rattle.transcripts.specs.contracts.transcript.Transcript.asks_line as f

@@ -1,6 +1,6 @@
 -- An empty body. The borrow is opened and closed at another ghost value.
 use Rattle.transcripts.proofs.Steps.{[], ◌∷◌, ◌++◌, refl, proved, id⊢, ftrue, flft, named, vunit, ‵, ◌⊛◌, ◌$◌, ◌∵◌, !, qed, done, move, keep, use1, split, join, fsplit3, feq_i, suffices, frame, group, enter, of_opd, unit_lit, returns, alloc_all, pass_all, free_all, look_at, sets, MutRef, mut_vals, mut_Tells, plain, opens, closes, Stays, walk_of, says_both, stay_ref, Goes-ref, ends_at}
-use Rattle.transcripts.specs.declared.asked.Asked.TheVariants.{TooLong}
+use Rattle.transcripts.specs.declared.asked.AskedLine.TheVariants.{TooLong}
 use Rattle.transcripts.specs.declared.transcript.Transcript.{Transcript}
 use Rattle.transcripts.specs.contracts.transcript.Transcript.{the_row as R}
 use Rattle.transcripts.specs.contracts.transcript.Transcript.asks_too_long as f

@@ -21,17 +21,17 @@ use denote.Triple.Entry.{on_entry}
 use denote.Triple.Spec.{Meets, triple_of}
 use denote.Triple.Table.{entered}
 use denote.Triple.Walked.{says, ends_at, walked, walk_Meets}
-use Rattle.input_texts.specs.declared.noted.Noted.{Noted}
-use Rattle.input_texts.specs.contracts.noted.Noted as T
-use Rattle.input_texts.specs.contracts.noted.Noted.new.Key.{name as #it}
-use Rattle.input_texts.specs.contracts.noted.Noted.new as it
-use Rattle.input_texts.proofs.noted.Noted.new.Statement as stated
-use Rattle.input_texts.proofs.noted.Noted.new.Code as code
+use Rattle.input_texts.specs.declared.noted.GhostBytes.{GhostBytes}
+use Rattle.input_texts.specs.contracts.noted.GhostBytes as T
+use Rattle.input_texts.specs.contracts.noted.GhostBytes.new.Key.{name as #it}
+use Rattle.input_texts.specs.contracts.noted.GhostBytes.new as it
+use Rattle.input_texts.proofs.noted.GhostBytes.new.Statement as stated
+use Rattle.input_texts.proofs.noted.GhostBytes.new.Code as code
 
 abbrev v : Val
 v = vstruct (vcons (vstruct vnil) vnil)
 
-abbrev r : Noted
+abbrev r : GhostBytes
 r = record { marker = record {}; bytes = [] }
 
 meets : {M : Type 1} {𝓤 : Ura M} (𝓛 : Logic 𝓤) → (at_mem : Memory → SProp 𝓤) (run : Routine → Fun 𝓤) (𝓣 : Tables 𝓤 𝓛.H)

@@ -5,9 +5,9 @@ use Rattle.kernel.specs.Kernels.{world_in}
 use Rattle.run_semantics.specs.Run.{Over, start}
 use Rattle.run_semantics.proofs.Ends.{count_over, run_over}
 use Rattle.checkpoint_runs.proofs.Counting.{begun_start, fault_left, none_stored}
-use Rattle.checkpoint_runs.specs.Kept.{boxes_in, waiting_in}
+use Rattle.checkpoint_runs.specs.Kept.{standing_in, waiting_in}
 use Rattle.checkpoint_runs.proofs.Filling.{over_left, start_is_fault, whole_over}
-use Rattle.checkpoint_runs.proofs.running.Runner.begin.Goals as goal
+use Rattle.checkpoint_runs.proofs.running.Runner.run_from_setup.Goals as goal
 
 pub returns-in-Over-clause-advances : goal.returns-in-Over-clause-advances
 returns-in-Over-clause-advances g c =
@@ -18,7 +18,7 @@ returns-in-Over-clause-advances g c =
     let over : Over w c.in-Over.outcome ≡ start b m = stands.0 in
     let whole = whole_over b m c.args.limit w c.in-Over.outcome over in
     let few = count_over b m w c.in-Over.outcome zero over in
-    let kept = kept_boxes c.args.phase (boxes_in (λ b. (g.dyn-1.0.entry b.vtable).1) c.args.self.now) in
+    let kept = kept_boxes c.args.phase (standing_in (λ b. (g.dyn-1.0.entry b.vtable).1) c.args.self.now) in
     let begins = begun_start c.args.limit c.args.self.now.positions c.requires.none in
     record {
       whole = whole;

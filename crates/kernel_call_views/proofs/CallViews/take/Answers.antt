@@ -2,9 +2,9 @@ use Rattle.std.proofs.Common.{sym, ◌∙◌, subst}
 use Rattle.module_tree.specs.Boxes.{EachBox, Held}
 use Rattle.module_tree.proofs.Each.{each_of, each_without}
 use Rattle.kernel_call_views.specs.Tables.{IsShown}
-use Rattle.kernel_call_views.specs.declared.Shown.{Shown}
+use Rattle.kernel_call_views.specs.declared.CallView.{CallView}
 use Rattle.kernel_call_views.proofs.Showing.{now_shown}
-use Rattle.kernel_call_views.proofs.ShownModules.take.Goals as goal
+use Rattle.kernel_call_views.proofs.CallViews.take.Goals as goal
 
 pub returns-in-Some-clause-found : goal.returns-in-Some-clause-found
 returns-in-Some-clause-found g c =
@@ -13,7 +13,7 @@ returns-in-Some-clause-found g c =
 
 pub returns-in-Some-clause-shown : goal.returns-in-Some-clause-shown
 returns-in-Some-clause-shown g c =
-    subst (λ (h : Held Shown). EachBox (IsShown g.A.Answers.answers c.args.records.now) h.seats) (sym c.take.ensures.rest)
+    subst (λ (h : Held CallView). EachBox (IsShown g.A.Answers.answers c.args.records.now) h.seats) (sym c.take.ensures.rest)
     (each_without (IsShown g.A.Answers.answers c.args.records.now) c.args.id c.args.self.now.entries.seats c.requires)
 
 pub returns-in-Some-clause-lasts : goal.returns-in-Some-clause-lasts
@@ -23,10 +23,10 @@ returns-in-Some-clause-lasts g c = λ t.
 
 pub returns-in_ok-shown-in-None-clause-shown : goal.returns-in_ok-shown-in-None-clause-shown
 returns-in_ok-shown-in-None-clause-shown g c =
-    subst (λ (h : Held Shown). EachBox (IsShown g.A.Answers.answers c.args.records.now) h.seats) (sym c.take.ensures.rest)
+    subst (λ (h : Held CallView). EachBox (IsShown g.A.Answers.answers c.args.records.now) h.seats) (sym c.take.ensures.rest)
     (each_without (IsShown g.A.Answers.answers c.args.records.now) c.args.id c.args.self.now.entries.seats c.requires)
 
 pub returns-in_err-shown-in-None-clause-shown : goal.returns-in_err-shown-in-None-clause-shown
 returns-in_err-shown-in-None-clause-shown g c =
-    subst (λ (h : Held Shown). EachBox (IsShown g.A.Answers.answers c.args.records.now) h.seats) (sym c.take.ensures.rest)
+    subst (λ (h : Held CallView). EachBox (IsShown g.A.Answers.answers c.args.records.now) h.seats) (sym c.take.ensures.rest)
     (each_without (IsShown g.A.Answers.answers c.args.records.now) c.args.id c.args.self.now.entries.seats c.requires)

@@ -5,13 +5,13 @@ use Rattle.run_semantics.specs.Run.{run_to}
 use Rattle.kernel.proofs.Calling.{ok_step}
 use Rattle.checkpoint_runs.specs.Running.{kept_boxes, needed_by, Advances, IsLive}
 use Rattle.kernel_boxes.specs.Saved.{seats_held}
-use Rattle.checkpoint_runs.specs.Kept.{boxes_in, waiting_in, HasBegun, HasLeft}
+use Rattle.checkpoint_runs.specs.Kept.{standing_in, waiting_in, HasBegun, HasLeft}
 use Rattle.checkpoint_runs.proofs.Filling.{ended_left, going_boxes, setup_advances}
 use Rattle.checkpoint_runs.specs.Positions.{CanGoOn, HasStored}
 use Rattle.checkpoint_runs.specs.declared.running.Stood.TheVariants as stood
 use Rattle.checkpoint_runs.proofs.Counting.{back_stored, kept_counts, left_after_start, setup_stored, start_stored}
 use Rattle.checkpoint_runs.proofs.Whole.{whole_count}
-use Rattle.checkpoint_runs.proofs.running.Runner.carry_on_as.Goals as goal
+use Rattle.checkpoint_runs.proofs.running.Runner.advance_as.Goals as goal
 
 -- where the run begins it stands, when there is no memory for its answers
 pub returns-in_err-answers-in-Some-clause-stopped : goal.returns-in_err-answers-in-Some-clause-stopped
@@ -54,7 +54,7 @@ returns-in_ok-outcome-in-Some-clause-advances g c =
     let before = c.go_back.new.self.positions in
     let after = c.run_on.new.self.positions in
     let ran = run_to b m c.args.limit in
-    let kept = kept_boxes c.args.phase (boxes_in (λ b. (g.dyn-1.0.entry b.vtable).1) c.args.self.now) in
+    let kept = kept_boxes c.args.phase (standing_in (λ b. (g.dyn-1.0.entry b.vtable).1) c.args.self.now) in
     let back = rw c.in-Some.is at c.in_ok-start.ensures.back in
     let left : HasLeft c.in-Some.start before after ran = subst (λ n. HasLeft n before after ran) back.1.1 c.in_ok-outcome-in-Some.ensures.left in
     let w = world_in (λ b. (g.dyn-1.0.entry b.vtable).1) c.run_on.new.self.kernel in
@@ -75,12 +75,12 @@ returns-in_ok-outcome-in-Some-clause-advances g c =
 pub returns-in-None-clause-stopped : goal.returns-in-None-clause-stopped
 returns-in-None-clause-stopped g c =
     let back = rw c.in-None.is at c.in_ok-start.ensures.back in
-    setup_stored g.C.Catalogue.behaviour g.M.ModelMarker.answers c.args.limit (counts_in c.args.self.now.positions) (counts_in c.clear.new.self) c.begin.new.self.stood (counts_in c.begin.new.self.positions) (sym back.0)
+    setup_stored g.C.Catalogue.behaviour g.M.ModelMarker.answers c.args.limit (counts_in c.args.self.now.positions) (counts_in c.clear.new.self) c.run_from_setup.new.self.stood (counts_in c.run_from_setup.new.self.positions) (sym back.0)
     (rw back.1 at (ap counts_in c.clear.ensures))
-    c.begin.ensures.stopped
+    c.run_from_setup.ensures.stopped
 
-pub begin-requires-clause-live : goal.begin-requires-clause-live
-begin-requires-clause-live g c =
+pub run_from_setup-requires-clause-live : goal.run_from_setup-requires-clause-live
+run_from_setup-requires-clause-live g c =
     let back = rw c.in-None.is at c.in_ok-start.ensures.back in
     subst (λ r. IsLive g.C.Catalogue.behaviour g.M.ModelMarker.answers (world_in (λ b. (g.dyn-1.0.entry b.vtable).1) r.kernel) (waiting_in (λ b. (g.dyn-1.0.entry b.vtable).1) r) c.args.phase) (sym back.1) c.requires.live
 
@@ -91,9 +91,9 @@ returns-in-None-clause-advances g c =
     let back = rw c.in-None.is at c.in_ok-start.ensures.back in
     let old = counts_in c.args.self.now.positions in
     let cleared = counts_in c.clear.new.self in
-    let w = world_in (λ b. (g.dyn-1.0.entry b.vtable).1) c.begin.new.self.kernel in
-    let xs = waiting_in (λ b. (g.dyn-1.0.entry b.vtable).1) c.begin.new.self in
-    let new = counts_in c.begin.new.self.positions in
-    ok_step c.begin.result c.begin.ensures.advances (λ advance h.
-    setup_advances b m c.args.limit (kept_boxes c.args.phase (boxes_in (λ b. (g.dyn-1.0.entry b.vtable).1) c.args.self.now)) c.args.phase old cleared w xs new advance (sym back.0) (rw back.1 at (ap counts_in c.clear.ensures))
-    (subst (λ r. Advances b m c.args.limit (kept_boxes c.args.phase (boxes_in (λ b. (g.dyn-1.0.entry b.vtable).1) r)) c.args.phase cleared w xs new advance) back.1 h))
+    let w = world_in (λ b. (g.dyn-1.0.entry b.vtable).1) c.run_from_setup.new.self.kernel in
+    let xs = waiting_in (λ b. (g.dyn-1.0.entry b.vtable).1) c.run_from_setup.new.self in
+    let new = counts_in c.run_from_setup.new.self.positions in
+    ok_step c.run_from_setup.result c.run_from_setup.ensures.advances (λ advance h.
+    setup_advances b m c.args.limit (kept_boxes c.args.phase (standing_in (λ b. (g.dyn-1.0.entry b.vtable).1) c.args.self.now)) c.args.phase old cleared w xs new advance (sym back.0) (rw back.1 at (ap counts_in c.clear.ensures))
+    (subst (λ r. Advances b m c.args.limit (kept_boxes c.args.phase (standing_in (λ b. (g.dyn-1.0.entry b.vtable).1) r)) c.args.phase cleared w xs new advance) back.1 h))

@@ -6,7 +6,7 @@ use Rattle.kernel.specs.Kernels.{world_in, HasKinds}
 use Rattle.checkpoint_runs.specs.Kept.{HasGood}
 use Rattle.checkpoint_runs.specs.declared.running.Stood.TheVariants as stood
 use Rattle.checkpoint_runs.proofs.Going.{StoredAt}
-use Rattle.checkpoint_runs.proofs.running.Runner.go_on.Given as goal
+use Rattle.checkpoint_runs.proofs.running.Runner.run_events.Given as goal
 
 -- so many events are executed, and after the positions that there were stand those of the multiples
 abbrev pub invariant-loop-k : goal.invariant-loop-k

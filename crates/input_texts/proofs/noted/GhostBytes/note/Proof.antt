@@ -28,26 +28,26 @@ use denote.Triple.Entry.{on_entry}
 use denote.Triple.Spec.{Meets, triple_of}
 use denote.Triple.Table.{entered}
 use denote.Triple.Walked.{says, Stays, stay_ref, stay_none_slice, walk_of, AllGo, Goes-ref, Goes-none_slice, Walks, ends_at, walked, walk_Meets}
-use Rattle.input_texts.specs.declared.noted.Noted.{Noted}
-use Rattle.input_texts.specs.contracts.noted.Noted as T
-use Rattle.input_texts.specs.contracts.noted.Noted.note.Key.{name as #it}
-use Rattle.input_texts.specs.contracts.noted.Noted.note as it
-use Rattle.input_texts.proofs.noted.Noted.note.Statement as stated
-use Rattle.input_texts.proofs.noted.Noted.note.Code as code
+use Rattle.input_texts.specs.declared.noted.GhostBytes.{GhostBytes}
+use Rattle.input_texts.specs.contracts.noted.GhostBytes as T
+use Rattle.input_texts.specs.contracts.noted.GhostBytes.note.Key.{name as #it}
+use Rattle.input_texts.specs.contracts.noted.GhostBytes.note as it
+use Rattle.input_texts.proofs.noted.GhostBytes.note.Statement as stated
+use Rattle.input_texts.proofs.noted.GhostBytes.note.Code as code
 
 abbrev Arg : Type 0
-Arg = MutBor Noted × (Bor (List ℕ) × Unit {0})
+Arg = MutBor GhostBytes × (Bor (List ℕ) × Unit {0})
 
 abbrev stayed : Stays (it.ended).signature.params (it.ended).kept
 stayed = (stay_ref (0 ∷ []) tt (plain (λ _. T.the_row)), (stay_none_slice (1 ∷ []) tt (plain (λ _. u8)) yes, tt))
 
-module _ {M : Type 1} {𝓤 : Ura M} (𝓛 : Logic 𝓤) (at_mem : Memory → SProp 𝓤) (run : Routine → Fun 𝓤) (κ κ' : Lft) (q q' : Share) (b o : ℕ) (γ : GName) (h : Noted) (s : Bor (List ℕ)) where
+module _ {M : Type 1} {𝓤 : Ura M} (𝓛 : Logic 𝓤) (at_mem : Memory → SProp 𝓤) (run : Routine → Fun 𝓤) (κ κ' : Lft) (q q' : Share) (b o : ℕ) (γ : GName) (h : GhostBytes) (s : Bor (List ℕ)) where
   open 𝓛 use {H, A}
 
   abbrev x : Arg
   x = (record { ref_ptr = (b, o); ghost_name = γ; now = h }, (s, tt))
 
-  abbrev h' : Noted
+  abbrev h' : GhostBytes
   h' = record { marker = h.marker; bytes = h.bytes ++ s.now }
 
   abbrev at : List Val × (List Val × Unit {0})
