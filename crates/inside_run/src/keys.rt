@@ -25,7 +25,6 @@ use inside_keys::sizes::has_vector;
 use inside_parts::fault::{InsideError, InsideFault};
 use inside_parts::gates::gates_of;
 use ned_trees::declarations::{Submodule, TypeDeclaration};
-use ned_types::flat::submodule_named;
 use sim_values::NoMemory;
 use sim_values::text::Text;
 use sim_values::value::Value;
@@ -169,12 +168,15 @@ fn finished_size<'m, S: ModuleSource>(
 }
 
 /// `sizeof`: a gate vector of the module goes before a submodule vector.
-fn size_of<'m>(
+fn size_of<'m, S: ModuleSource>(
     alloc: Global,
+    scene: &S,
     site: Module,
     name: Text,
+    number: usize,
     declared: &TypeDeclaration,
 ) -> Result<Moved<'m>, InsideError>
+    requires { slice_get (S.setting scene.now).types number ≡ Some declared.now }
     ensures moves { (s : ModuleRules) → Moves s result (values.size_of s site name declared.now) }
     ensures costs { (s : ModuleRules) → Costs s 3 result }
 {
@@ -182,7 +184,7 @@ fn size_of<'m>(
         let key = site.key(alloc, What::GateSize(name))?;
         return Ok(Moved::Asks(key, KeyProgress::Same));
     }
-    let submodule = submodule_named(name.as_bytes(), declared.submodules.as_slice());
+    let submodule = submodule_in(scene, number, declared, &name);
     read(alloc, site, Reading::Size, submodule)
 }
 
@@ -258,17 +260,20 @@ fn begin_vector_size<'m, S: ModuleSource>(
 }
 
 /// Begins to read of a submodule, where the type declares it.
-fn begin_reading<'m>(
+fn begin_reading<'m, S: ModuleSource>(
     alloc: Global,
+    scene: &S,
     site: Module,
     reading: Reading,
     name: &Text,
+    number: usize,
     declared: &TypeDeclaration,
 ) -> Result<Moved<'m>, InsideError>
+    requires { slice_get (S.setting scene.now).types number ≡ Some declared.now }
     ensures moves { (s : ModuleRules) → Moves s result (going.read site reading (submodule_named name.now declared.now.submodules)) }
     ensures costs { (s : ModuleRules) → Costs s 3 result }
 {
-    let submodule = submodule_named(name.as_bytes(), declared.submodules.as_slice());
+    let submodule = submodule_in(scene, number, declared, name);
     read(alloc, site, reading, submodule)
 }
 
@@ -294,14 +299,46 @@ pub fn asked_in<'m, S: ModuleSource>(
         What::VectorSize(sub) => begin_vector_size(alloc, scene, &site, &sub, number, declared),
         What::Declared(g) => begin_with_body(alloc, scene, site, What::Declared(g), declared),
         What::GateSize(g) => finished_size(alloc, scene, &site, g),
-        What::Sizeof(g) => size_of(alloc, site, g, declared),
-        What::Exists(sub) => begin_reading(alloc, site, Reading::Exists, &sub, declared),
+        What::Sizeof(g) => size_of(alloc, scene, site, g, number, declared),
+        What::Exists(sub) => begin_reading(
+            alloc,
+            scene,
+            site,
+            Reading::Exists,
+            &sub,
+            number,
+            declared,
+        ),
         What::ExistsAt(sub, index) => {
-            begin_reading(alloc, site, Reading::ExistsAt(index), &sub, declared)
+            begin_reading(
+                alloc,
+                scene,
+                site,
+                Reading::ExistsAt(index),
+                &sub,
+                number,
+                declared,
+            )
         }
-        What::Member(sub, x) => begin_reading(alloc, site, Reading::Member(x), &sub, declared),
+        What::Member(sub, x) => begin_reading(
+            alloc,
+            scene,
+            site,
+            Reading::Member(x),
+            &sub,
+            number,
+            declared,
+        ),
         What::Element(sub, index, x) => {
-            begin_reading(alloc, site, Reading::Element(index, x), &sub, declared)
+            begin_reading(
+                alloc,
+                scene,
+                site,
+                Reading::Element(index, x),
+                &sub,
+                number,
+                declared,
+            )
         }
         What::Channel(channel, x) => begin_channel(alloc, scene, &site, &channel, &x, declared),
         What::Carrier(channel) => begin_carrier(alloc, scene, site, channel, declared),

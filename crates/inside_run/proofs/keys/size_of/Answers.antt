@@ -8,10 +8,9 @@ use Rattle.inside_run.proofs.Moves.{moves_as, size_is}
 use Rattle.inside_run.proofs.keys.size_of.Goals as goal
 
 pub returns-clause-moves : goal.returns-clause-moves
-returns-clause-moves c s =
+returns-clause-moves g c s =
     let m = c.args.site in
-    let found = c.submodule_named-submodule.ensures ∙ ap (λ b. submodule_named b c.as_slice.result.now) c.as_bytes.ensures ∙ ap (submodule_named c.args.name) c.as_slice.ensures in
     moves_as s c.read.result _ _
-    (size_is m _ ∙ ap (vector_size m) found
+    (size_is m _ ∙ ap (vector_size m) c.submodule_in-submodule.ensures
     ∙ ap (λ b. if b then ask_then (key m (what.GateSize c.args.name)) is else vector_size m (submodule_named c.args.name c.args.declared.now.submodules)) (sym c.if-branch.false ∙ c.in_ok-is_gate_vector.ensures))
     (c.read.ensures.moves s)
