@@ -37,7 +37,6 @@ fn tell_row(alloc: Global, told: &mut Telling, file: &str, row: &str) {
         "ned_texts" => ned_rows::tell_text(alloc, told, row),
         "connections" => connection_rows::tell_text(alloc, told, row),
         "ned_models" => ned_rows::tell_model(alloc, told, row),
-        "expressions" => ned_rows::tell_expression(alloc, told, row),
         "trees" => tree_rows::tell_expression(alloc, told, row),
         "values" => value_rows::tell_expression(alloc, told, row),
         "depths" => tree_rows::tell_whether(alloc, told, row),

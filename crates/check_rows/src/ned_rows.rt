@@ -5,7 +5,6 @@ use crate::escapes::unescaped;
 use crate::telling::Telling;
 use crate::tree_rows::tell_tree;
 use crate::words::{tell_names, written};
-use ned_leaves::parse::parse_expression;
 use ned_syntax::parse::parse_ned;
 use ned_trees::declarations::{
     Declaration, GateLine, GateSize, NedFile, NestedType, ParameterValue, SectionLine, Statistic,
@@ -21,15 +20,6 @@ pub fn tell_text(alloc: Global, told: &mut Telling, row: &str) {
     let text = unescaped(alloc, told, row);
     match parse_ned(alloc, text.as_slice()) {
         Ok(_) => told.text("read"),
-        Err(refusal) => told.raw(&refusal),
-    }
-}
-
-/// Tells what an expression without operators is, or why it is none.
-pub fn tell_expression(alloc: Global, told: &mut Telling, row: &str) {
-    let text = unescaped(alloc, told, row);
-    match parse_expression(alloc, text.as_slice()) {
-        Ok(read) => told.raw(&read),
         Err(refusal) => told.raw(&refusal),
     }
 }

@@ -23,8 +23,9 @@ use Rattle.kernel_boxes.specs.Staying.{first_without}
 use Rattle.kernel.proofs.Behind.{parts_rise}
 use Rattle.kernel.proofs.Waiting.{fresh_known, fresh_standing, wanted_next}
 use Rattle.checkpoints.specs.Stored.{begun, Timeline}
-use Rattle.checkpoint_runs.specs.declared.running.Advance.{Advance}
-use Rattle.checkpoint_runs.specs.declared.running.Advance.TheVariants as advance
+use Rattle.checkpoint_runs.specs.declared.running.Ended.{Ended}
+use Rattle.checkpoint_runs.specs.declared.running.RunStatus.{RunStatus}
+use Rattle.checkpoint_runs.specs.declared.running.RunStatus.TheVariants as status
 use Rattle.checkpoint_runs.specs.declared.running.Phase.{Phase}
 use Rattle.checkpoint_runs.specs.declared.running.Phase.TheVariants.{Declined}
 use Rattle.checkpoint_runs.specs.Positions.{cut, start_of}
@@ -383,9 +384,9 @@ going_boxes b m k w all e = (subst (HasBegun b m) (sym e) (begun_after b m k)) a
 -- ---- a run that begins with setup
 
 -- where no position is up to the limit, what a run comes to with none is what it comes to
-pub setup_advances : (b : Behaviour) (m : Answers) (limit : ℕ) (kept : List Part) (phase : Phase) (old cleared : Timeline ℕ) (w : World) (waiting : List BoxAt) (new : Timeline ℕ) (a : Advance) → start_of limit old.stored ≡ None → cleared ≡ begun old.first
+pub setup_advances : (b : Behaviour) (m : Answers) (limit : ℕ) (kept : List Part) (phase : Phase) (old cleared : Timeline ℕ) (w : World) (waiting : List BoxAt) (new : Timeline ℕ) (a : RunStatus Ended) → start_of limit old.stored ≡ None → cleared ≡ begun old.first
     → Advances b m limit kept phase cleared w waiting new a → Advances b m limit kept phase old w waiting new a
-setup_advances b m limit kept phase old cleared w waiting new (advance.Waits request) none is h = record {
+setup_advances b m limit kept phase old cleared w waiting new (status.Waits request) none is h = record {
   filled = h.filled;
   kept_is = h.kept_is;
   undeclined = h.undeclined;
@@ -393,7 +394,7 @@ setup_advances b m limit kept phase old cleared w waiting new (advance.Waits req
   start = none;
   positions = h.positions ∙ ap (cut None) is;
 }
-setup_advances b m limit kept phase old cleared w waiting new (advance.Ends from outcome) none is h =
+setup_advances b m limit kept phase old cleared w waiting new (status.Done ended) none is h =
     let starts : start_of limit cleared.stored ≡ start_of limit old.stored = ap (λ (t : Timeline ℕ). start_of limit t.stored) is ∙ sym none in
     record {
       whole = h.whole;

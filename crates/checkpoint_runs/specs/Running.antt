@@ -12,10 +12,9 @@ use Rattle.kernel_boxes.specs.Seats.{BoxAt, instance_of}
 use Rattle.kernel.specs.Seats.{AreFirst, AreFresh, IsUnstarted, missing_of, missing_part}
 use Rattle.checkpoint_runs.specs.declared.running.Phase.{Phase}
 use Rattle.checkpoint_runs.specs.declared.running.Phase.TheVariants.{Idle, Waiting, Declined}
-use Rattle.checkpoint_runs.specs.declared.running.Advance.{Advance}
-use Rattle.checkpoint_runs.specs.declared.running.Advance.TheVariants as advance
-use Rattle.checkpoint_runs.specs.declared.running.Standing.{Standing}
-use Rattle.checkpoint_runs.specs.declared.running.Standing.TheVariants as stands
+use Rattle.checkpoint_runs.specs.declared.running.Ended.{Ended}
+use Rattle.checkpoint_runs.specs.declared.running.RunStatus.{RunStatus}
+use Rattle.checkpoint_runs.specs.declared.running.RunStatus.TheVariants as status
 use Rattle.checkpoints.specs.Stored.{Timeline}
 use Rattle.checkpoint_runs.specs.Positions.{cut, positions_after, start_of, starts_within}
 
@@ -121,19 +120,19 @@ pub record IsStopped (b : Behaviour) (m : Answers) (limit : ℕ) (ran : Ran) : T
 -- ---- how a run gets on
 
 -- where a run stands that has its boxes, waits for one, or can't begin
-abbrev pub Stands : Behaviour → Answers → List Part → World → List BoxAt → Standing → Type 0
-Stands b m kept w waiting (stands.Over outcome) =
+abbrev pub Stands : Behaviour → Answers → List Part → World → List BoxAt → RunStatus (Option Outcome) → Type 0
+Stands b m kept w waiting (status.Done (Some outcome)) =
     (Over w outcome ≡ start b m) × (w.modules ≡ []) × (parts_in waiting ≡ boxes_of b (prepared m) [])
-Stands b m kept w waiting (stands.Missing request) =
+Stands b m kept w waiting (status.Waits request) =
     IsFilled b m w waiting × (missing_of w (parts_in waiting) ≡ Some request) × (parts_in waiting ≡ kept)
-Stands b m kept w waiting stands.Ready = CanStart b m w waiting
+Stands b m kept w waiting (status.Done None) = CanStart b m w waiting
 
 -- what it waits for is what its model wants after so many boxes; it doesn't go on while there is
 -- such a box
-abbrev pub Wants : Answers → List Part → Phase → Standing → Type 0
-Wants m kept phase (stands.Missing request) = IsUndeclined phase × (wanted_by m kept ≡ Some request)
-Wants m kept phase (stands.Over outcome) = (phase ≡ Declined) ⊎ (wanted_by m kept ≡ None)
-Wants m kept phase stands.Ready = (phase ≡ Declined) ⊎ (wanted_by m kept ≡ None)
+abbrev pub Wants : Answers → List Part → Phase → RunStatus (Option Outcome) → Type 0
+Wants m kept phase (status.Waits request) = IsUndeclined phase × (wanted_by m kept ≡ Some request)
+Wants m kept phase (status.Done (Some outcome)) = (phase ≡ Declined) ⊎ (wanted_by m kept ≡ None)
+Wants m kept phase (status.Done None) = (phase ≡ Declined) ⊎ (wanted_by m kept ≡ None)
 
 -- a run waits with the boxes that it kept, as it begins with setup; no position is stored
 pub record IsWaiting (b : Behaviour) (m : Answers) (limit : ℕ) (kept : List Part) (phase : Phase) (old : Timeline ℕ) (w : World) (waiting : List BoxAt) (new : Timeline ℕ) (request : Request) : Type 0 where
@@ -154,6 +153,6 @@ pub record IsEnded (b : Behaviour) (m : Answers) (limit : ℕ) (kept : List Part
   pub positions : new ≡ positions_after b m limit old
 
 -- where a run is after it was asked for, with the positions before and after
-abbrev pub Advances : Behaviour → Answers → ℕ → List Part → Phase → Timeline ℕ → World → List BoxAt → Timeline ℕ → Advance → Type 0
-Advances b m limit kept phase old w waiting new (advance.Waits request) = IsWaiting b m limit kept phase old w waiting new request
-Advances b m limit kept phase old w waiting new (advance.Ends from outcome) = IsEnded b m limit kept phase old w waiting new from outcome
+abbrev pub Advances : Behaviour → Answers → ℕ → List Part → Phase → Timeline ℕ → World → List BoxAt → Timeline ℕ → RunStatus Ended → Type 0
+Advances b m limit kept phase old w waiting new (status.Waits request) = IsWaiting b m limit kept phase old w waiting new request
+Advances b m limit kept phase old w waiting new (status.Done ended) = IsEnded b m limit kept phase old w waiting new ended.start ended.outcome

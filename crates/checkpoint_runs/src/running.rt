@@ -63,24 +63,21 @@ pub enum Stood {
     Ending,
 }
 
-/// Where a run stands before its first event.
+/// How far a run is: it waits for the box of a module, or it is done with what was asked for, and
+/// this came of it.
 #[derive(Drop)]
-pub enum Standing {
-    /// It can't begin.
-    Over(Outcome),
-    /// A module has no box yet.
-    Missing(Request),
-    /// Each module has its box.
-    Ready,
-}
-
-/// Where a run is after it was asked for.
-#[derive(Drop)]
-pub enum Advance {
+pub enum RunStatus<D> {
     /// It waits for the box of a module.
     Waits(Request),
-    /// It is done. It began at a position of so many events, or with setup.
-    Ends(Option<u64>, Outcome),
+    Done(D),
+}
+
+/// How a run began and ended.
+#[derive(Drop)]
+pub struct Ended {
+    /// It began at a position of so many events, or with setup.
+    pub start: Option<u64>,
+    pub outcome: Outcome,
 }
 
 /// The kernel of a session, and the positions to which it can go back.
@@ -112,8 +109,12 @@ impl<C: Catalogue> Drop for Runner<C> {
 impl<C: Catalogue> Runner<C> {
     // ---- from setup to the boxes
 
-    /// The module that a run which is set up needs a box for, if there is one.
-    fn next_box<M: ModelMarker>(&self, alloc: Global) -> Result<Standing, NoMemory>
+    /// The module that a run which is set up needs a box for, if there is one. No outcome: each
+    /// module has its box.
+    fn next_box<M: ModelMarker>(
+        &self,
+        alloc: Global,
+    ) -> Result<RunStatus<Option<Outcome>>, NoMemory>
         requires filled { let waiting = waiting_in SimpleModule-box self.now in
             IsFilled C.behaviour M.answers (world_in SimpleModule-box self.now.kernel) waiting }
         ensures stands { let world = world_in SimpleModule-box self.now.kernel in
@@ -125,8 +126,8 @@ impl<C: Catalogue> Runner<C> {
             → IsUndeclined phase → Wants M.answers (parts_in waiting) phase standing) }
     {
         match self.kernel.missing(alloc, &self.waiting)? {
-            Some(request) => Ok(Standing::Missing(request)),
-            None => Ok(Standing::Ready),
+            Some(request) => Ok(RunStatus::Waits(request)),
+            None => Ok(RunStatus::Done(None)),
         }
     }
 
@@ -150,12 +151,13 @@ impl<C: Catalogue> Runner<C> {
         self.kernel.setup(alloc, &mut answers)
     }
 
-    /// Sets a run up anew, up to its boxes.
+    /// Sets a run up anew, up to its boxes. An outcome: it can't begin. None: each module has its
+    /// box.
     fn set_up<M: ModelMarker>(
         &mut self,
         alloc: Global,
         model: &EvaluatedModel,
-    ) -> Result<Standing, NoMemory>
+    ) -> Result<RunStatus<Option<Outcome>>, NoMemory>
         requires asked { answers_of model.now ≡ M.answers }
         requires kinds { HasKinds C.behaviour SimpleModule-box self.old.kernel }
         ensures kinds { HasKinds C.behaviour SimpleModule-box self.new.kernel }
@@ -168,7 +170,7 @@ impl<C: Catalogue> Runner<C> {
             (phase : Phase) → IsUndeclined phase → Wants M.answers [] phase standing) }
     {
         match self.set_network_up::<M>(alloc, model)? {
-            Some(outcome) => Ok(Standing::Over(outcome)),
+            Some(outcome) => Ok(RunStatus::Done(Some(outcome))),
             None => {
                 let standing = self.next_box::<M>(alloc)?;
                 Ok(standing)
@@ -177,7 +179,10 @@ impl<C: Catalogue> Runner<C> {
     }
 
     /// The end of a run for one of whose modules there is no box.
-    fn declined<M: ModelMarker>(&self, alloc: Global) -> Result<Standing, NoMemory>
+    fn declined<M: ModelMarker>(
+        &self,
+        alloc: Global,
+    ) -> Result<RunStatus<Option<Outcome>>, NoMemory>
         requires declined { let waiting = waiting_in SimpleModule-box self.now in
             IsDeclined C.behaviour M.answers (world_in SimpleModule-box self.now.kernel) waiting }
         ensures stands { let world = world_in SimpleModule-box self.now.kernel in
@@ -187,20 +192,21 @@ impl<C: Catalogue> Runner<C> {
         ensures over { IfOk result (λ standing. Wants M.answers [] Phase.Declined standing) }
     {
         let request = self.kernel.missing(alloc, &self.waiting)?.unwrap();
-        Ok(Standing::Over(Outcome::Fault(
+        Ok(RunStatus::Done(Some(Outcome::Fault(
             self.kernel.count(),
             request.path,
             RunFault::UnknownClass,
-        )))
+        ))))
     }
 
-    /// Where a run stands that begins with setup: one that waits goes on, any other is set up.
+    /// Where a run stands that begins with setup: one that waits goes on, any other is set up. An
+    /// outcome: it can't begin. None: each module has its box.
     fn stand<M: ModelMarker>(
         &mut self,
         alloc: Global,
         model: &EvaluatedModel,
         phase: Phase,
-    ) -> Result<Standing, NoMemory>
+    ) -> Result<RunStatus<Option<Outcome>>, NoMemory>
         requires asked { answers_of model.now ≡ M.answers }
         requires live { let world = world_in SimpleModule-box self.old.kernel in
             let waiting = waiting_in SimpleModule-box self.old in
@@ -482,7 +488,7 @@ impl<C: Catalogue> Runner<C> {
         phase: Phase,
         limit: u64,
         observer: &mut W,
-    ) -> Result<Advance, NoMemory>
+    ) -> Result<RunStatus<Ended>, NoMemory>
         requires asked { answers_of model.now ≡ M.answers }
         requires live { let world = world_in SimpleModule-box self.old.kernel in
             let waiting = waiting_in SimpleModule-box self.old in
@@ -502,13 +508,19 @@ impl<C: Catalogue> Runner<C> {
             self.new.stood (counts_in self.new.positions) }
     {
         match self.stand::<M>(alloc, model, phase)? {
-            Standing::Over(outcome) => Ok(Advance::Ends(None, outcome)),
-            Standing::Missing(request) => Ok(Advance::Waits(request)),
-            Standing::Ready => {
+            RunStatus::Done(Some(outcome)) => Ok(RunStatus::Done(Ended {
+                start: None,
+                outcome,
+            })),
+            RunStatus::Waits(request) => Ok(RunStatus::Waits(request)),
+            RunStatus::Done(None) => {
                 let mut answers = AskedModel::<M>::new(alloc, model)?;
                 let mut shown = CallViews::new(alloc);
                 let outcome = self.run_to_end(alloc, &mut answers, &mut shown, limit, observer)?;
-                Ok(Advance::Ends(None, outcome))
+                Ok(RunStatus::Done(Ended {
+                    start: None,
+                    outcome,
+                }))
             }
         }
     }
@@ -522,7 +534,7 @@ impl<C: Catalogue> Runner<C> {
         phase: Phase,
         limit: u64,
         observer: &mut W,
-    ) -> Result<Advance, NoMemory>
+    ) -> Result<RunStatus<Ended>, NoMemory>
         requires live { let world = world_in SimpleModule-box self.old.kernel in
             let waiting = waiting_in SimpleModule-box self.old in
             IsLive C.behaviour (answers_of model.now) world waiting phase }
@@ -552,7 +564,7 @@ impl<C: Catalogue> Runner<C> {
         phase: Phase,
         limit: u64,
         observer: &mut W,
-    ) -> Result<Advance, NoMemory>
+    ) -> Result<RunStatus<Ended>, NoMemory>
         requires asked { answers_of model.now ≡ M.answers }
         requires live { let world = world_in SimpleModule-box self.old.kernel in
             let waiting = waiting_in SimpleModule-box self.old in
@@ -575,7 +587,10 @@ impl<C: Catalogue> Runner<C> {
                 let mut answers = AskedModel::<M>::new(alloc, model)?;
                 let mut shown = CallViews::new(alloc);
                 let outcome = self.run_on(alloc, &mut answers, &mut shown, limit, observer)?;
-                Ok(Advance::Ends(Some(start), outcome))
+                Ok(RunStatus::Done(Ended {
+                    start: Some(start),
+                    outcome,
+                }))
             }
             None => {
                 self.positions.clear();

@@ -2,16 +2,15 @@
 
 ghost use Rattle.std.specs.Prelude.{◌≡◌, ◌++◌, Some, IfOk, OnOk, codes};
 ghost use Rattle.std.specs.Fmt.{decimal};
-ghost use Rattle.desk_answers.specs.Refusals.{refusal_name, refusal_place, refusal_text};
+ghost use Rattle.desk_answers.specs.Refusals.{refusal_place, refusal_text};
 ghost use Rattle.desk_client.specs.Answers.{counts_text, done_text, edit_refusal_text, edited_text, held_text, injection_text, numbers_text, positions_text, valid_text};
-ghost use Rattle.desk_client.specs.Answers.{fault_detail, fault_name, outcome_text, start_text, type_fault_name, IsTold};
+ghost use Rattle.desk_client.specs.Answers.{fault_detail, outcome_text, start_text, IsTold};
 
 use desk_client::told::AnswerContent;
 use edit_session::session::Report;
 use itoa::Buffer as Digits;
 use model_edits::edit::Refusal;
 use model_reading::begin::BeginFault;
-use ned_inheritance::table::TypeFault;
 use run_semantics::outcome::{Outcome, RunFault};
 use sim_values::NoMemory;
 use sim_values::text::Text;
@@ -39,43 +38,6 @@ impl Answer {
         let Answer { text, told } = self;
         drop(told);
         text
-    }
-}
-
-/// The name of a fault.
-fn fault_name(fault: &RunFault) -> &'static [u8]
-    ensures { result.now ≡ fault_name fault.now }
-{
-    match fault {
-        RunFault::UnknownType => b"UnknownType",
-        RunFault::Interface => b"Interface",
-        RunFault::Unassigned => b"Unassigned",
-        RunFault::Circle => b"Circle",
-        RunFault::Overflow => b"Overflow",
-        RunFault::Inexact => b"Inexact",
-        RunFault::Mismatch => b"Mismatch",
-        RunFault::GateSize => b"GateSize",
-        RunFault::AlreadyConnected => b"AlreadyConnected",
-        RunFault::Unconnected => b"Unconnected",
-        RunFault::TooManyTurns => b"TooManyTurns",
-        RunFault::TooManyModules => b"TooManyModules",
-        RunFault::TooDeep => b"TooDeep",
-        RunFault::UnknownClass => b"UnknownClass",
-        RunFault::NoParameter => b"NoParameter",
-        RunFault::NoGate => b"NoGate",
-        RunFault::TooManyActions => b"TooManyActions",
-        RunFault::NotInFinish => b"NotInFinish",
-        RunFault::BadName => b"BadName",
-        RunFault::TimeOverflow => b"TimeOverflow",
-        RunFault::NotConnected => b"NotConnected",
-        RunFault::TooManyHops => b"TooManyHops",
-        RunFault::TwoTransmissionChannels => b"TwoTransmissionChannels",
-        RunFault::Busy => b"Busy",
-        RunFault::NoModule => b"NoModule",
-        RunFault::PayloadTooLarge => b"PayloadTooLarge",
-        RunFault::Past => b"Past",
-        RunFault::AlreadyScheduled => b"AlreadyScheduled",
-        RunFault::ModuleFailed(_) => b"ModuleFailed",
     }
 }
 
@@ -120,7 +82,7 @@ fn push_outcome(text: &mut Vec<u8>, outcome: &Outcome) -> Result<(), AllocError>
             push(text, b" ")?;
             push(text, path.as_bytes())?;
             push(text, b" ")?;
-            push(text, fault_name(fault))?;
+            push(text, fault.name())?;
             push_detail(text, fault)
         }
     }
@@ -164,26 +126,6 @@ pub fn done(alloc: Global, report: Report) -> Result<Answer, AllocError>
     })
 }
 
-/// The name of a refusal.
-fn refusal_name(fault: BeginFault) -> &'static [u8]
-    ensures { result.now ≡ refusal_name fault }
-{
-    match fault {
-        BeginFault::TooLarge => b"TooLarge",
-        BeginFault::NedSyntax(_, _) => b"NedSyntax",
-        BeginFault::IniSyntax(_, _) => b"IniSyntax",
-        BeginFault::DuplicateType => b"DuplicateType",
-        BeginFault::UnknownType => b"UnknownType",
-        BeginFault::InheritanceCircle => b"InheritanceCircle",
-        BeginFault::KindClash => b"KindClash",
-        BeginFault::Interface => b"Interface",
-        BeginFault::NoSuchConfig => b"NoSuchConfig",
-        BeginFault::ChainFault => b"ChainFault",
-        BeginFault::NoSuchNetwork => b"NoSuchNetwork",
-        BeginFault::NoMemory(_) => b"NoMemory",
-    }
-}
-
 /// Adds where what is refused stands: the file, counted from 0, and the line, counted from 1.
 fn push_place(text: &mut Vec<u8>, fault: BeginFault) -> Result<(), AllocError>
     ensures { OnOk result (text.new.items ≡ text.old.items ++ refusal_place fault) }
@@ -208,7 +150,7 @@ pub fn refusal_text(alloc: Global, fault: BeginFault) -> Result<Text, AllocError
     ensures { IfOk result (λ text. text ≡ refusal_text fault) }
 {
     let mut text = Vec::new(alloc);
-    push(&mut text, refusal_name(fault))?;
+    push(&mut text, fault.name())?;
     push_place(&mut text, fault)?;
     Ok(Text::from_vec(text))
 }
@@ -321,19 +263,6 @@ fn bad_ned_line(alloc: Global, line: usize) -> Result<Text, AllocError>
     Ok(Text::from_vec(text))
 }
 
-/// The name of what is wrong with types.
-fn type_fault_name(fault: TypeFault) -> &'static [u8]
-    ensures { result.now ≡ type_fault_name fault }
-{
-    match fault {
-        TypeFault::DuplicateType => b"DuplicateType",
-        TypeFault::UnknownType => b"UnknownType",
-        TypeFault::InheritanceCircle => b"InheritanceCircle",
-        TypeFault::KindClash => b"KindClash",
-        TypeFault::Interface => b"Interface",
-    }
-}
-
 /// The text for an edit that is refused. Lack of memory is handed on.
 pub fn edit_refusal_text(alloc: Global, refusal: Refusal) -> Result<Text, NoMemory>
     ensures { IfOk result (λ text. Some text ≡ edit_refusal_text refusal) }
@@ -346,11 +275,9 @@ pub fn edit_refusal_text(alloc: Global, refusal: Refusal) -> Result<Text, NoMemo
         Refusal::NoSuchType => Ok(refused_as(alloc, b"NoSuchType")?),
         Refusal::NoSuchConnection => Ok(refused_as(alloc, b"NoSuchConnection")?),
         Refusal::NedSyntax(line) => Ok(bad_ned_line(alloc, line)?),
-        Refusal::Types(fault) => Ok(refused_as(alloc, type_fault_name(fault))?),
+        Refusal::Types(fault) => Ok(refused_as(alloc, fault.name())?),
         Refusal::IniSyntax(line, _) => Ok(bad_line(alloc, line)?),
-        Refusal::NoSuchConfig => Ok(refused_as(alloc, b"NoSuchConfig")?),
-        Refusal::ChainFault => Ok(refused_as(alloc, b"ChainFault")?),
-        Refusal::NoSuchNetwork => Ok(refused_as(alloc, b"NoSuchNetwork")?),
+        Refusal::Config(fault) => Ok(refused_as(alloc, fault.name())?),
         Refusal::NoMemory(error) => Err(error),
     }
 }

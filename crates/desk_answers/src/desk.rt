@@ -13,9 +13,10 @@ ghost use Rattle.desk_answers.specs.Turns.{editing_at, limit_at, limit_after, An
 
 use crate::answers::{Answer, done, edited_text, held_text, positions_text, refused, refused_as};
 use checkpoint_runs::observer::Observer;
+use checkpoint_runs::running::RunStatus;
 use desk_client::told::AnswerContent;
 use desk_commands::commands::{Command, command_of};
-use edit_session::session::{FileFault, NotWanted, Progress, Session, SupplyFault};
+use edit_session::session::{FileFault, NotWanted, Session, SupplyFault};
 use kernel::request::Request;
 use model_edits::edit::Edit;
 use module_api::catalogue::Catalogue;
@@ -164,8 +165,8 @@ impl<C: Catalogue> Desk<C> {
     {
         self.limit = limit;
         match self.session.run(limit, observer)? {
-            Progress::Want(request) => Ok(DeskTurn::Want(request)),
-            Progress::Done(report) => Ok(DeskTurn::Text(done(self.alloc, report)?)),
+            RunStatus::Waits(request) => Ok(DeskTurn::Want(request)),
+            RunStatus::Done(report) => Ok(DeskTurn::Text(done(self.alloc, report)?)),
         }
     }
 

@@ -3,46 +3,15 @@ use Rattle.std.specs.Prelude.{◌≡◌, ℕ, List, [], ◌∷◌, ◌++◌, Opt
 use Rattle.std.specs.Fmt.{decimal}
 use Rattle.model_edits.specs.declared.edit.Refusal.{Refusal}
 use Rattle.model_edits.specs.declared.edit.Refusal.TheVariants as edit
-use Rattle.ned_inheritance.specs.declared.table.TypeFault.{TypeFault}
-use Rattle.ned_inheritance.specs.declared.table.TypeFault.TheVariants as types
+use Rattle.model_data.specs.Faults.{config_fault_name}
+use Rattle.ned_inheritance.specs.Faults.{type_fault_name}
+use Rattle.run_semantics.specs.Faults.{fault_name}
 use Rattle.run_semantics.specs.declared.outcome.RunFault.{RunFault}
 use Rattle.run_semantics.specs.declared.outcome.RunFault.TheVariants as fault
 use Rattle.run_semantics.specs.declared.outcome.Outcome.{Outcome}
 use Rattle.run_semantics.specs.declared.outcome.Outcome.TheVariants as outcome
 use Rattle.desk_client.specs.declared.told.AnswerContent.{AnswerContent}
 use Rattle.desk_client.specs.declared.told.AnswerContent.TheVariants as told
-
--- the name of a fault
-abbrev pub fault_name : RunFault → List ℕ
-fault_name fault.UnknownType = codes "UnknownType"
-fault_name fault.Interface = codes "Interface"
-fault_name fault.Unassigned = codes "Unassigned"
-fault_name fault.Circle = codes "Circle"
-fault_name fault.Overflow = codes "Overflow"
-fault_name fault.Inexact = codes "Inexact"
-fault_name fault.Mismatch = codes "Mismatch"
-fault_name fault.GateSize = codes "GateSize"
-fault_name fault.AlreadyConnected = codes "AlreadyConnected"
-fault_name fault.Unconnected = codes "Unconnected"
-fault_name fault.TooManyTurns = codes "TooManyTurns"
-fault_name fault.TooManyModules = codes "TooManyModules"
-fault_name fault.TooDeep = codes "TooDeep"
-fault_name fault.UnknownClass = codes "UnknownClass"
-fault_name fault.NoParameter = codes "NoParameter"
-fault_name fault.NoGate = codes "NoGate"
-fault_name fault.TooManyActions = codes "TooManyActions"
-fault_name fault.NotInFinish = codes "NotInFinish"
-fault_name fault.BadName = codes "BadName"
-fault_name fault.TimeOverflow = codes "TimeOverflow"
-fault_name fault.NotConnected = codes "NotConnected"
-fault_name fault.TooManyHops = codes "TooManyHops"
-fault_name fault.TwoTransmissionChannels = codes "TwoTransmissionChannels"
-fault_name fault.Busy = codes "Busy"
-fault_name fault.NoModule = codes "NoModule"
-fault_name fault.PayloadTooLarge = codes "PayloadTooLarge"
-fault_name fault.Past = codes "Past"
-fault_name fault.AlreadyScheduled = codes "AlreadyScheduled"
-fault_name (fault.ModuleFailed text) = codes "ModuleFailed"
 
 -- and after the name of ModuleFailed what the module said
 abbrev pub fault_detail : RunFault → List ℕ
@@ -98,14 +67,6 @@ counts_text (n ∷ ns) = numbers_text (n ∷ ns)
 abbrev pub positions_text : List ℕ → List ℕ
 positions_text counts = codes "positions" ++ counts_text counts
 
--- the name of what is wrong with types
-abbrev pub type_fault_name : TypeFault → List ℕ
-type_fault_name types.DuplicateType = codes "DuplicateType"
-type_fault_name types.UnknownType = codes "UnknownType"
-type_fault_name types.InheritanceCircle = codes "InheritanceCircle"
-type_fault_name types.KindClash = codes "KindClash"
-type_fault_name types.Interface = codes "Interface"
-
 -- THE ANSWER of an edit that is refused: its name, and the line where it is known. Lack of memory
 -- has no text: it is handed on.
 abbrev pub edit_refusal_text : Refusal → Option (List ℕ)
@@ -118,9 +79,7 @@ edit_refusal_text edit.NoSuchConnection = Some (codes "refused NoSuchConnection"
 edit_refusal_text (edit.NedSyntax line) = Some (codes "refused NedSyntax line " ++ decimal line)
 edit_refusal_text (edit.Types fault) = Some (codes "refused " ++ type_fault_name fault)
 edit_refusal_text (edit.IniSyntax line reason) = Some (codes "refused IniSyntax line " ++ decimal line)
-edit_refusal_text edit.NoSuchConfig = Some (codes "refused NoSuchConfig")
-edit_refusal_text edit.ChainFault = Some (codes "refused ChainFault")
-edit_refusal_text edit.NoSuchNetwork = Some (codes "refused NoSuchNetwork")
+edit_refusal_text (edit.Config fault) = Some (codes "refused " ++ config_fault_name fault)
 edit_refusal_text (edit.NoMemory _) = None
 
 -- ---- what an answer tells

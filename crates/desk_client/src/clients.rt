@@ -4,7 +4,7 @@ ghost use Rattle.std.specs.Prelude.{◌≡◌, ◌<◌, ℕ, List, ◌∷◌, �
 ghost use Rattle.result_lines.specs.Taken.{untouched};
 ghost use Rattle.desk_client.specs.Answers.{IsTold};
 ghost use Rattle.desk_client.specs.Devices.{HasFailed};
-ghost use Rattle.desk_client.specs.declared.clients.ServeEnd.{Stop as StopValue};
+ghost use Rattle.desk_client.specs.declared.clients.ServeEnd.{ServeEnd as EndValue};
 ghost use Rattle.desk_client.specs.declared.clients.ServeEnd.TheVariants as why;
 ghost use Rattle.transcripts.specs.declared.asked.AskedLine.{AskedLine as AskedValue};
 ghost use Rattle.transcripts.specs.Heard.{Heard, Answer, Files, OutOfMemory, Read};
@@ -53,7 +53,7 @@ pub trait Client<O: Out + Drop> {
     ghost label: { Self → ℕ };
 
     /// What is true of it where it is served no more, for that reason.
-    ghost stops: { Self → StopValue → Type 0 };
+    ghost stops: { Self → EndValue → Type 0 };
 
     /// What it asks next, or nothing more.
     fn next(&mut self) -> Result<Option<AskedLine>, Gone>

@@ -20,8 +20,8 @@ use Rattle.checkpoint_runs.specs.declared.running.Phase.TheVariants.{Idle, Waiti
 use Rattle.checkpoint_runs.specs.declared.running.Point.TheVariants.{Setup}
 use Rattle.edit_session.specs.declared.session.Change.{Change}
 use Rattle.edit_session.specs.declared.session.Edited.{Edited}
-use Rattle.edit_session.specs.declared.session.Progress.{Progress}
-use Rattle.edit_session.specs.declared.session.Progress.TheVariants as progress
+use Rattle.checkpoint_runs.specs.declared.running.RunStatus.{RunStatus}
+use Rattle.checkpoint_runs.specs.declared.running.RunStatus.TheVariants as status
 use Rattle.edit_session.specs.declared.session.Report.{Report}
 use Rattle.checkpoint_runs.specs.Kept.{AreGood}
 use Rattle.checkpoint_runs.specs.declared.running.Stood.{Stood}
@@ -183,10 +183,10 @@ pub record IsGivenUp (b : Behaviour) (before : Editing) (limit : ℕ) (after : E
 abbrev pub fresh_editing : Model → ℕ → Editing
 fresh_editing m interval = record { model = m; done = None; phase = Idle; boxes = []; known = None; positions = begun interval }
 
-abbrev pub IfDone : Progress → (Report → Type 0) → Type 0
-IfDone (progress.Want request) P = Unit {0}
-IfDone (progress.Done report) P = P report
+abbrev pub IfDone : RunStatus Report → (Report → Type 0) → Type 0
+IfDone (status.Waits request) P = Unit {0}
+IfDone (status.Done report) P = P report
 
-abbrev pub IfWant : Progress → (Request → Type 0) → Type 0
-IfWant (progress.Want request) P = P request
-IfWant (progress.Done report) P = Unit {0}
+abbrev pub IfWaiting : RunStatus Report → (Request → Type 0) → Type 0
+IfWaiting (status.Waits request) P = P request
+IfWaiting (status.Done report) P = Unit {0}

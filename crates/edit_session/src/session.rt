@@ -10,7 +10,7 @@ ghost use Rattle.result_lines.specs.VectorText.{vector_text};
 ghost use Rattle.model_reading.specs.Models.{IsModelOf, IsRuledOut, Refuses};
 ghost use Rattle.model_edits.specs.Edited.{number_given, IsRuledOut as IsEditRuledOut, Refuses as RefusesEdit};
 ghost use Rattle.edit_session.specs.Files.{scalars_of_run, vectors_of_run, FileWritten, TextWritten};
-ghost use Rattle.edit_session.specs.Editing.{Completed, edited_by, fresh_editing, last_used, wanted_of, with_box, IfDone, IfWant, IsAccepted, IsFor, IsFreshRun, IsGivenUp, IsUnknown, WaitsFor};
+ghost use Rattle.edit_session.specs.Editing.{Completed, edited_by, fresh_editing, last_used, wanted_of, with_box, IfDone, IfWaiting, IsAccepted, IsFor, IsFreshRun, IsGivenUp, IsUnknown, WaitsFor};
 ghost use Rattle.checkpoint_runs.specs.Kept.{kept_up_to, AreGood, HasGood};
 ghost use Rattle.checkpoint_runs.specs.Positions.{events_behind, starts_within, HasStored};
 ghost use Rattle.kernel.specs.declared.request.Request.{Request};
@@ -22,7 +22,7 @@ ghost use Rattle.model_edits.specs.declared.edit.Edit.{Edit};
 
 use crate::values::{evaluated, keeps_values};
 use checkpoint_runs::observer::Observer;
-use checkpoint_runs::running::{Advance, Phase, Point, Runner, Stood};
+use checkpoint_runs::running::{Ended, Phase, Point, RunStatus, Runner, Stood};
 use checkpoints::positions::Positions;
 use kernel::kernel::Kernel;
 use kernel::request::Request;
@@ -62,14 +62,6 @@ pub struct Report {
     pub started_from: Option<u64>,
     /// How many events were executed after that.
     pub executed: u64,
-}
-
-/// What a run came to.
-#[derive(Drop)]
-pub enum Progress {
-    /// It waits for a box.
-    Want(Request),
-    Done(Report),
 }
 
 /// What an accepted edit tells.
@@ -358,21 +350,25 @@ impl<C: Catalogue> Session<C> {
     /// from setup, or goes on with the run that waits; or answers which module needs a box first,
     /// of those without one the one of the least id. The observer is told of each event that is
     /// executed.
-    pub fn run<W: Observer>(&mut self, limit: u64, observer: &mut W) -> Result<Progress, NoMemory>
+    pub fn run<W: Observer>(
+        &mut self,
+        limit: u64,
+        observer: &mut W,
+    ) -> Result<RunStatus<Report>, NoMemory>
         requires sound { IsSound C.behaviour SimpleModule-box self.old }
         ensures kept { KeepsModel C.behaviour SimpleModule-box self.old self.new }
 
         // THE HEADLINE: a run that is done is a fresh run of the session's model.
         ensures done { let before = editing_of SimpleModule-box self.old in
             let after = editing_of SimpleModule-box self.new in
-            IfOk result (λ progress. IfDone progress (λ report.
+            IfOk result (λ status. IfDone status (λ report.
             IsFreshRun C.behaviour before limit report after)) }
 
         // It waits exactly while a box is missing that isn't declined.
         ensures waits { let before = editing_of SimpleModule-box self.old in
             let after = editing_of SimpleModule-box self.new in
-            IfOk result (λ progress.
-            IfWant progress (λ request. WaitsFor before limit request after)) }
+            IfOk result (λ status.
+            IfWaiting status (λ request. WaitsFor before limit request after)) }
 
         // After lack of memory no run waits, and none is done; the positions that it stored stay,
         // up to where it stood.
@@ -399,7 +395,7 @@ impl<C: Catalogue> Session<C> {
         &mut self,
         limit: u64,
         observer: &mut W,
-    ) -> Result<Progress, NoMemory>
+    ) -> Result<RunStatus<Report>, NoMemory>
         requires sound { IsSound C.behaviour SimpleModule-box self.old }
         ensures model { self.new.model ≡ self.old.model }
         ensures kinds { HasKinds C.behaviour SimpleModule-box self.new.runner.kernel }
@@ -410,12 +406,12 @@ impl<C: Catalogue> Session<C> {
         ensures sound { OnOk result (IsSound C.behaviour SimpleModule-box self.new) }
         ensures done { let before = editing_of SimpleModule-box self.old in
             let after = editing_of SimpleModule-box self.new in
-            IfOk result (λ progress. IfDone progress (λ report.
+            IfOk result (λ status. IfDone status (λ report.
             IsFreshRun C.behaviour before limit report after)) }
         ensures waits { let before = editing_of SimpleModule-box self.old in
             let after = editing_of SimpleModule-box self.new in
-            IfOk result (λ progress.
-            IfWant progress (λ request. WaitsFor before limit request after)) }
+            IfOk result (λ status.
+            IfWaiting status (λ request. WaitsFor before limit request after)) }
     {
         let phase = self.phase;
         self.give_up();
@@ -423,11 +419,12 @@ impl<C: Catalogue> Session<C> {
             .runner
             .advance(self.alloc, &self.model, phase, limit, observer)?
         {
-            Advance::Waits(request) => {
+            RunStatus::Waits(request) => {
                 self.phase = Phase::Waiting(None, Point::Setup);
-                Ok(Progress::Want(request))
+                Ok(RunStatus::Waits(request))
             }
-            Advance::Ends(start, outcome) => {
+            RunStatus::Done(ended) => {
+                let Ended { start, outcome } = ended;
                 let count = self.runner.kernel.count();
                 let report = report_of(self.alloc, &outcome, start, count)?;
                 let files = prepare(
@@ -444,7 +441,7 @@ impl<C: Catalogue> Session<C> {
                     outcome,
                     files,
                 });
-                Ok(Progress::Done(report))
+                Ok(RunStatus::Done(report))
             }
         }
     }

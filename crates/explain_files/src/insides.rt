@@ -2,27 +2,37 @@
 
 use explain_types::explanation::Explanation;
 use inside_parts::fault::InsideFault;
-use run_semantics::outcome;
+use model_questions::answer::ModelFault;
+use run_semantics::outcome::RunFault;
+
+/// The fault of an inside that a model's fault is.
+fn of_model(fault: ModelFault) -> InsideFault {
+    match fault {
+        ModelFault::UnknownType => InsideFault::UnknownType,
+        ModelFault::Interface => InsideFault::Interface,
+        ModelFault::Unassigned => InsideFault::Unassigned,
+        ModelFault::Circle => InsideFault::Circle,
+        ModelFault::Overflow => InsideFault::Overflow,
+        ModelFault::Inexact => InsideFault::Inexact,
+        ModelFault::Mismatch => InsideFault::Mismatch,
+        ModelFault::GateSize => InsideFault::GateSize,
+        ModelFault::NoGate => InsideFault::NoGate,
+        ModelFault::AlreadyConnected => InsideFault::AlreadyConnected,
+        ModelFault::Unconnected => InsideFault::Unconnected,
+        ModelFault::TooManyTurns => InsideFault::TooManyTurns,
+        ModelFault::TooManyModules => InsideFault::TooManyModules,
+        ModelFault::TooDeep => InsideFault::TooDeep,
+    }
+}
 
 /// The fault of an inside that ended a run, where it is one that an inside can have.
-pub fn fault_of(fault: &outcome::RunFault) -> Option<InsideFault> {
-    Some(match fault {
-        outcome::RunFault::UnknownType => InsideFault::UnknownType,
-        outcome::RunFault::Interface => InsideFault::Interface,
-        outcome::RunFault::Unassigned => InsideFault::Unassigned,
-        outcome::RunFault::Circle => InsideFault::Circle,
-        outcome::RunFault::Overflow => InsideFault::Overflow,
-        outcome::RunFault::Inexact => InsideFault::Inexact,
-        outcome::RunFault::Mismatch => InsideFault::Mismatch,
-        outcome::RunFault::GateSize => InsideFault::GateSize,
-        outcome::RunFault::NoGate => InsideFault::NoGate,
-        outcome::RunFault::AlreadyConnected => InsideFault::AlreadyConnected,
-        outcome::RunFault::Unconnected => InsideFault::Unconnected,
-        outcome::RunFault::TooManyTurns => InsideFault::TooManyTurns,
-        outcome::RunFault::TooManyModules => InsideFault::TooManyModules,
-        outcome::RunFault::TooDeep => InsideFault::TooDeep,
-        _ => return None,
-    })
+pub fn fault_of(fault: &RunFault) -> Option<InsideFault> {
+    match fault {
+        RunFault::Model(fault) => Some(of_model(*fault)),
+        RunFault::NoGate => Some(InsideFault::NoGate),
+        RunFault::AlreadyConnected => Some(InsideFault::AlreadyConnected),
+        _ => None,
+    }
 }
 
 /// What a fault of an inside says, and what would be right.

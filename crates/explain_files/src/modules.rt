@@ -12,7 +12,7 @@ use model_settings::setting::ModelSetting;
 use model_settings::standings::{around_of, before_last, name_in};
 use ned_trees::declarations::{Submodule, TypeDeclaration};
 use ned_types::flat::submodule_named;
-use run_semantics::outcome;
+use run_semantics::outcome::RunFault;
 use sim_values::NoMemory;
 use sim_values::text::Text;
 use sqlite_items::Items;
@@ -22,7 +22,7 @@ use std::alloc::Global;
 #[derive(Clone, Copy)]
 pub struct ToldFault<'a> {
     pub path: &'a str,
-    pub fault: &'a outcome::RunFault,
+    pub fault: &'a RunFault,
 }
 
 /// A submodule as it is declared, with the type that declares it.

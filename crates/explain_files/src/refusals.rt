@@ -9,6 +9,7 @@ use explain_types::ned_files::Files;
 use explain_types::sources::Sources;
 use explain_types::types::tell_types;
 use ini_entries::reason::Reason;
+use model_data::faults::ConfigFault;
 use model_reading::begin::{BeginFault, MAX_FILES, model_of};
 use ned_inheritance::table::{BuildError, flat_types};
 use sim_values::NoMemory;
@@ -70,14 +71,10 @@ fn tell_refusal(told: &mut Explanation, fault: BeginFault, sources: &Sources<'_>
             told.say(": ");
             tell_ini_line(told, line_at(sources.ini, line), reason);
         }
-        BeginFault::DuplicateType
-        | BeginFault::UnknownType
-        | BeginFault::InheritanceCircle
-        | BeginFault::KindClash
-        | BeginFault::Interface => tell_clash(told, sources),
-        BeginFault::NoSuchConfig => tell_no_config(told, sources),
-        BeginFault::ChainFault => tell_no_chain(told, sources),
-        BeginFault::NoSuchNetwork => tell_no_network(told, sources),
+        BeginFault::Types(_) => tell_clash(told, sources),
+        BeginFault::Config(ConfigFault::NoSuchConfig) => tell_no_config(told, sources),
+        BeginFault::Config(ConfigFault::ChainFault) => tell_no_chain(told, sources),
+        BeginFault::Config(ConfigFault::NoSuchNetwork) => tell_no_network(told, sources),
         BeginFault::NoMemory(_) => told.say("out of memory: give fewer or shorter texts"),
     }
 }

@@ -112,11 +112,13 @@ fn blamed<'a>(
 /// The fault of a parameter that ended a run, where it is one that a parameter can have.
 fn parameter_fault(fault: &RunFault) -> Option<ModelFault> {
     match fault {
-        RunFault::Unassigned => Some(ModelFault::Unassigned),
-        RunFault::Overflow => Some(ModelFault::Overflow),
-        RunFault::Inexact => Some(ModelFault::Inexact),
-        RunFault::Mismatch => Some(ModelFault::Mismatch),
-        RunFault::Circle => Some(ModelFault::Circle),
+        RunFault::Model(
+            it @ (ModelFault::Unassigned
+            | ModelFault::Overflow
+            | ModelFault::Inexact
+            | ModelFault::Mismatch
+            | ModelFault::Circle),
+        ) => Some(*it),
         _ => None,
     }
 }
@@ -526,7 +528,10 @@ fn tell_own(
 
 /// Whether a fault is that a gate isn't there.
 fn is_no_gate(fault: &RunFault) -> bool {
-    matches!(fault, RunFault::NoGate)
+    matches!(
+        fault,
+        RunFault::NoGate | RunFault::Model(ModelFault::NoGate)
+    )
 }
 
 /// Says what led to a fault of the module that was found at its path, if one was.

@@ -2,8 +2,8 @@
 
 use indexmap::IndexMap;
 use ned_trees::declarations::{TypeDeclaration, TypeKind};
-use ned_types::made::changed;
 use sim_values::NoMemory;
+use sim_values::dropping::after;
 use sim_values::text::Text;
 use std::alloc::{AllocError, Global};
 
@@ -25,7 +25,7 @@ fn add_numbers<'a>(
 fn numbers_of<'a>(alloc: Global, types: &'a [TypeDeclaration]) -> Result<Numbers<'a>, AllocError> {
     let mut numbers = IndexMap::new(alloc);
     let done = add_numbers(&mut numbers, types);
-    changed(numbers, done)
+    after(numbers, done)
 }
 
 /// Whether it is an interface.

@@ -5,7 +5,7 @@ ghost use Rattle.std.specs.Prelude.{◌≡◌, ◌++◌, ◌∷◌, [], IfOk, On
 use ned_files::shared::SharedFile;
 use ned_scopes::copies::copy_type;
 use ned_trees::declarations::{NedFile, NestedType};
-use ned_types::made::behind;
+use sim_values::dropping::pair_after;
 use sqlite_items::Items;
 use std::alloc::{AllocError, Global};
 
@@ -16,7 +16,7 @@ pub(crate) fn copy_nested(alloc: Global, nested: &NestedType) -> Result<NestedTy
 {
     let declared = copy_type(alloc, &nested.declared)?;
     let types = copy_types(alloc, nested.types.as_slice());
-    let (declared, types) = behind(declared, types)?;
+    let (declared, types) = pair_after(declared, types)?;
     Ok(NestedType { declared, types })
 }
 

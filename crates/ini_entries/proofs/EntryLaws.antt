@@ -7,13 +7,7 @@ use Rattle.std.proofs.lemmas.Bool.{eqb-false, false≢true, true≢false}
 use Rattle.std.proofs.lemmas.Slice.Eq.{bytes_eq-Decides}
 use Rattle.ini_pattern.specs.declared.piece.Piece.{Piece}
 use Rattle.ini_pattern.specs.PatternOf.{pattern_of}
-use Rattle.ned_tokens.specs.Lines.{tokens_of}
-use Rattle.ned_tokens.proofs.Whole as whole
-use Rattle.ned_expressions.proofs.ExpressionLaws.{expression-lawful}
-use Rattle.ned_trees.specs.declared.expressions.Expression.{Expression}
-use Rattle.ned_expressions.specs.ExpressionText as value_text
-use Rattle.ned_expressions.specs.Grammar as grammar
-use Rattle.ned_leaves.specs.ExpressionText.{IsExpressionText}
+use Rattle.ned_expressions.specs.ExpressionText.{IsExpressionText}
 use Rattle.ini_trees.specs.declared.entry.EntryMeaning.{EntryMeaning}
 use Rattle.ini_trees.specs.declared.entry.EntryMeaning.TheVariants as meaning
 use Rattle.ini_trees.specs.declared.entry.EntryValue.{EntryValue}
@@ -28,7 +22,7 @@ use Rattle.ini_entries.specs.declared.reason.Unread.TheVariants as unread
 use Rattle.ini_entries.specs.Names.{is_config_name, is_dotted_name}
 use Rattle.ini_entries.specs.Options.{IsObjectOption, config_names, is_only_value, is_other_option, time_literal, words_left_out, words_with_effect, word_network, word_extends, word_time_limit}
 use Rattle.ini_entries.specs.Texts.{Bytes, is_among, items_of}
-use Rattle.ini_entries.proofs.OptionLaws.{option_same, limit_same}
+use Rattle.ini_entries.proofs.OptionLaws.{one_expression, option_same, limit_same}
 
 -- ---- which meanings a key can have
 
@@ -87,10 +81,6 @@ numbered key bytes (meaning.Type p) h = let e = kinds key TypeKey h.0 (λ x. abs
 numbered key bytes (meaning.Parameter p) h = let e = kinds key ParameterKey h.0 (λ x. absurd cc) in rw e.0 (rw e.1 (rw e.2 (rw h.0 refl)))
 
 -- ---- meanings of one kind
-
--- a text is at most one expression
-one_expression : (text : Bytes) (e f : Expression) → value_text.IsExpressionText text e → value_text.IsExpressionText text f → e ≡ f
-one_expression text e f p q = whole.one_meaning grammar.expression expression-lawful (tokens_of text) e f p.spells q.spells
 
 pub value_same : (text : Bytes) (v w : EntryValue) → IsEntryValue text v → IsEntryValue text w → v ≡ w
 value_same text value.Default value.Default p q = refl

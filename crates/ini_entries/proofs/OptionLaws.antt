@@ -3,8 +3,12 @@ use Rattle.std.proofs.Common.{◌≡◌, ℕ, Bool, true, false, cond, ◌||◌,
 use Rattle.std.specs.Prelude.{option_map}
 use Rattle.std.specs.List.{list_all}
 use Rattle.std.specs.Str.{bytes_eq}
-use Rattle.ned_leaves.proofs.OneExpression.{one_expression}
-use Rattle.ned_leaves.specs.ExpressionText.{IsExpressionText}
+use Rattle.ned_tokens.specs.Lines.{tokens_of}
+use Rattle.ned_tokens.proofs.Whole as whole
+use Rattle.ned_trees.specs.declared.expressions.Expression.{Expression}
+use Rattle.ned_expressions.proofs.ExpressionLaws.{expression-lawful}
+use Rattle.ned_expressions.specs.ExpressionText.{IsExpressionText}
+use Rattle.ned_expressions.specs.Grammar as grammar
 use Rattle.ini_trees.specs.declared.entry.ModeItem.{ModeItem}
 use Rattle.ini_trees.specs.declared.entry.ObjectOption.{ObjectOption}
 use Rattle.ini_trees.specs.declared.entry.ObjectOption.TheVariants as object
@@ -70,6 +74,10 @@ only_option name bytes x is = (is, λ y other. option_same name bytes y x other 
 pub other_option : (name bytes : Bytes) → bytes_eq name word_modes ≡ false → is_among name recording_words ≡ false → Tells (IsObjectOption name bytes) (Some object.Other)
 unfolding is_among
 other_option name bytes a b = only_option name bytes object.Other (rw a b)
+
+-- a text is at most one expression
+pub one_expression : (text : Bytes) (e f : Expression) → IsExpressionText text e → IsExpressionText text f → e ≡ f
+one_expression text e f p q = whole.one_meaning grammar.expression expression-lawful (tokens_of text) e f p.spells q.spells
 
 -- a text is the time of one limit at most
 pub limit_same : (bytes : Bytes) (a b : ℕ) → IsExpressionText bytes (time_literal a) → IsExpressionText bytes (time_literal b) → a ≡ b

@@ -5,7 +5,6 @@ use Rattle.std.specs.List.{list_all}
 use Rattle.std.specs.Str.{chars}
 use Rattle.ini_pattern.specs.PatternOf.{pattern_of}
 use Rattle.ned_expressions.specs.ExpressionText.{IsExpressionText}
-use Rattle.ned_leaves.specs.ExpressionText.{IsExpressionText as IsLiteralText}
 use Rattle.ini_trees.specs.declared.entry.EntryMeaning.{EntryMeaning}
 use Rattle.ini_trees.specs.declared.entry.EntryMeaning.TheVariants as meaning
 use Rattle.ini_trees.specs.declared.entry.EntryValue.{EntryValue}
@@ -46,7 +45,7 @@ abbrev pub IsEntryMeaning : Bytes → Bytes → EntryMeaning → Type 0
 IsEntryMeaning key bytes (meaning.Network name) = (key ≡ word_network) × (name ≡ bytes) × (is_dotted_name bytes ≡ true)
 IsEntryMeaning key bytes (meaning.Extends names) =
     (key ≡ word_extends) × (names ≡ items_of bytes) × (list_all is_config_name names ≡ true)
-IsEntryMeaning key bytes (meaning.TimeLimit ps) = (key ≡ word_time_limit) × IsLiteralText bytes (time_literal ps)
+IsEntryMeaning key bytes (meaning.TimeLimit ps) = (key ≡ word_time_limit) × IsExpressionText bytes (time_literal ps)
 IsEntryMeaning key bytes meaning.Other =
     (kind_of key ≡ OptionKey) × (is_other_option key bytes ≡ true) × IsSome (pattern_of (chars key))
 -- Per-object options.

@@ -6,8 +6,8 @@ use Rattle.std.specs.Option.{option_and_then}
 use Rattle.std.specs.Str.{bytes_eq}
 use Rattle.sim_values.specs.declared.value.Dimension.TheVariants.{Time}
 use Rattle.sim_values.specs.declared.value.Value.TheVariants.{Quantity}
-use Rattle.ned_leaves.specs.declared.ast.Expression.{Expression}
-use Rattle.ned_leaves.specs.declared.ast.Expression.TheVariants.{Literal}
+use Rattle.ned_trees.specs.declared.expressions.Expression.{Expression}
+use Rattle.ned_trees.specs.declared.expressions.Expression.TheVariants.{Literal}
 use Rattle.ned_leaves.specs.Grammar.{mode_named}
 use Rattle.ini_trees.specs.declared.entry.ModeItem.{ModeItem}
 use Rattle.ini_trees.specs.declared.entry.ModeItem.TheVariants as item

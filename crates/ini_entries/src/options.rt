@@ -2,7 +2,7 @@
 
 ghost use Rattle.std.specs.Prelude.{◌≡◌, ℕ, true, false, map, option_map, IfOk, MatchOption};
 ghost use Rattle.std.specs.List.{list_all};
-ghost use Rattle.ned_leaves.specs.ExpressionText.{IsExpressionText};
+ghost use Rattle.ned_expressions.specs.ExpressionText.{IsExpressionText};
 ghost use Rattle.ini_entries.specs.Meaning.{Finds, Tells};
 ghost use Rattle.ini_entries.specs.Options as options;
 ghost use Rattle.ini_entries.specs.Texts as texts;
@@ -11,10 +11,10 @@ use crate::blanks::{after_blanks, before_blanks};
 use crate::names::is_config_name;
 use crate::reason::{Reason, Unread};
 use ini_trees::entry::{ModeItem, ObjectOption};
-use ned_leaves::ast::Expression;
+use ned_expressions::parse::parse_expression;
 use ned_leaves::error::NedError;
 use ned_leaves::modes::mode_named;
-use ned_leaves::parse::parse_expression;
+use ned_trees::expressions::Expression;
 use sim_values::text::{Text, spells};
 use sim_values::value::{Dimension, Value};
 use sqlite_items::Items;

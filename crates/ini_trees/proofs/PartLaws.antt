@@ -175,7 +175,7 @@ first_is_merge lines first others once is are =
     (inl refl)
 
 -- the same of a row, and of what is known to be the line of its first
-pub row_is_merge : (lines : List (List ℕ)) (row whole : List ℕ) → 1 ≤ length row → IsFirstOnce lines row → whole ≡ line_at lines (get_or row 0 0) → is_part row whole ≡ true → list_all (λ b. is_part (line_at lines b) whole) (take (length row - 1) (drop 1 row)) ≡ true → IsMerge same_number (map (line_at lines) row ++ row ∷ []) whole
+pub row_is_merge : (lines : List (List ℕ)) (numbers whole : List ℕ) → 1 ≤ length numbers → IsFirstOnce lines numbers → whole ≡ line_at lines (get_or numbers 0 0) → is_part numbers whole ≡ true → list_all (λ b. is_part (line_at lines b) whole) (take (length numbers - 1) (drop 1 numbers)) ≡ true → IsMerge same_number (map (line_at lines) numbers ++ numbers ∷ []) whole
 row_is_merge lines [] whole some once at is are = absurd (omega arith)
 row_is_merge lines (first ∷ others) whole some once at is are =
     let held : is_part (first ∷ others) (line_at lines first) ≡ true = subst (λ (w : List ℕ). is_part (first ∷ others) w ≡ true) at is in

@@ -24,7 +24,7 @@ use crate::record_table::RecordTable;
 use event_set::pending::{Happening, Pending};
 use event_set::set::EventSet;
 use model_injections::injection::{Due, Injection, InjectionTurn, injection_before};
-use model_questions::answer::{Answer, Built, Question, is_beyond};
+use model_questions::answer::{Answer, Built, ModelFault, Question, is_beyond};
 use model_questions::record::{Origin, Record, path_of, submodule_path};
 use module_api::message::Outgoing;
 use module_api::name::Name;
@@ -34,7 +34,7 @@ use run_question_log::cutting::cut_items;
 use run_question_log::entry::LogEntry;
 use run_question_log::noted_questions::NotedQuestions;
 use run_semantics::occasions::{Occasion, is_noted};
-use run_semantics::outcome::{EventFlow, Outcome, RunFault, fault_of};
+use run_semantics::outcome::{EventFlow, Outcome, RunFault};
 use run_semantics::routes::{NextHop, PlacedGate, Transmission, copy_transmissions, place_of};
 use run_semantics::signals::SignalNames;
 use run_semantics::traces::{Emission, Instance, Scalar};
@@ -718,8 +718,8 @@ impl Core {
                 self.records.push(alloc, network)?;
                 Ok(EventFlow::GoOn)
             }
-            Answer::Fault(network, fault) => Ok(EventFlow::Break(network, fault_of(fault))),
-            _ => Ok(EventFlow::Break(Text::empty(alloc), RunFault::UnknownType)),
+            Answer::Fault(network, fault) => Ok(EventFlow::Break(network, RunFault::Model(fault))),
+            _ => Ok(EventFlow::Break(Text::empty(alloc), RunFault::Model(ModelFault::UnknownType))),
         }
     }
 
@@ -775,7 +775,7 @@ impl Core {
         if let Some(built) = inside.get(self.room()) {
             let records = self.records.as_slice();
             let path = submodule_path(alloc, records, parent, built.name.as_bytes(), built.index)?;
-            return Ok(EventFlow::Break(path, RunFault::TooManyModules));
+            return Ok(EventFlow::Break(path, RunFault::Model(ModelFault::TooManyModules)));
         }
         self.create_all(alloc, parent, inside)?;
         Ok(EventFlow::GoOn)
@@ -792,8 +792,11 @@ impl Core {
     {
         match found {
             Answer::Inside(inside) => self.create_few(alloc, parent, inside.as_slice()),
-            Answer::Fault(path, fault) => Ok(EventFlow::Break(path.copy(alloc)?, fault_of(*fault))),
-            _ => self.broken(alloc, parent, RunFault::UnknownType),
+            Answer::Fault(path, fault) => Ok(EventFlow::Break(
+                path.copy(alloc)?,
+                RunFault::Model(*fault),
+            )),
+            _ => self.broken(alloc, parent, RunFault::Model(ModelFault::UnknownType)),
         }
     }
 

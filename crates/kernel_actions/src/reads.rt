@@ -9,7 +9,7 @@ use model_questions::answer::Answer;
 use module_api::call::{Parameter, find_value};
 use module_api::names::are_same;
 use module_api::reply::Read;
-use run_semantics::outcome::{RunFault, fault_of};
+use run_semantics::outcome::RunFault;
 use sqlite_items::at;
 
 /// Whether the parameter at that place has the name. Then there is one of that name.
@@ -48,7 +48,7 @@ pub fn fault_of_read(read: &Read, answer: &Answer) -> Option<RunFault>
         (Read::Gate(_), Answer::Gate(_)) => None,
         (Read::Gate(_), _) => Some(RunFault::NoGate),
         (Read::Parameter(_), Answer::Value(_)) => None,
-        (Read::Parameter(_), Answer::Fault(_, fault)) => Some(fault_of(*fault)),
+        (Read::Parameter(_), Answer::Fault(_, fault)) => Some(RunFault::Model(*fault)),
         (Read::Parameter(_), _) => Some(RunFault::NoParameter),
     }
 }

@@ -23,6 +23,7 @@ use Rattle.ned_trees.specs.declared.declarations.TypeDeclaration.{TypeDeclaratio
 use Rattle.model_edits.specs.declared.edit.Edit.{Edit}
 use Rattle.model_edits.specs.declared.edit.Edit.TheVariants as edit
 use Rattle.model_edits.specs.declared.edit.Refusal.{Refusal}
+use Rattle.model_data.specs.declared.faults.ConfigFault.TheVariants as configs
 use Rattle.model_edits.specs.declared.edit.Refusal.TheVariants as refusal
 use Rattle.model_edits.specs.Edited.{AreBehind, AreFilesBehind, AreLinesBehind, HasNoModel, IsEditOf, IsOnlyEditOf, IsRuledOut, IsTextEditOf, IsWith, Parts, Refuses, RefusesChange, RefusesFiles, RefusesParts, RefusesText, change_of, file_change_of, parts_of, selected}
 use Rattle.model_edits.specs.Steps.{Comes, ComesOfFiles, ComesOfText, RefusesChain, Takes, TakesChanged, TakesMade, has_network, parts, told_as, told_of, with_files, with_lines}
@@ -46,9 +47,9 @@ no_network (Some x) e is = cc
 
 parts_ruled_out : (m : Model) (p : Parts) (config : List ℕ) (r : Refusal) → RefusesParts m p config r
     → (new : Model) → IsWith m p config new → IsSome (network_of new) → r ≡ refusal.NoMemory no_memory
-parts_ruled_out m p config refusal.NoSuchConfig why new is net = absurd (truth_apart (is_section config p.lines) is.exists why)
-parts_ruled_out m p config refusal.ChainFault why new is net = absurd (why.1 new.chain is.chained)
-parts_ruled_out m p config refusal.NoSuchNetwork why new is net =
+parts_ruled_out m p config (refusal.Config configs.NoSuchConfig) why new is net = absurd (truth_apart (is_section config p.lines) is.exists why)
+parts_ruled_out m p config (refusal.Config configs.ChainFault) why new is net = absurd (why.1 new.chain is.chained)
+parts_ruled_out m p config (refusal.Config configs.NoSuchNetwork) why new is net =
     absurd (no_network (network_of new) (ap network_of (one_with m p config new why.0 is why.1) ∙ why.2) net)
 parts_ruled_out m p config (refusal.NoMemory _) why new is net = refl
 parts_ruled_out m p config refusal.TooLarge why new is net = absurd why
@@ -64,10 +65,10 @@ parts_ruled_out m p config (refusal.Types fault) why new is net = absurd why
 -- ---- parts that make no model
 
 pub chain_refused : (m : Model) (p : Parts) (config : List ℕ) (r : Refusal) → RefusesChain p.lines config r → RefusesParts m p config r
-chain_refused m p config refusal.NoSuchConfig why = why
-chain_refused m p config refusal.ChainFault why = why
+chain_refused m p config (refusal.Config configs.NoSuchConfig) why = why
+chain_refused m p config (refusal.Config configs.ChainFault) why = why
 chain_refused m p config (refusal.NoMemory _) why = tt
-chain_refused m p config refusal.NoSuchNetwork why = absurd why
+chain_refused m p config (refusal.Config configs.NoSuchNetwork) why = absurd why
 chain_refused m p config refusal.TooLarge why = absurd why
 chain_refused m p config refusal.NoSuchLine why = absurd why
 chain_refused m p config refusal.NoSuchInjection why = absurd why
@@ -83,7 +84,7 @@ none_of None e = refl
 none_of (Some x) e = cc
 
 pub no_network_with : (m : Model) (p : Parts) (config : List ℕ) (chain : List (List ℕ)) → IsChain p.lines config chain → is_section config p.lines ≡ true
-    → has_network p.types p.lines chain ≡ false → RefusesParts m p config refusal.NoSuchNetwork
+    → has_network p.types p.lines chain ≡ false → RefusesParts m p config (refusal.Config configs.NoSuchNetwork)
 no_network_with m p config chain chained exists none = (
   record m { files = p.files; types = p.types; ini = p.lines; config = config; chain = chain },
   record { rest = refl; exists = exists; chained = chained },
@@ -91,9 +92,7 @@ no_network_with m p config chain chained exists none = (
 )
 
 no_model : (m : Model) (e : Edit) (p : Parts) (r : Refusal) → AreBehind m e p → RefusesParts m p (selected e m.config) r → RefusesText m e r
-no_model m e p refusal.NoSuchConfig behind why = record { parts = p; behind = behind; refused = why }
-no_model m e p refusal.ChainFault behind why = record { parts = p; behind = behind; refused = why }
-no_model m e p refusal.NoSuchNetwork behind why = record { parts = p; behind = behind; refused = why }
+no_model m e p (refusal.Config kind) behind why = record { parts = p; behind = behind; refused = why }
 no_model m e p (refusal.NoMemory _) behind why = tt
 no_model m e p refusal.TooLarge behind why = absurd why
 no_model m e p refusal.NoSuchLine behind why = absurd why
@@ -106,9 +105,7 @@ no_model m e p (refusal.IniSyntax line reason) behind why = absurd why
 no_model m e p (refusal.Types fault) behind why = absurd why
 
 no_model_of_files : (m : Model) (e : Edit) (c : ned.Change) (p : Parts) (r : Refusal) → AreBehind m e p → RefusesParts m p (selected e m.config) r → RefusesFiles m e c r
-no_model_of_files m e c p refusal.NoSuchConfig behind why = record { parts = p; behind = behind; refused = why }
-no_model_of_files m e c p refusal.ChainFault behind why = record { parts = p; behind = behind; refused = why }
-no_model_of_files m e c p refusal.NoSuchNetwork behind why = record { parts = p; behind = behind; refused = why }
+no_model_of_files m e c p (refusal.Config kind) behind why = record { parts = p; behind = behind; refused = why }
 no_model_of_files m e c p (refusal.NoMemory _) behind why = tt
 no_model_of_files m e c p refusal.TooLarge behind why = absurd why
 no_model_of_files m e c p refusal.NoSuchLine behind why = absurd why

@@ -19,6 +19,7 @@ use Rattle.model_data.specs.Models.{network_of}
 use Rattle.model_edits.specs.declared.edit.Edit.{Edit}
 use Rattle.model_edits.specs.declared.edit.Edit.TheVariants as edit
 use Rattle.model_edits.specs.declared.edit.Refusal.{Refusal}
+use Rattle.model_data.specs.declared.faults.ConfigFault.TheVariants as configs
 use Rattle.model_edits.specs.declared.edit.Refusal.TheVariants as refusal
 
 -- ---- the model
@@ -174,10 +175,10 @@ RefusesChange (Some changed) _ = ⊥
 -- why there is no model with these parts and this configuration: it has no section; it has no
 -- chain; there is no network to run
 abbrev pub RefusesParts : Model → Parts → List ℕ → Refusal → Type 0
-RefusesParts m parts config refusal.NoSuchConfig = is_section config parts.lines ≡ false
-RefusesParts m parts config refusal.ChainFault =
+RefusesParts m parts config (refusal.Config configs.NoSuchConfig) = is_section config parts.lines ≡ false
+RefusesParts m parts config (refusal.Config configs.ChainFault) =
     (is_section config parts.lines ≡ true) × ((chain : List (List ℕ)) → IsChain parts.lines config chain → ⊥)
-RefusesParts m parts config refusal.NoSuchNetwork = (new : Model) × IsWith m parts config new × (network_of new ≡ None)
+RefusesParts m parts config (refusal.Config configs.NoSuchNetwork) = (new : Model) × IsWith m parts config new × (network_of new ≡ None)
 RefusesParts m parts config (refusal.NoMemory _) = Unit {0}
 RefusesParts m parts config _ = ⊥
 
@@ -192,9 +193,7 @@ abbrev pub RefusesText : Model → Edit → Refusal → Type 0
 RefusesText m e refusal.TooLarge = RefusesChange (change_of e m.ini) refusal.TooLarge
 RefusesText m e refusal.NoSuchLine = RefusesChange (change_of e m.ini) refusal.NoSuchLine
 RefusesText m e (refusal.IniSyntax line reason) = RefusesChange (change_of e m.ini) (refusal.IniSyntax line reason)
-RefusesText m e refusal.NoSuchConfig = HasNoModel m e refusal.NoSuchConfig
-RefusesText m e refusal.ChainFault = HasNoModel m e refusal.ChainFault
-RefusesText m e refusal.NoSuchNetwork = HasNoModel m e refusal.NoSuchNetwork
+RefusesText m e (refusal.Config why) = HasNoModel m e (refusal.Config why)
 RefusesText m e (refusal.NoMemory _) = Unit {0}
 RefusesText m e _ = ⊥
 
@@ -206,9 +205,7 @@ RefusesFiles m e c refusal.NoSuchType = ned.Refuses c m.files file_errors.NoSuch
 RefusesFiles m e c refusal.NoSuchConnection = ned.Refuses c m.files file_errors.NoSuchConnection
 RefusesFiles m e c (refusal.NedSyntax line) = ned.Refuses c m.files (file_errors.NedSyntax line)
 RefusesFiles m e c (refusal.Types why) = ned.Refuses c m.files (file_errors.Types why)
-RefusesFiles m e c refusal.NoSuchConfig = HasNoModel m e refusal.NoSuchConfig
-RefusesFiles m e c refusal.ChainFault = HasNoModel m e refusal.ChainFault
-RefusesFiles m e c refusal.NoSuchNetwork = HasNoModel m e refusal.NoSuchNetwork
+RefusesFiles m e c (refusal.Config why) = HasNoModel m e (refusal.Config why)
 RefusesFiles m e c (refusal.NoMemory _) = Unit {0}
 RefusesFiles m e c _ = ⊥
 

@@ -12,6 +12,7 @@ use Rattle.ned_types.specs.Types.{type_named}
 use Rattle.ned_trees.specs.declared.declarations.NedFile.{NedFile}
 use Rattle.model_edits.specs.declared.edit.Edit.{Edit}
 use Rattle.model_edits.specs.declared.edit.Refusal.{Refusal}
+use Rattle.model_data.specs.declared.faults.ConfigFault.TheVariants as configs
 use Rattle.model_edits.specs.declared.edit.Refusal.TheVariants as refusal
 use Rattle.file_edits.specs.declared.changes.TypedFiles.{TypedFiles}
 use Rattle.file_edits.specs.declared.error.FileError.{FileError}
@@ -57,8 +58,8 @@ told_of (file_errors.NoMemory error) = refusal.NoMemory error
 
 -- why a configuration has no chain in these lines
 abbrev pub RefusesChain : List IniLine → List ℕ → Refusal → Type 0
-RefusesChain lines config refusal.NoSuchConfig = is_section config lines ≡ false
-RefusesChain lines config refusal.ChainFault =
+RefusesChain lines config (refusal.Config configs.NoSuchConfig) = is_section config lines ≡ false
+RefusesChain lines config (refusal.Config configs.ChainFault) =
     (is_section config lines ≡ true) × ((chain : List (List ℕ)) → IsChain lines config chain → ⊥)
 RefusesChain lines config (refusal.NoMemory _) = Unit {0}
 RefusesChain lines config _ = ⊥

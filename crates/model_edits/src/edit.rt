@@ -18,6 +18,7 @@ use ini_trees::entries::network_entry;
 use ini_trees::error::ChainError;
 use ini_trees::lines::IniText;
 use ini_trees::speaks::last_name;
+use model_data::faults::ConfigFault;
 use model_data::model::Model;
 use model_injections::injection::{Due, Injection};
 use ned_inheritance::table::TypeFault;
@@ -85,13 +86,8 @@ pub enum Refusal {
     IniSyntax(usize, Reason),
     /// The types of the changed NED files make no model.
     Types(TypeFault),
-    /// The selected configuration isn't in the ini text.
-    NoSuchConfig,
-    /// The selected configuration extends one that isn't in the ini text, one twice, several that
-    /// can't be put in order, or in the end itself.
-    ChainFault,
-    /// The option `network` names no network.
-    NoSuchNetwork,
+    /// The selected configuration can't be run.
+    Config(ConfigFault),
     /// Memory ran out.
     NoMemory(NoMemory),
 }
@@ -131,8 +127,8 @@ fn chain_of(alloc: Global, lines: &IniText, config: &[u8]) -> Result<Items<Text>
 {
     match lines.chain(alloc, config) {
         Ok(chain) => Ok(chain),
-        Err(ChainError::NoSuchConfig) => Err(Refusal::NoSuchConfig),
-        Err(ChainError::ChainFault) => Err(Refusal::ChainFault),
+        Err(ChainError::NoSuchConfig) => Err(Refusal::Config(ConfigFault::NoSuchConfig)),
+        Err(ChainError::ChainFault) => Err(Refusal::Config(ConfigFault::ChainFault)),
         Err(ChainError::NoMemory(error)) => Err(Refusal::NoMemory(error)),
     }
 }
@@ -180,7 +176,7 @@ fn chain_with(
     if has_network(types, lines, chain.as_slice()) {
         Ok(chain)
     } else {
-        Err(Refusal::NoSuchNetwork)
+        Err(Refusal::Config(ConfigFault::NoSuchNetwork))
     }
 }
 

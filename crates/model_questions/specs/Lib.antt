@@ -3,3 +3,4 @@ pub mod Questions
 pub mod Gates
 pub mod Hops
 pub mod Answers
+pub mod Faults

@@ -2,6 +2,7 @@
 
 ghost use Rattle.std.specs.Prelude.{◌≡◌, IfOk};
 ghost use Rattle.model_questions.specs.Answers.{is_beyond};
+ghost use Rattle.model_questions.specs.Faults.{model_fault_name};
 
 use model_injections::injection::{Due, Injection, InjectionTurn};
 use module_api::call::Gate;
@@ -99,6 +100,30 @@ pub enum ModelFault {
     TooManyModules,
     /// Modules are nested too deep.
     TooDeep,
+}
+
+impl ModelFault {
+    /// Its name, as answers have it.
+    pub fn name(self) -> &'static [u8]
+        ensures { result.now ≡ model_fault_name self }
+    {
+        match self {
+            ModelFault::UnknownType => b"UnknownType",
+            ModelFault::Interface => b"Interface",
+            ModelFault::Unassigned => b"Unassigned",
+            ModelFault::Circle => b"Circle",
+            ModelFault::Overflow => b"Overflow",
+            ModelFault::Inexact => b"Inexact",
+            ModelFault::Mismatch => b"Mismatch",
+            ModelFault::GateSize => b"GateSize",
+            ModelFault::NoGate => b"NoGate",
+            ModelFault::AlreadyConnected => b"AlreadyConnected",
+            ModelFault::Unconnected => b"Unconnected",
+            ModelFault::TooManyTurns => b"TooManyTurns",
+            ModelFault::TooManyModules => b"TooManyModules",
+            ModelFault::TooDeep => b"TooDeep",
+        }
+    }
 }
 
 /// A submodule that a compound module is built with.

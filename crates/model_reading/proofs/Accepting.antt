@@ -8,7 +8,7 @@ use Rattle.ned_syntax.specs.Grammar.{file}
 use Rattle.ned_syntax.specs.NedText.{IsNedFile}
 use Rattle.ned_syntax.proofs.GrammarLaws.{file-lawful}
 use Rattle.ned_inheritance.specs.declared.table.TypeFault.{TypeFault}
-use Rattle.ned_inheritance.specs.declared.table.TypeFault.TheVariants as types
+use Rattle.model_data.specs.declared.faults.ConfigFault.TheVariants as configs
 use Rattle.ned_scopes.specs.Scopes.{types_of}
 use Rattle.ned_inheritance.specs.Inheritance.{flat_types}
 use Rattle.ned_inheritance.specs.Building.{fault_of}
@@ -93,18 +93,14 @@ ruled_out texts ini config (fault.NedSyntax at line) why m is =
     let here = file_at texts at why.1.text is.read.read.files why.1.here is.read.read.declared in
     absurd (why.1.none here.0 here.1)
 ruled_out texts ini config (fault.IniSyntax line reason) why m is = absurd (bad_text line ini is.read.read.lines why.1.blamed is.read.read.said)
-ruled_out texts ini config fault.DuplicateType why m is = absurd (together texts ini types.DuplicateType is.read.read why.1)
-ruled_out texts ini config fault.UnknownType why m is = absurd (together texts ini types.UnknownType is.read.read why.1)
-ruled_out texts ini config fault.InheritanceCircle why m is = absurd (together texts ini types.InheritanceCircle is.read.read why.1)
-ruled_out texts ini config fault.KindClash why m is = absurd (together texts ini types.KindClash is.read.read why.1)
-ruled_out texts ini config fault.Interface why m is = absurd (together texts ini types.Interface is.read.read why.1)
-ruled_out texts ini config fault.NoSuchConfig why m is =
+ruled_out texts ini config (fault.Types kind) why m is = absurd (together texts ini kind is.read.read why.1)
+ruled_out texts ini config (fault.Config configs.NoSuchConfig) why m is =
     let lines = lines_same texts ini why.read is.read.read in
     absurd (truth_apart (is_section config is.read.read.lines) is.read.exists (sym (ap (λ (l : List IniLine). is_section config l) lines) ∙ why.missing))
-ruled_out texts ini config fault.ChainFault why m is =
+ruled_out texts ini config (fault.Config configs.ChainFault) why m is =
     let lines = lines_same texts ini why.read is.read.read in
     absurd (why.none m.chain (subst (λ (l : List IniLine). IsChain l config m.chain) (sym lines) is.read.chained))
-ruled_out texts ini config fault.NoSuchNetwork why m is =
+ruled_out texts ini config (fault.Config configs.NoSuchNetwork) why m is =
     let same = one_model texts ini config why.model m why.read is.read in
     absurd (no_network (network_of m) (sym (ap network_of same) ∙ why.none) is.network)
 

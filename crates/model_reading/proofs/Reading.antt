@@ -8,9 +8,9 @@ use Rattle.model_reading.specs.declared.begin.BeginFault.{BeginFault}
 use Rattle.model_reading.specs.declared.begin.BeginFault.TheVariants as fault
 use Rattle.ned_trees.specs.declared.declarations.TypeDeclaration.{TypeDeclaration}
 use Rattle.ned_inheritance.specs.declared.table.TypeFault.{TypeFault}
-use Rattle.ned_inheritance.specs.declared.table.TypeFault.TheVariants as types
+use Rattle.model_data.specs.declared.faults.ConfigFault.TheVariants as configs
 use Rattle.ned_inheritance.specs.Building.{fault_of}
-use Rattle.model_reading.specs.Models.{AreNedFiles, AreRead, RefusesFile, RefusesFiles, RefusesConfig, Refuses, RefusesTypes, is_large, refusal_of}
+use Rattle.model_reading.specs.Models.{AreNedFiles, AreRead, RefusesFile, RefusesFiles, RefusesConfig, Refuses, RefusesTypes, is_large}
 
 large_here : (ts : List (List ℕ)) (t : List ℕ) (o : Bool) → o ≡ true → (o || list_any is_large ts) ≡ true
 large_here ts t true e = refl
@@ -38,14 +38,8 @@ blames ts n t before (fault.NedSyntax at line) declared here is = record {
 blames ts n t before fault.TooLarge declared here is = holds_large ts n t here is
 blames ts n t before (fault.NoMemory _) declared here is = tt
 blames ts n t before (fault.IniSyntax line reason) declared here is = absurd is
-blames ts n t before fault.DuplicateType declared here is = absurd is
-blames ts n t before fault.UnknownType declared here is = absurd is
-blames ts n t before fault.InheritanceCircle declared here is = absurd is
-blames ts n t before fault.KindClash declared here is = absurd is
-blames ts n t before fault.Interface declared here is = absurd is
-blames ts n t before fault.NoSuchConfig declared here is = absurd is
-blames ts n t before fault.ChainFault declared here is = absurd is
-blames ts n t before fault.NoSuchNetwork declared here is = absurd is
+blames ts n t before (fault.Types why) declared here is = absurd is
+blames ts n t before (fault.Config why) declared here is = absurd is
 
 -- one more file
 pub one_more : (ts : List (List ℕ)) (t : List ℕ) (fs : List NedFile) (f : NedFile) → AreNedFiles ts fs → IsNedFile t f → AreNedFiles (ts ++ t ∷ []) (fs ++ f ∷ [])
@@ -58,18 +52,14 @@ one_more (u ∷ ts) t (g ∷ fs) f are is = (are.0, one_more ts t fs f are.1 is)
 
 -- why a configuration is refused, where all else is read
 pub config_refused : (texts : List (List ℕ)) (ini config : List ℕ) (read : AreRead texts ini) (f : BeginFault) → RefusesConfig read.lines config f → Refuses texts ini config f
-config_refused texts ini config read fault.NoSuchConfig is = record { read = read; missing = is }
-config_refused texts ini config read fault.ChainFault is = record { read = read; exists = is.0; none = is.1 }
+config_refused texts ini config read (fault.Config configs.NoSuchConfig) is = record { read = read; missing = is }
+config_refused texts ini config read (fault.Config configs.ChainFault) is = record { read = read; exists = is.0; none = is.1 }
 config_refused texts ini config read (fault.NoMemory _) is = tt
 config_refused texts ini config read (fault.NedSyntax at line) is = absurd is
 config_refused texts ini config read fault.TooLarge is = absurd is
 config_refused texts ini config read (fault.IniSyntax line reason) is = absurd is
-config_refused texts ini config read fault.DuplicateType is = absurd is
-config_refused texts ini config read fault.UnknownType is = absurd is
-config_refused texts ini config read fault.InheritanceCircle is = absurd is
-config_refused texts ini config read fault.KindClash is = absurd is
-config_refused texts ini config read fault.Interface is = absurd is
-config_refused texts ini config read fault.NoSuchNetwork is = absurd is
+config_refused texts ini config read (fault.Types why) is = absurd is
+config_refused texts ini config read (fault.Config configs.NoSuchNetwork) is = absurd is
 
 -- ---- an answer by a test
 
@@ -80,11 +70,3 @@ none_copied (Some x) e = cc
 pub some_copied : {T : Type 0} (o : Option (Bor T)) → is_some o ≡ true → IsSome (option_copied o)
 some_copied None e = cc
 some_copied (Some x) e = refl
-
--- types with a fault are refused
-pub refused_by : (declared : List TypeDeclaration) (why : TypeFault) → fault_of declared ≡ Some why → RefusesTypes declared (refusal_of why)
-refused_by declared types.DuplicateType h = h
-refused_by declared types.UnknownType h = h
-refused_by declared types.InheritanceCircle h = h
-refused_by declared types.KindClash h = h
-refused_by declared types.Interface h = h

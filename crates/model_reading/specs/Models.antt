@@ -5,6 +5,7 @@ use Rattle.sim_values.specs.Memory.{no_memory}
 use Rattle.ini_trees.specs.declared.lines.IniLine.{IniLine}
 use Rattle.ini_config.specs.Meaning.{IsIniText, FirstBad}
 use Rattle.ini_trees.specs.Sections.{IsChain, is_section}
+use Rattle.model_data.specs.declared.faults.ConfigFault.TheVariants as configs
 use Rattle.model_data.specs.declared.model.Model.{Model}
 use Rattle.model_data.specs.Models.{network_of}
 use Rattle.sim_values.specs.Limits.{max_length}
@@ -14,7 +15,6 @@ use Rattle.ned_trees.specs.declared.declarations.TypeDeclaration.{TypeDeclaratio
 use Rattle.ned_syntax.specs.Grammar.{file}
 use Rattle.ned_syntax.specs.NedText.{IsNedFile}
 use Rattle.ned_inheritance.specs.declared.table.TypeFault.{TypeFault}
-use Rattle.ned_inheritance.specs.declared.table.TypeFault.TheVariants as types
 use Rattle.ned_scopes.specs.Scopes.{types_of}
 use Rattle.ned_inheritance.specs.Inheritance.{flat_types}
 use Rattle.ned_inheritance.specs.Building.{fault_of}
@@ -98,20 +98,8 @@ RefusesIni bytes fault.TooLarge = is_large bytes ≡ true
 RefusesIni bytes (fault.NoMemory _) = Unit {0}
 RefusesIni bytes _ = ⊥
 
--- the refusal of types with that fault
-abbrev pub refusal_of : TypeFault → BeginFault
-refusal_of types.DuplicateType = fault.DuplicateType
-refusal_of types.UnknownType = fault.UnknownType
-refusal_of types.InheritanceCircle = fault.InheritanceCircle
-refusal_of types.KindClash = fault.KindClash
-refusal_of types.Interface = fault.Interface
-
 abbrev pub RefusesTypes : List TypeDeclaration → BeginFault → Type 0
-RefusesTypes declared fault.DuplicateType = fault_of declared ≡ Some types.DuplicateType
-RefusesTypes declared fault.UnknownType = fault_of declared ≡ Some types.UnknownType
-RefusesTypes declared fault.InheritanceCircle = fault_of declared ≡ Some types.InheritanceCircle
-RefusesTypes declared fault.KindClash = fault_of declared ≡ Some types.KindClash
-RefusesTypes declared fault.Interface = fault_of declared ≡ Some types.Interface
+RefusesTypes declared (fault.Types why) = fault_of declared ≡ Some why
 RefusesTypes declared (fault.NoMemory _) = Unit {0}
 RefusesTypes declared _ = ⊥
 
@@ -142,8 +130,8 @@ pub record HasNoChain (texts : List (List ℕ)) (ini config : List ℕ) : Type 0
 
 -- why the lines make no configuration of that name
 abbrev pub RefusesConfig : List IniLine → List ℕ → BeginFault → Type 0
-RefusesConfig lines config fault.NoSuchConfig = is_section config lines ≡ false
-RefusesConfig lines config fault.ChainFault =
+RefusesConfig lines config (fault.Config configs.NoSuchConfig) = is_section config lines ≡ false
+RefusesConfig lines config (fault.Config configs.ChainFault) =
     (is_section config lines ≡ true) × ((chain : List (List ℕ)) → IsChain lines config chain → ⊥)
 RefusesConfig lines config (fault.NoMemory _) = Unit {0}
 RefusesConfig lines config _ = ⊥
@@ -159,14 +147,10 @@ abbrev pub Refuses : List (List ℕ) → List ℕ → List ℕ → BeginFault �
 Refuses texts ini config fault.TooLarge = is_too_large texts ini ≡ true
 Refuses texts ini config (fault.NedSyntax at line) = (is_too_large texts ini ≡ false) × IsBlamed texts at line
 Refuses texts ini config (fault.IniSyntax line reason) = (is_too_large texts ini ≡ false) × IsIniBlamed texts ini line
-Refuses texts ini config fault.DuplicateType = (is_too_large texts ini ≡ false) × AreApart texts ini types.DuplicateType
-Refuses texts ini config fault.UnknownType = (is_too_large texts ini ≡ false) × AreApart texts ini types.UnknownType
-Refuses texts ini config fault.InheritanceCircle = (is_too_large texts ini ≡ false) × AreApart texts ini types.InheritanceCircle
-Refuses texts ini config fault.KindClash = (is_too_large texts ini ≡ false) × AreApart texts ini types.KindClash
-Refuses texts ini config fault.Interface = (is_too_large texts ini ≡ false) × AreApart texts ini types.Interface
-Refuses texts ini config fault.NoSuchConfig = IsNotSelected texts ini config
-Refuses texts ini config fault.ChainFault = HasNoChain texts ini config
-Refuses texts ini config fault.NoSuchNetwork = HasNoNetwork texts ini config
+Refuses texts ini config (fault.Types why) = (is_too_large texts ini ≡ false) × AreApart texts ini why
+Refuses texts ini config (fault.Config configs.NoSuchConfig) = IsNotSelected texts ini config
+Refuses texts ini config (fault.Config configs.ChainFault) = HasNoChain texts ini config
+Refuses texts ini config (fault.Config configs.NoSuchNetwork) = HasNoNetwork texts ini config
 Refuses texts ini config (fault.NoMemory _) = Unit {0}
 
 -- Where the texts make a model, nothing refuses them but lack of memory.

@@ -9,7 +9,8 @@ ghost use Rattle.ned_syntax.specs.NedText.{IsNedFile};
 ghost use Rattle.ned_scopes.specs.Scopes.{types_of};
 ghost use Rattle.ned_inheritance.specs.Inheritance.{flat_types};
 ghost use Rattle.ned_inheritance.specs.Building.{fault_of};
-ghost use Rattle.model_reading.specs.Models.{refusal_of, AreNedFiles, IsModelOf, IsOnlyModelOf, IsRuledOut, RefusesFile, RefusesFiles, RefusesIni, RefusesTypes, RefusesConfig, Refuses, is_large, is_too_large};
+ghost use Rattle.model_reading.specs.Faults.{begin_fault_name};
+ghost use Rattle.model_reading.specs.Models.{AreNedFiles, IsModelOf, IsOnlyModelOf, IsRuledOut, RefusesFile, RefusesFiles, RefusesIni, RefusesTypes, RefusesConfig, Refuses, is_large, is_too_large};
 
 use file_edits::tables;
 use ini_config::error::IniError;
@@ -17,6 +18,7 @@ use ini_config::parse::parse_ini;
 use ini_entries::reason::Reason;
 use ini_trees::error::ChainError;
 use ini_trees::lines::IniText;
+use model_data::faults::ConfigFault;
 use model_data::model::Model;
 use ned_files::shared;
 use ned_files::shared::SharedFile;
@@ -44,28 +46,28 @@ pub enum BeginFault {
     NedSyntax(usize, usize),
     /// The first line of the ini text that means nothing, and why.
     IniSyntax(usize, Reason),
-    /// Two types have one name, or one has that of a built-in channel.
-    DuplicateType,
-    /// A submodule's type or interface, the channel of a connection, what a type extends, or one of
-    /// its interfaces isn't declared.
-    UnknownType,
-    /// A type extends itself, perhaps by way of others.
-    InheritanceCircle,
-    /// What a type extends or one of its interfaces is of another kind, a member is declared twice,
-    /// a value is given to an undeclared parameter or after a fixed one, a submodule's type is none
-    /// of modules, or what a connection names as its channel is no channel.
-    KindClash,
-    /// A type lacks a parameter or a gate of one of its interfaces.
-    Interface,
-    /// The configuration isn't in the ini text.
-    NoSuchConfig,
-    /// The configuration extends one that isn't in the ini text, one twice, several that can't be
-    /// put in order, or in the end itself.
-    ChainFault,
-    /// The option `network` names no network.
-    NoSuchNetwork,
+    /// The types of the NED files make no model.
+    Types(TypeFault),
+    /// The configuration can't be run.
+    Config(ConfigFault),
     /// Memory ran out.
     NoMemory(NoMemory),
+}
+
+impl BeginFault {
+    /// Its name, as answers have it.
+    pub fn name(self) -> &'static [u8]
+        ensures { result.now ≡ begin_fault_name self }
+    {
+        match self {
+            BeginFault::TooLarge => b"TooLarge",
+            BeginFault::NedSyntax(_, _) => b"NedSyntax",
+            BeginFault::IniSyntax(_, _) => b"IniSyntax",
+            BeginFault::Types(fault) => fault.name(),
+            BeginFault::Config(fault) => fault.name(),
+            BeginFault::NoMemory(_) => b"NoMemory",
+        }
+    }
 }
 
 impl From<AllocError> for BeginFault {
@@ -151,20 +153,6 @@ fn lines_of(alloc: Global, bytes: &[u8]) -> Result<IniText, BeginFault>
     }
 }
 
-/// The refusal of types with that fault.
-fn refusal_of(fault: TypeFault) -> BeginFault
-    ensures { result ≡ refusal_of fault }
-{
-    match fault {
-        TypeFault::DuplicateType => BeginFault::DuplicateType,
-        TypeFault::UnknownType => BeginFault::UnknownType,
-        TypeFault::InheritanceCircle => BeginFault::InheritanceCircle,
-        TypeFault::KindClash => BeginFault::KindClash,
-        TypeFault::Interface => BeginFault::Interface,
-    }
-}
-
-#[tactic(auto, using(crate::proofs::Reading::refused_by))]
 /// The flat types that the files declare.
 fn table_of(alloc: Global, files: &Items<SharedFile>) -> Result<TypeTable, BeginFault>
     ensures accepted { let types = types_of files.now in
@@ -173,7 +161,7 @@ fn table_of(alloc: Global, files: &Items<SharedFile>) -> Result<TypeTable, Begin
 {
     match tables::table_of(alloc, files.as_slice()) {
         Ok(table) => Ok(table),
-        Err(BuildError::Fault(fault, _)) => Err(refusal_of(fault)),
+        Err(BuildError::Fault(fault, _)) => Err(BeginFault::Types(fault)),
         Err(BuildError::NoMemory(error)) => Err(BeginFault::NoMemory(error)),
     }
 }
@@ -186,8 +174,8 @@ fn chain_of(alloc: Global, lines: &IniText, config: &[u8]) -> Result<Items<Text>
 {
     match lines.chain(alloc, config) {
         Ok(chain) => Ok(chain),
-        Err(ChainError::NoSuchConfig) => Err(BeginFault::NoSuchConfig),
-        Err(ChainError::ChainFault) => Err(BeginFault::ChainFault),
+        Err(ChainError::NoSuchConfig) => Err(BeginFault::Config(ConfigFault::NoSuchConfig)),
+        Err(ChainError::ChainFault) => Err(BeginFault::Config(ConfigFault::ChainFault)),
         Err(ChainError::NoMemory(error)) => Err(BeginFault::NoMemory(error)),
     }
 }
@@ -220,7 +208,7 @@ fn read_model(
         last_injection: 0,
     };
     if model.network().is_none() {
-        return Err(BeginFault::NoSuchNetwork);
+        return Err(BeginFault::Config(ConfigFault::NoSuchNetwork));
     }
     Ok(model)
 }

@@ -5,5 +5,4 @@ pub mod Meaning
 pub mod Names
 pub mod Prompts
 pub mod Values
-pub mod Reads
 pub mod Spelling

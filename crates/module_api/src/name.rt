@@ -68,16 +68,6 @@ impl Name {
         Text::from_bytes(alloc, self.as_bytes())
     }
 
-    /// An equal name. That of a word takes no memory.
-    pub fn copy(&self, alloc: Global) -> Result<Name, AllocError>
-        ensures { IfOk result (λ copy. copy ≡ self.now) }
-    {
-        match &self.bytes {
-            Bytes::Word(word) => Ok(Name::word(word)),
-            Bytes::Owned(text) => Ok(Name::of_text(text.copy(alloc)?)),
-        }
-    }
-
     /// Whether these are its bytes.
     pub fn is(&self, bytes: &[u8]) -> bool
         ensures { result ≡ bytes_eq self.now bytes.now }

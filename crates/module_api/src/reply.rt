@@ -1,7 +1,6 @@
 //! What a module answers to a call.
 
 ghost use Rattle.std.specs.Prelude.{◌≡◌, IfOk};
-ghost use Rattle.module_api.specs.Reads.{same_read};
 ghost use Rattle.module_api.specs.Actions.{has_large_payload};
 
 use crate::message::{MAX_PAYLOAD, Outgoing};
@@ -18,29 +17,6 @@ pub enum Read {
     Parameter(Name),
     /// The direction and size of the gate of that name, or that there is none.
     Gate(Name),
-}
-
-impl Read {
-    /// An equal one.
-    pub fn copy(&self, alloc: Global) -> Result<Read, AllocError>
-        ensures { IfOk result (λ copy. copy ≡ self.now) }
-    {
-        match self {
-            Read::Parameter(name) => Ok(Read::Parameter(name.copy(alloc)?)),
-            Read::Gate(name) => Ok(Read::Gate(name.copy(alloc)?)),
-        }
-    }
-
-    /// Whether both are the same.
-    pub fn is(&self, other: &Read) -> bool
-        ensures { result ≡ same_read self.now other.now }
-    {
-        match (self, other) {
-            (Read::Parameter(name), Read::Parameter(other)) => name.is(other.as_bytes()),
-            (Read::Gate(name), Read::Gate(other)) => name.is(other.as_bytes()),
-            _ => false,
-        }
-    }
 }
 
 /// A gate of the module that acts. An inout gate has the halves `NAME$i` and `NAME$o`.

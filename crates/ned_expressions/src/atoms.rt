@@ -9,7 +9,7 @@ use ned_leaves::literals::plain_literal;
 use ned_tokens::refusal::Refusal;
 use ned_tokens::token::{Keyword, Mark, Token};
 use ned_trees::expressions::{Choice, Expression, Scope};
-use ned_trees::refusals::refused;
+use sim_values::dropping::err_dropping;
 use sim_values::text::{Text, spells};
 use sqlite_items::Boxed;
 use std::alloc::Global;

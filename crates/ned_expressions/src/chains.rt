@@ -11,7 +11,7 @@ use ned_leaves::leaves::mark;
 use ned_tokens::refusal::Refusal;
 use ned_tokens::token::{Mark, Token};
 use ned_trees::expressions::{Expression, Operator};
-use ned_trees::refusals::refused;
+use sim_values::dropping::err_dropping;
 use sqlite_items::Boxed;
 use std::alloc::{AllocError, Global};
 
@@ -220,6 +220,6 @@ pub(crate) fn whole_expression(alloc: Global, tokens: &[Token]) -> Result<Expres
     let (expression, rest) = read!(expression(alloc, tokens));
     match rest {
         [] => Ok(expression),
-        _ => Err(refused(expression, Refusal::At(rest.len()))),
+        _ => Err(err_dropping(expression, Refusal::At(rest.len()))),
     }
 }

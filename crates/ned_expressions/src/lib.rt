@@ -19,7 +19,7 @@ macro_rules! read_behind {
     ($held:expr, $reading:expr) => {
         match $reading {
             Ok(it) => it,
-            Err(refusal) => return Err(refused($held, refusal)),
+            Err(refusal) => return Err(err_dropping($held, refusal)),
         }
     };
 }

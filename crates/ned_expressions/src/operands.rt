@@ -13,7 +13,7 @@ use ned_leaves::leaves::{begins_mark, mark, name, word};
 use ned_tokens::refusal::Refusal;
 use ned_tokens::token::{Keyword, Mark, Token};
 use ned_trees::expressions::{Choice, Expression, Sign};
-use ned_trees::refusals::refused;
+use sim_values::dropping::err_dropping;
 use sim_values::text::Text;
 use sqlite_items::Boxed;
 use std::alloc::{AllocError, Global};

@@ -2,7 +2,7 @@
 
 ghost use Rattle.std.specs.Prelude.{◌≡◌, ◌<◌, length, IfOk, IfErr, Err};
 ghost use Rattle.sim_values.specs.Limits.{max_length};
-ghost use Rattle.ned_leaves.specs.ExpressionText.{Answers};
+ghost use Rattle.ned_leaves.specs.Answers.{Answers};
 ghost use Rattle.ned_expressions.specs.ExpressionText.{IsExpressionText, ExplainsExpression, NamesFirstOfExpression};
 ghost use Rattle.ned_trees.specs.declared.expressions.Expression.{Expression};
 

@@ -9,3 +9,4 @@ pub mod Named
 pub mod Order
 pub mod Flats
 pub mod Repeated
+pub mod Faults

@@ -27,8 +27,8 @@ use crate::table::{BuildError, TypeFault};
 use crate::webs::circle_place;
 use indexmap::IndexSet;
 use ned_trees::declarations::{Submodule, SubmoduleType, TypeDeclaration, TypeKind};
-use ned_trees::refusals::refused;
 use ned_types::flat::type_name;
+use sim_values::dropping::err_dropping;
 use sim_values::text::spells;
 use sqlite_items::Items;
 use std::alloc::{AllocError, Global};
@@ -79,7 +79,7 @@ fn built_by<'a>(
         return Err(BuildError::Fault(TypeFault::InheritanceCircle, place));
     };
     if let Some(place) = other_place(named, types) {
-        return Err(refused(order, BuildError::Fault(TypeFault::KindClash, place)));
+        return Err(err_dropping(order, BuildError::Fault(TypeFault::KindClash, place)));
     }
     let flat = flat_over(alloc, order, types)?;
     faultless(alloc, flat)
@@ -110,8 +110,8 @@ fn faultless(
 {
     match flat_fault(alloc, types.as_slice()) {
         Ok(None) => Ok(types),
-        Ok(Some((fault, place))) => Err(refused(types, BuildError::Fault(fault, place))),
-        Err(error) => Err(refused(types, error.into())),
+        Ok(Some((fault, place))) => Err(err_dropping(types, BuildError::Fault(fault, place))),
+        Err(error) => Err(err_dropping(types, error.into())),
     }
 }
 

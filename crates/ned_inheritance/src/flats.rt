@@ -16,7 +16,7 @@ use indexmap::IndexMap;
 use ned_scopes::copies::{add_gates, add_lines, add_names, add_submodules, copy_base, copy_type};
 use ned_trees::declarations::{SectionLine, TypeDeclaration, TypeKind};
 use ned_types::flat::{class_in, class_of};
-use ned_types::made::{behind, changed};
+use sim_values::dropping::{after, pair_after};
 use sim_values::text::Text;
 use sqlite_items::Items;
 use std::alloc::{AllocError, Global};
@@ -55,7 +55,7 @@ fn class_lines(
 {
     let mut lines = Items::new(alloc);
     let done = add_class_line(alloc, &mut lines, kind, class);
-    changed(lines, done)
+    after(lines, done)
 }
 
 /// A type of that class that extends another, before it has any member.
@@ -67,8 +67,8 @@ fn bare_derived(
     ensures { IfOk result (λ flat. flat ≡ bare_derived_with class.now declared.now) }
 {
     let name = declared.name.copy(alloc)?;
-    let (name, base) = behind(name, copy_base(alloc, &declared.base))?;
-    let (name, lines) = behind(name, class_lines(alloc, declared.kind, class))?;
+    let (name, base) = pair_after(name, copy_base(alloc, &declared.base))?;
+    let (name, lines) = pair_after(name, class_lines(alloc, declared.kind, class))?;
     Ok(TypeDeclaration {
         kind: declared.kind,
         name,
@@ -128,7 +128,7 @@ fn with_inherited(
 {
     let mut flat = flat;
     let done = add_inherited(alloc, &mut flat, base);
-    changed(flat, done)
+    after(flat, done)
 }
 
 /// The class of a type whose base has this flat type.
@@ -249,7 +249,7 @@ fn flats_of<'a>(
 {
     let mut flats = IndexMap::new(alloc);
     let done = add_flats(alloc, lines, &mut flats, order);
-    changed(flats, done)
+    after(flats, done)
 }
 
 /// The flat type of a type; the type itself where there is none.
@@ -291,7 +291,7 @@ fn found_all(
 {
     let mut flat = Items::new(alloc);
     let done = add_found(alloc, &mut flat, flats, types);
-    changed(flat, done)
+    after(flat, done)
 }
 
 /// The flat type of each, where these are the lines of the interfaces among the types, and an order

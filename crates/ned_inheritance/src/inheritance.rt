@@ -13,7 +13,7 @@ use ned_scopes::connections::add_items;
 use ned_scopes::copies::{add_gates, add_lines, add_names, add_submodules};
 use ned_trees::connections::ConnectionSection;
 use ned_trees::declarations::{TypeDeclaration, TypeKind};
-use ned_types::made::changed;
+use sim_values::dropping::after;
 use sim_values::text::Text;
 use sqlite_items::Items;
 use std::alloc::{AllocError, Global};
@@ -172,7 +172,7 @@ fn with_gathered(
 {
     let mut flat = flat;
     let done = add_gathered(alloc, &mut flat, line);
-    changed(flat, done)
+    after(flat, done)
 }
 
 /// A type with the members of another after its own.
@@ -185,7 +185,7 @@ pub(crate) fn with_own(
 {
     let mut flat = flat;
     let done = add_members(alloc, &mut flat, declared);
-    changed(flat, done)
+    after(flat, done)
 }
 
 /// An interface with all that it extends.

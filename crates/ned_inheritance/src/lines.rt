@@ -9,7 +9,7 @@ use crate::named::NamedTypes;
 use crate::order::is_interface_kind;
 use indexmap::IndexMap;
 use ned_trees::declarations::TypeDeclaration;
-use ned_types::made::changed;
+use sim_values::dropping::after;
 use sim_values::text::Text;
 use std::alloc::{AllocError, Global};
 
@@ -139,5 +139,5 @@ pub(crate) fn lines_of<'a>(
 {
     let mut lines = IndexMap::new(alloc);
     let done = add_interfaces(alloc, &mut lines, order);
-    changed(lines, done)
+    after(lines, done)
 }

@@ -2,7 +2,7 @@
 
 use indexmap::IndexMap;
 use ned_trees::declarations::{GateLine, SectionLine, TypeDeclaration};
-use ned_types::made::changed;
+use sim_values::dropping::after;
 use std::alloc::{AllocError, Global};
 
 /// The number of the line that declares each parameter, and of that which declares each gate, by
@@ -83,5 +83,5 @@ pub(crate) fn member_lines<'a>(
         gates: IndexMap::new(alloc),
     };
     let done = lines.add_members(declared);
-    changed(lines, done)
+    after(lines, done)
 }

@@ -4,6 +4,7 @@ ghost use Rattle.std.specs.Prelude.{◌≡◌, IfOk};
 ghost use Rattle.ned_scopes.specs.Scopes.{types_of};
 ghost use Rattle.ned_types.specs.WellFormed.{IsWellFormed};
 ghost use Rattle.ned_inheritance.specs.Inheritance.{flat_types};
+ghost use Rattle.ned_inheritance.specs.Faults.{type_fault_name};
 ghost use Rattle.ned_inheritance.specs.Building.{AnswersTable, Builds, KeepRules};
 
 use crate::faults;
@@ -16,7 +17,7 @@ use sqlite_items::Items;
 use std::alloc::{AllocError, Global};
 
 /// Why declared types make no model. Of several reasons the first in this order is told.
-#[derive(Clone, Copy)]
+#[derive(Clone, Copy, Debug, PartialEq, Eq)]
 pub enum TypeFault {
     /// Two types have one name, or one has that of a built-in channel.
     DuplicateType,
@@ -34,6 +35,21 @@ pub enum TypeFault {
     KindClash,
     /// A type lacks a parameter or a gate of one of its interfaces.
     Interface,
+}
+
+impl TypeFault {
+    /// Its name, as answers have it.
+    pub fn name(self) -> &'static [u8]
+        ensures { result.now ≡ type_fault_name self }
+    {
+        match self {
+            TypeFault::DuplicateType => b"DuplicateType",
+            TypeFault::UnknownType => b"UnknownType",
+            TypeFault::InheritanceCircle => b"InheritanceCircle",
+            TypeFault::KindClash => b"KindClash",
+            TypeFault::Interface => b"Interface",
+        }
+    }
 }
 
 /// Why there is no table.

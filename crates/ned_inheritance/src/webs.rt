@@ -4,7 +4,7 @@ use crate::named::NamedTypes;
 use crate::order::is_interface_kind;
 use crate::places::{FaultPlace, Member};
 use ned_trees::declarations::TypeDeclaration;
-use ned_types::made::changed;
+use sim_values::dropping::after;
 use sim_values::text::Text;
 use std::alloc::{AllocError, Global};
 
@@ -101,7 +101,7 @@ fn web_of(
         edges: Vec::new(alloc),
     };
     let done = add_edges(&mut web, named, types);
-    changed(web, done)
+    after(web, done)
 }
 
 /// The edge at that place.

@@ -4,11 +4,9 @@ use Rattle.std.specs.Prelude.{pos}
 use Rattle.sim_values.specs.declared.value.Value.TheVariants as values
 use Rattle.ned_tokens.specs.declared.token.Keyword.{Keyword}
 use Rattle.ned_tokens.specs.declared.token.Mark.{Mark}
-use Rattle.ned_tokens.specs.declared.token.Mark.TheVariants as m
 use Rattle.ned_tokens.specs.declared.token.Token.TheVariants as token
-use Rattle.ned_leaves.specs.Grammar.{is_word, is_mark, name_of, word, mark, name, literal_of, number_of, plain_literal, number, negative_literal, literal, expression}
-use Rattle.ned_tokens.proofs.ViableLaws.{Viable, token-viable, either-viable, before_on, mapped_on}
-use Rattle.ned_leaves.proofs.GrammarLaws as laws
+use Rattle.ned_leaves.specs.Grammar.{is_word, is_mark, name_of, word, mark, name, literal_of, plain_literal}
+use Rattle.ned_tokens.proofs.ViableLaws.{Viable, token-viable}
 
 pub word_on : (k : Keyword) → is_word k (token.Word k) ≡ Some tt → Viable (word k)
 unfolding word
@@ -28,19 +26,3 @@ name_on = token-viable name_of (token.Name letter) letter refl
 pub plain_literal_on : Viable plain_literal
 unfolding plain_literal
 plain_literal_on = token-viable literal_of (token.Number 0) (values.Whole (pos 0)) refl
-
-number_on : Viable number
-unfolding number
-number_on = token-viable number_of (token.Number 0) 0 refl
-
-negative_literal_on : Viable negative_literal
-unfolding negative_literal
-negative_literal_on = mapped_on (before_on (laws.mark-lawful m.Minus) (mark_on m.Minus refl) number_on)
-
-literal_on : Viable literal
-unfolding literal
-literal_on = either-viable negative_literal plain_literal negative_literal_on plain_literal_on
-
-pub expression_on : Viable expression
-unfolding expression
-expression_on = mapped_on literal_on

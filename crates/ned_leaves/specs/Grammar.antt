@@ -1,7 +1,7 @@
 -- The grammar of what NED texts and ini texts share, over tokens (OMNeT++ Simulation Manual, "NED
--- Language Grammar"). `a ▷ b` is a and then b, with the value of b.
+-- Language Grammar").
 use denote.Enum.Bare.{sameb}
-use Rattle.std.specs.Prelude.{ℕ, pos, neg_ℤ, Bool, true, false, List, Option, Some, None, if◌then◌else◌, codes}
+use Rattle.std.specs.Prelude.{ℕ, pos, Bool, true, false, List, Option, Some, None, if◌then◌else◌, codes}
 use Rattle.std.specs.Str.{bytes_eq}
 use Rattle.sim_values.specs.declared.value.Value.{Value}
 use Rattle.sim_values.specs.declared.value.Value.TheVariants as values
@@ -15,9 +15,7 @@ use Rattle.ned_tokens.specs.declared.token.Mark.TheVariants as m
 use Rattle.ned_tokens.specs.declared.token.Token.{Token}
 use Rattle.ned_tokens.specs.declared.token.Token.TheVariants as token
 use Rattle.ned_tokens.specs.Digits.{below_limit}
-use Rattle.ned_tokens.specs.Rule.{Rule, token as one_token, ◌▷◌, made, either}
-use Rattle.ned_leaves.specs.declared.ast.Expression.{Expression}
-use Rattle.ned_leaves.specs.declared.ast.Expression.TheVariants as expressions
+use Rattle.ned_tokens.specs.Rule.{Rule, token as one_token}
 use Rattle.ned_trees.specs.declared.modes.Mode.{Mode}
 use Rattle.ned_trees.specs.declared.modes.Mode.TheVariants as modes_are
 
@@ -75,30 +73,8 @@ literal_of (token.Literal text) = Some (values.Text text)
 literal_of (token.Quantity d n) = quantity_value d (below_limit n)
 literal_of _ = None
 
-abbrev pub number_of : Token → Option ℕ
-number_of (token.Number n) = below_limit n
-number_of _ = None
-
 unfoldable pub plain_literal : Rule Value
 plain_literal = one_token literal_of
-
-unfoldable pub number : Rule ℕ
-number = one_token number_of
-
-abbrev pub negated : ℕ → Value
-negated n = values.Whole (neg_ℤ (pos n))
-
--- "-" number
-unfoldable pub negative_literal : Rule Value
-negative_literal = made negated (mark m.Minus ▷ number)
-
--- a literal: "-" number, or one without a sign
-unfoldable pub literal : Rule Value
-literal = either negative_literal plain_literal
-
--- an expression: so far a literal
-unfoldable pub expression : Rule Expression
-expression = made expressions.Literal literal
 
 -- ---- recording modes
 

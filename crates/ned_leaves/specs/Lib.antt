@@ -1,2 +1,2 @@
 pub mod Grammar
-pub mod ExpressionText
+pub mod Answers

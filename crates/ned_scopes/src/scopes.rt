@@ -9,7 +9,7 @@ use crate::known::{Known, KnownTypes, TypesByName};
 use crate::names::{inner_name, resolved, scopes_of};
 use crate::plain::plain_types;
 use ned_trees::declarations::{NedFile, NestedType, TypeDeclaration};
-use ned_types::made::{behind, changed};
+use sim_values::dropping::{after, pair_after};
 use sim_values::text::Text;
 use sqlite_items::Items;
 use std::alloc::{AllocError, Global};
@@ -73,7 +73,7 @@ fn inner_types(alloc: Global, types: &[NestedType]) -> Result<KnownTypes, AllocE
 {
     let mut known = KnownTypes::new(alloc);
     let done = add_inner(alloc, &mut known, types);
-    changed(known, done)
+    after(known, done)
 }
 
 #[tactic(auto, using(crate::proofs::KnownLaws::behind_both))]
@@ -94,7 +94,7 @@ fn all_types(alloc: Global, types: &[NestedType]) -> Result<KnownTypes, AllocErr
 {
     let mut known = KnownTypes::new(alloc);
     let done = add_types(alloc, &mut known, types);
-    changed(known, done)
+    after(known, done)
 }
 
 /// Adds a type and all types within it, where these are the scopes of its head.
@@ -150,11 +150,11 @@ fn resolved_types(
     requires { inner ≡ all_behind [] (inner_types nested.now) }
     ensures { IfOk result (λ list. list ≡ resolved_within (types_by_name nested.now) [] nested.now) }
 {
-    let (inner, all) = behind(inner, all_types(alloc, nested))?;
+    let (inner, all) = pair_after(inner, all_types(alloc, nested))?;
     let types = TypesByName { all, inner };
     let mut list = Items::new(alloc);
     let done = add_all_resolved(alloc, &mut list, &types, &[], nested);
-    changed(list, done)
+    after(list, done)
 }
 
 #[tactic(auto, using(crate::proofs::PlainLaws::plain), unfolding(crate::specs::Scopes::types_of))]
@@ -165,7 +165,7 @@ pub fn types_of(alloc: Global, files: Vec<NedFile>) -> Result<Items<TypeDeclarat
 {
     let nested = nested_of(alloc, files)?;
     let inner = inner_types(alloc, nested.as_slice());
-    let (nested, inner) = behind(nested, inner)?;
+    let (nested, inner) = pair_after(nested, inner)?;
     if inner.is_empty() {
         return plain_types(alloc, nested);
     }

@@ -2,7 +2,7 @@
 
 ghost use Rattle.std.specs.Prelude.{◌≡◌, IfOk};
 
-use crate::refusals::refused;
+use sim_values::dropping::err_dropping;
 use sim_values::text::Text;
 use sim_values::value::Value;
 use sqlite_items::Boxed;

@@ -19,13 +19,13 @@ macro_rules! copied_behind {
     ($held:expr, $reading:expr) => {
         match $reading {
             Ok(it) => it,
-            Err(refusal) => return Err(refused($held, refusal)),
+            Err(refusal) => return Err(err_dropping($held, refusal)),
         }
     };
     ($first:expr, $second:expr, $reading:expr) => {
         match $reading {
             Ok(it) => it,
-            Err(refusal) => return Err(refused($first, refused($second, refusal))),
+            Err(refusal) => return Err(err_dropping($first, err_dropping($second, refusal))),
         }
     };
 }
@@ -34,5 +34,4 @@ pub mod connections;
 pub mod declarations;
 pub mod expressions;
 pub mod modes;
-pub mod refusals;
 pub mod texts;

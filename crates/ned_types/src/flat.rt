@@ -6,10 +6,10 @@ ghost use Rattle.ned_types.specs.Types.{type_name};
 ghost use Rattle.ned_types.specs.Flat.{declares_statistic, last_value, declaration_named, class_in, class_of, submodule_named, is_statistic_declared, statistic_named, last_statistic, statistic_at, statistics_of};
 
 use crate::given::{gives, value_in};
-use crate::made::changed;
 use ned_trees::declarations::{
     Declaration, ParameterValue, SectionLine, Statistic, Submodule, SubmoduleType, TypeDeclaration,
 };
+use sim_values::dropping::after;
 use sqlite_items::Items;
 use std::alloc::{AllocError, Global};
 
@@ -187,5 +187,5 @@ pub fn statistics_of(alloc: Global, lines: &[SectionLine]) -> Result<Items<Stati
 {
     let mut statistics = Items::new(alloc);
     let done = add_statistics_of(alloc, &mut statistics, lines);
-    changed(statistics, done)
+    after(statistics, done)
 }

@@ -4,5 +4,4 @@
 
 pub mod flat;
 pub mod given;
-pub mod made;
 pub mod table;

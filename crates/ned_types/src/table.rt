@@ -7,8 +7,8 @@ ghost use Rattle.ned_types.specs.Flat.{submodule_named};
 ghost use Rattle.ned_types.specs.WellFormed.{HaveOwnNames, IsAmong, IsWellFormed};
 
 use crate::flat::submodule_named;
-use crate::made::{behind, changed};
 use ned_trees::declarations::{Submodule, TypeDeclaration};
+use sim_values::dropping::{after, pair_after};
 use sqlite_items::Items;
 use std::alloc::{AllocError, Global};
 use std::collections::BTreeMap;
@@ -57,9 +57,9 @@ impl TypeTable {
         ensures { IfOk result (λ table. table ≡ types) }
     {
         let places = shared_places(alloc, types.as_slice());
-        let (types, places) = behind(types, places)?;
+        let (types, places) = pair_after(types, places)?;
         let types = shared(alloc, types);
-        let (places, types) = behind(places, types)?;
+        let (places, types) = pair_after(places, types)?;
         Ok(TypeTable { types, places })
     }
 
@@ -143,7 +143,7 @@ fn shared_places(
 ) -> Result<Rc<BTreeMap<Vec<u8>, usize>>, AllocError> {
     let mut places = BTreeMap::new(alloc);
     let done = add_places(alloc, &mut places, types);
-    let places = changed(places, done)?;
+    let places = after(places, done)?;
     shared(alloc, places)
 }
 

@@ -48,9 +48,7 @@ told_refused before edit.NoSuchConnection text is = as_behind before text (codes
 told_refused before (edit.NedSyntax line) text is = as_behind before text _ (one_text _ _ is) refl
 told_refused before (edit.Types fault) text is = as_behind before text _ (one_text _ _ is) refl
 told_refused before (edit.IniSyntax line reason) text is = as_behind before text _ (one_text _ _ is) refl
-told_refused before edit.NoSuchConfig text is = as_behind before text (codes "refused NoSuchConfig") (one_text _ _ is) refl
-told_refused before edit.ChainFault text is = as_behind before text (codes "refused ChainFault") (one_text _ _ is) refl
-told_refused before edit.NoSuchNetwork text is = as_behind before text (codes "refused NoSuchNetwork") (one_text _ _ is) refl
+told_refused before (edit.Config fault) text is = as_behind before text _ (one_text _ _ is) refl
 told_refused before (edit.NoMemory _) text is = cc
 
 -- WHAT AN ANSWER TELLS says the same as its text

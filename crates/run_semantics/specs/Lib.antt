@@ -1,3 +1,4 @@
+pub mod Faults
 pub mod World
 pub mod Routes
 pub mod Perform

@@ -23,8 +23,6 @@ use Rattle.module_api.specs.Behaviour.{Behaviour}
 use Rattle.module_api.specs.Names.{is_scalar_name}
 use Rattle.model_questions.specs.declared.answer.Answer.{Answer}
 use Rattle.model_questions.specs.declared.answer.Answer.TheVariants as answer
-use Rattle.model_questions.specs.declared.answer.ModelFault.{ModelFault}
-use Rattle.model_questions.specs.declared.answer.ModelFault.TheVariants as model_fault_kind
 use Rattle.model_questions.specs.declared.answer.Question.{Question}
 use Rattle.model_questions.specs.declared.answer.Question.TheVariants.{Param, GateSize, Hop, HopBack}
 use Rattle.model_questions.specs.Answers.{Answers, answer_of}
@@ -77,23 +75,6 @@ asking m q next w = next (answer_of m w.records q) (asked q w)
 -- a fault of the module of that id
 abbrev pub broken : ℕ → RunFault → World → Flow
 broken id f w = Broken w (path_of w.records id) f
-
--- the fault that a model answers
-abbrev pub model_fault : ModelFault → RunFault
-model_fault model_fault_kind.UnknownType = fault.UnknownType
-model_fault model_fault_kind.Interface = fault.Interface
-model_fault model_fault_kind.Unassigned = fault.Unassigned
-model_fault model_fault_kind.Circle = fault.Circle
-model_fault model_fault_kind.Overflow = fault.Overflow
-model_fault model_fault_kind.Inexact = fault.Inexact
-model_fault model_fault_kind.Mismatch = fault.Mismatch
-model_fault model_fault_kind.GateSize = fault.GateSize
-model_fault model_fault_kind.NoGate = fault.NoGate
-model_fault model_fault_kind.AlreadyConnected = fault.AlreadyConnected
-model_fault model_fault_kind.Unconnected = fault.Unconnected
-model_fault model_fault_kind.TooManyTurns = fault.TooManyTurns
-model_fault model_fault_kind.TooManyModules = fault.TooManyModules
-model_fault model_fault_kind.TooDeep = fault.TooDeep
 
 -- ---- deeds: actions that ask nothing and call no module
 
@@ -248,7 +229,7 @@ ask_all id (r ∷ rs) w = ask_all id rs (asked (question_of id r) w)
 
 abbrev pub parameter_fault : Answer → Option RunFault
 parameter_fault (answer.Value v) = None
-parameter_fault (answer.Fault path f) = Some (model_fault f)
+parameter_fault (answer.Fault path f) = Some (fault.Model f)
 parameter_fault (answer.Root name) = Some fault.NoParameter
 parameter_fault (answer.Inside bs) = Some fault.NoParameter
 parameter_fault (answer.Gate g) = Some fault.NoParameter

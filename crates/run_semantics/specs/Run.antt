@@ -11,13 +11,14 @@ use Rattle.model_questions.specs.Answers.{Answers, answer_of}
 use Rattle.model_questions.specs.declared.record.Origin.TheVariants as origin
 use Rattle.model_questions.specs.declared.record.Record.{Record}
 use Rattle.model_questions.specs.Records.{path_of, path_under, own_name}
+use Rattle.model_questions.specs.declared.answer.ModelFault.TheVariants.{TooManyModules, UnknownType}
 use Rattle.run_semantics.specs.declared.outcome.RunFault.TheVariants as fault
 use Rattle.run_semantics.specs.declared.outcome.Outcome.{Outcome}
 use Rattle.run_semantics.specs.declared.outcome.Outcome.TheVariants.{Ended, EventLimit, NoMoreEvents, TimeLimit, Fault}
 use Rattle.event_set.specs.declared.pending.Pending.{Pending}
 use Rattle.run_semantics.specs.declared.traces.Instance.{Instance}
 use Rattle.run_semantics.specs.World.{World, empty, live_count, live_of}
-use Rattle.run_semantics.specs.Perform.{Flow, On, Stopped, Broken, ◌>>=◌, asking, broken, for_each, model_fault}
+use Rattle.run_semantics.specs.Perform.{Flow, On, Stopped, Broken, ◌>>=◌, asking, broken, for_each}
 use Rattle.run_semantics.specs.Event.{call_module, event, instance_in}
 use Rattle.run_semantics.specs.Subtree.{among, outer_first}
 use Rattle.run_semantics.specs.Upcoming.{Upcoming, Comes, Nothing, upcoming}
@@ -34,14 +35,14 @@ with_network name w = record w { records = network_record name ∷ [] }
 -- the network, or the fault of one of its parameters
 abbrev pub rooted : Answer → World → Flow
 rooted (answer.Root name) w = On (with_network name w)
-rooted (answer.Fault path f) w = Broken w path (model_fault f)
-rooted (answer.Inside bs) w = Broken w [] fault.UnknownType
-rooted (answer.Value v) w = Broken w [] fault.UnknownType
-rooted (answer.Gate g) w = Broken w [] fault.UnknownType
-rooted (answer.Next next) w = Broken w [] fault.UnknownType
-rooted (answer.Beyond beyond) w = Broken w [] fault.UnknownType
-rooted (answer.Injection i) w = Broken w [] fault.UnknownType
-rooted answer.Absent w = Broken w [] fault.UnknownType
+rooted (answer.Fault path f) w = Broken w path (fault.Model f)
+rooted (answer.Inside bs) w = Broken w [] (fault.Model UnknownType)
+rooted (answer.Value v) w = Broken w [] (fault.Model UnknownType)
+rooted (answer.Gate g) w = Broken w [] (fault.Model UnknownType)
+rooted (answer.Next next) w = Broken w [] (fault.Model UnknownType)
+rooted (answer.Beyond beyond) w = Broken w [] (fault.Model UnknownType)
+rooted (answer.Injection i) w = Broken w [] (fault.Model UnknownType)
+rooted answer.Absent w = Broken w [] (fault.Model UnknownType)
 
 abbrev pub record_under : ℕ → Built → Record
 record_under parent b = record { parent = parent; name = b.name; index = b.index; class = b.class; origin = origin.Built }
@@ -55,20 +56,20 @@ room_in w = min (65536 - live_count w) (1000000 - length w.records)
 
 -- the module that would be one too many is told
 abbrev pub unless_many : ℕ → List Built → World → Option Built → Flow
-unless_many parent bs w (Some b) = Broken w (path_under (path_of w.records parent) (own_name b.name b.index)) fault.TooManyModules
+unless_many parent bs w (Some b) = Broken w (path_under (path_of w.records parent) (own_name b.name b.index)) (fault.Model TooManyModules)
 unless_many parent bs w None = On (with_submodules parent bs w)
 
 -- submodules are created, in their order, as was answered
 abbrev pub created : ℕ → Answer → World → Flow
 created parent (answer.Inside bs) w = unless_many parent bs w (slice_get bs (room_in w))
-created parent (answer.Fault path f) w = Broken w path (model_fault f)
-created parent (answer.Root name) w = broken parent fault.UnknownType w
-created parent (answer.Value v) w = broken parent fault.UnknownType w
-created parent (answer.Gate g) w = broken parent fault.UnknownType w
-created parent (answer.Next next) w = broken parent fault.UnknownType w
-created parent (answer.Beyond beyond) w = broken parent fault.UnknownType w
-created parent (answer.Injection i) w = broken parent fault.UnknownType w
-created parent answer.Absent w = broken parent fault.UnknownType w
+created parent (answer.Fault path f) w = Broken w path (fault.Model f)
+created parent (answer.Root name) w = broken parent (fault.Model UnknownType) w
+created parent (answer.Value v) w = broken parent (fault.Model UnknownType) w
+created parent (answer.Gate g) w = broken parent (fault.Model UnknownType) w
+created parent (answer.Next next) w = broken parent (fault.Model UnknownType) w
+created parent (answer.Beyond beyond) w = broken parent (fault.Model UnknownType) w
+created parent (answer.Injection i) w = broken parent (fault.Model UnknownType) w
+created parent answer.Absent w = broken parent (fault.Model UnknownType) w
 
 abbrev pub inside_of : Answer → List Built
 inside_of (answer.Inside bs) = bs

@@ -1,7 +1,8 @@
 //! How a run ends.
 
 ghost use Rattle.std.specs.Prelude.{◌≡◌, IfOk};
-ghost use Rattle.run_semantics.specs.Perform.{channel_fault, model_fault};
+ghost use Rattle.run_semantics.specs.Faults.{fault_name};
+ghost use Rattle.run_semantics.specs.Perform.{channel_fault};
 ghost use Rattle.run_semantics.specs.Run.{is_fault};
 
 use channels::travels::ChannelFault;
@@ -12,46 +13,18 @@ use std::alloc::{AllocError, Global};
 /// Why a run can't go on.
 #[derive(Drop)]
 pub enum RunFault {
-    /// A submodule's type isn't declared.
-    UnknownType,
-    /// The type that was chosen for a submodule doesn't keep the interface that it has to keep.
-    Interface,
-    /// A parameter has no value.
-    Unassigned,
-    /// A value rests on itself.
-    Circle,
-    /// A number of an expression is outside -2^63 to 2^63 - 1, or an amount to shift by is outside
-    /// 0 to 63.
-    Overflow,
-    /// A quotient in an expression is no whole number, something is divided by zero, or an exponent
-    /// is below zero.
-    Inexact,
-    /// A value is of another kind than its declaration, or one in its expression than its operator
-    /// wants, or the size of a vector of submodules is negative.
-    Mismatch,
-    /// A gate's index is out of range, no gate is free, or the size of a gate vector is outside 0
-    /// to 65,536.
-    GateSize,
-    /// A gate is used by two connections, or a message is sent directly to one that is connected.
-    AlreadyConnected,
-    /// A gate that has to be connected isn't.
-    Unconnected,
-    /// The loops of a compound module make more than 1,000,000 turns.
-    TooManyTurns,
-    /// More than 65,536 modules would live, or a vector of submodules would have more elements than
-    /// that.
-    TooManyModules,
-    /// Modules are nested too deep.
-    TooDeep,
+    /// The model can't answer: a parameter has no value, or the inside of a compound module can't
+    /// be built.
+    Model(ModelFault),
     /// No box is there for a module's class.
     UnknownClass,
     /// A reply read a parameter that the module doesn't have.
     NoParameter,
     /// A reply read a gate that the module doesn't have, or sends a message through one that isn't
-    /// there or has another direction; or a connection names a submodule or a gate that isn't
-    /// there, or a gate of another direction, or one by an index that is no vector, or a vector
-    /// without one.
+    /// there or has another direction.
     NoGate,
+    /// A message is sent directly to a gate that is connected.
+    AlreadyConnected,
     /// A reply has more than 1,000 actions.
     TooManyActions,
     /// A reply to the end of the run has an action that is not for it.
@@ -105,28 +78,6 @@ pub enum EventFlow {
     Break(Text, RunFault),
 }
 
-/// The fault that a model answers.
-pub fn fault_of(fault: ModelFault) -> RunFault
-    ensures { result ≡ model_fault fault }
-{
-    match fault {
-        ModelFault::UnknownType => RunFault::UnknownType,
-        ModelFault::Interface => RunFault::Interface,
-        ModelFault::Unassigned => RunFault::Unassigned,
-        ModelFault::Circle => RunFault::Circle,
-        ModelFault::Overflow => RunFault::Overflow,
-        ModelFault::Inexact => RunFault::Inexact,
-        ModelFault::Mismatch => RunFault::Mismatch,
-        ModelFault::GateSize => RunFault::GateSize,
-        ModelFault::NoGate => RunFault::NoGate,
-        ModelFault::AlreadyConnected => RunFault::AlreadyConnected,
-        ModelFault::Unconnected => RunFault::Unconnected,
-        ModelFault::TooManyTurns => RunFault::TooManyTurns,
-        ModelFault::TooManyModules => RunFault::TooManyModules,
-        ModelFault::TooDeep => RunFault::TooDeep,
-    }
-}
-
 /// The fault of a message on its channels.
 pub fn fault_on_way(fault: ChannelFault) -> RunFault
     ensures { result ≡ channel_fault fault }
@@ -139,24 +90,39 @@ pub fn fault_on_way(fault: ChannelFault) -> RunFault
 }
 
 impl RunFault {
+    /// Its name, as answers have it.
+    pub fn name(&self) -> &'static [u8]
+        ensures { result.now ≡ fault_name self.now }
+    {
+        match self {
+            RunFault::Model(fault) => fault.name(),
+            RunFault::UnknownClass => b"UnknownClass",
+            RunFault::NoParameter => b"NoParameter",
+            RunFault::NoGate => b"NoGate",
+            RunFault::AlreadyConnected => b"AlreadyConnected",
+            RunFault::TooManyActions => b"TooManyActions",
+            RunFault::NotInFinish => b"NotInFinish",
+            RunFault::BadName => b"BadName",
+            RunFault::TimeOverflow => b"TimeOverflow",
+            RunFault::NotConnected => b"NotConnected",
+            RunFault::TooManyHops => b"TooManyHops",
+            RunFault::TwoTransmissionChannels => b"TwoTransmissionChannels",
+            RunFault::Busy => b"Busy",
+            RunFault::NoModule => b"NoModule",
+            RunFault::PayloadTooLarge => b"PayloadTooLarge",
+            RunFault::Past => b"Past",
+            RunFault::AlreadyScheduled => b"AlreadyScheduled",
+            RunFault::ModuleFailed(_) => b"ModuleFailed",
+        }
+    }
+
     /// An equal fault.
     pub fn copy(&self, alloc: Global) -> Result<RunFault, AllocError>
         ensures { IfOk result (λ fault. fault ≡ self.now) }
     {
         Ok(match self {
-            RunFault::UnknownType => RunFault::UnknownType,
-            RunFault::Interface => RunFault::Interface,
-            RunFault::Unassigned => RunFault::Unassigned,
-            RunFault::Circle => RunFault::Circle,
-            RunFault::Overflow => RunFault::Overflow,
-            RunFault::Inexact => RunFault::Inexact,
-            RunFault::Mismatch => RunFault::Mismatch,
-            RunFault::GateSize => RunFault::GateSize,
+            RunFault::Model(fault) => RunFault::Model(*fault),
             RunFault::AlreadyConnected => RunFault::AlreadyConnected,
-            RunFault::Unconnected => RunFault::Unconnected,
-            RunFault::TooManyTurns => RunFault::TooManyTurns,
-            RunFault::TooManyModules => RunFault::TooManyModules,
-            RunFault::TooDeep => RunFault::TooDeep,
             RunFault::UnknownClass => RunFault::UnknownClass,
             RunFault::NoParameter => RunFault::NoParameter,
             RunFault::NoGate => RunFault::NoGate,

@@ -2,6 +2,7 @@
 //! of memory.
 #![tactic(auto)]
 
+pub mod dropping;
 pub mod text;
 pub mod units;
 pub mod value;

@@ -25,7 +25,7 @@ pub chains::chain-steps-preserved : goal.chains::chain-steps-preserved
 chains::chain-steps-preserved t c = rw (c.in_ok-left.ensures {u = tt}) (chain_goes_on c.args.depth c.args.place c.args.least c.steps.left c.steps.rest.now c.in-Some.level c.in-Ok-next_step.it.0 c.in-Ok-next_step.it.1.now ((grammar.expression_within (suc c.args.depth) c.args.place c.args.least).read c.args.tokens.now) (sym c.in-Some.ensures) c.in-Ok-next_step.ensures c.steps.invariant)
 
 pub chains::chain-returns-in-Err-next_step : goal.chains::chain-returns-in-Err-next_step
-chains::chain-returns-in-Err-next_step t c = rw c.refused.ensures (chain_fails c.args.depth c.args.place c.args.least c.in-Err-next_step.refusal c.steps.left c.steps.rest.now c.in-Some.level ((grammar.expression_within (suc c.args.depth) c.args.place c.args.least).read c.args.tokens.now) (sym c.in-Some.ensures) c.in-Err-next_step.ensures c.steps.invariant)
+chains::chain-returns-in-Err-next_step t c = rw c.err_dropping.ensures (chain_fails c.args.depth c.args.place c.args.least c.in-Err-next_step.refusal c.steps.left c.steps.rest.now c.in-Some.level ((grammar.expression_within (suc c.args.depth) c.args.place c.args.least).read c.args.tokens.now) (sym c.in-Some.ensures) c.in-Err-next_step.ensures c.steps.invariant)
 
 pub chains::chain-returns : goal.chains::chain-returns
 chains::chain-returns t c = chain_ends c.args.depth c.args.place c.args.least c.steps.left c.steps.rest.now ((grammar.expression_within (suc c.args.depth) c.args.place c.args.least).read c.args.tokens.now) (sym c.in_default.ensures) c.steps.invariant

@@ -1,5 +1,5 @@
 use Rattle.std.proofs.Common.{ℕ, Some, refl, subst}
-use Rattle.ned_leaves.specs.ExpressionText.{IsExpressionText}
+use Rattle.ned_expressions.specs.ExpressionText.{IsExpressionText}
 use Rattle.ini_entries.specs.Meaning.{Tells}
 use Rattle.ini_entries.specs.Options.{time_literal, word_time_limit}
 use Rattle.ini_trees.specs.declared.entry.EntryMeaning.TheVariants as meaning

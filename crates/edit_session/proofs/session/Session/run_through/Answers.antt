@@ -12,17 +12,17 @@ use Rattle.edit_session.proofs.Valid.{fresh_done, kept_done}
 use Rattle.edit_session.proofs.session.Session.run_through.Goals as goal
 
 pub report_of-requires : goal.report_of-requires
-report_of-requires g c = rw c.count-count.ensures ((rw (c.in-Ends.is, c.give_up.ensures) at c.in_ok-request.ensures.advances).within)
+report_of-requires g c = rw c.count-count.ensures ((rw (c.in-Done.is, c.give_up.ensures) at c.in_ok-request.ensures.advances).within)
 
-pub returns-in_ok-files-in-Ends-clause-sound : goal.returns-in_ok-files-in-Ends-clause-sound
-returns-in_ok-files-in-Ends-clause-sound g c =
+pub returns-in_ok-files-in-Done-clause-sound : goal.returns-in_ok-files-in-Done-clause-sound
+returns-in_ok-files-in-Done-clause-sound g c =
     let kernel = c.advance.new.self.kernel in
     rw c.give_up.ensures (kept_done g.C.Catalogue.behaviour (boxes_in (λ b. (g.dyn-1.0.entry b.vtable).1) kernel) (waiting_in (λ b. (g.dyn-1.0.entry b.vtable).1) c.advance.new.self) (world_in (λ b. (g.dyn-1.0.entry b.vtable).1) kernel) c.args.self.now.model c.args.limit
-    c.in-Ends.outcome c.in_ok-files-in-Ends.files c.count-count.result c.advance.new.self.positions c.advance.ensures.kinds
-    (rw (c.in-Ends.is, c.give_up.ensures) at c.in_ok-request.ensures.advances).whole
-    (rw (c.give_up.ensures, c.records.ensures.records, c.finished.ensures, c.scalars.ensures, c.emissions.ensures) at c.in_ok-files-in-Ends.ensures)
+    c.in-Done.ended.outcome c.in_ok-files-in-Done.files c.count-count.result c.advance.new.self.positions c.advance.ensures.kinds
+    (rw (c.in-Done.is, c.give_up.ensures) at c.in_ok-request.ensures.advances).whole
+    (rw (c.give_up.ensures, c.records.ensures.records, c.finished.ensures, c.scalars.ensures, c.emissions.ensures) at c.in_ok-files-in-Done.ensures)
     c.count-count.ensures (rw c.give_up.ensures at c.advance.ensures.good)
-    (subst CanBeStored (sym (rw (c.in-Ends.is, c.give_up.ensures) at c.in_ok-request.ensures.advances).positions)
+    (subst CanBeStored (sym (rw (c.in-Done.is, c.give_up.ensures) at c.in_ok-request.ensures.advances).positions)
     (is_done g.C.Catalogue.behaviour (answers_of c.args.self.now.model) c.args.limit (counts_in c.args.self.now.runner.positions) (Fits-lt-pow c.ranges.limit) c.requires.sound.stored)))
 
 pub returns-in-Waits-clause-sound : goal.returns-in-Waits-clause-sound
@@ -46,12 +46,12 @@ returns-in-Waits-clause-waits g c =
       waits = rw c.give_up.ensures (seen_waiting old.model (world_in (λ b. (g.dyn-1.0.entry b.vtable).1) new.kernel) (waiting_in (λ b. (g.dyn-1.0.entry b.vtable).1) new) (kept_boxes old.phase (standing_in (λ b. (g.dyn-1.0.entry b.vtable).1) old.runner)) (counts_in new.positions) _ h.filled.none h.kept_is h.positions);
     }
 
-pub returns-in_ok-files-in-Ends-clause-done : goal.returns-in_ok-files-in-Ends-clause-done
-returns-in_ok-files-in-Ends-clause-done g c =
+pub returns-in_ok-files-in-Done-clause-done : goal.returns-in_ok-files-in-Done-clause-done
+returns-in_ok-files-in-Done-clause-done g c =
     let new = c.advance.new.self in
-    fresh_done g.C.Catalogue.behaviour (editing_of (λ b. (g.dyn-1.0.entry b.vtable).1) c.args.self.now) _ c.args.limit c.in_ok-report-in-Ends.report (world_in (λ b. (g.dyn-1.0.entry b.vtable).1) new.kernel) (waiting_in (λ b. (g.dyn-1.0.entry b.vtable).1) new) (counts_in new.positions) c.in-Ends.start c.in-Ends.outcome
-    c.in_ok-files-in-Ends.files c.count-count.result
-    (rw (c.in-Ends.is, c.give_up.ensures) at c.in_ok-request.ensures.advances)
-    c.in_ok-report-in-Ends.ensures
-    (rw (c.give_up.ensures, c.records.ensures.records, c.finished.ensures, c.scalars.ensures, c.emissions.ensures) at c.in_ok-files-in-Ends.ensures)
+    fresh_done g.C.Catalogue.behaviour (editing_of (λ b. (g.dyn-1.0.entry b.vtable).1) c.args.self.now) _ c.args.limit c.in_ok-report-in-Done.report (world_in (λ b. (g.dyn-1.0.entry b.vtable).1) new.kernel) (waiting_in (λ b. (g.dyn-1.0.entry b.vtable).1) new) (counts_in new.positions) c.in-Done.ended.start c.in-Done.ended.outcome
+    c.in_ok-files-in-Done.files c.count-count.result
+    (rw (c.in-Done.is, c.give_up.ensures) at c.in_ok-request.ensures.advances)
+    c.in_ok-report-in-Done.ensures
+    (rw (c.give_up.ensures, c.records.ensures.records, c.finished.ensures, c.scalars.ensures, c.emissions.ensures) at c.in_ok-files-in-Done.ensures)
     c.count-count.ensures refl refl refl refl

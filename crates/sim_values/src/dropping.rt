@@ -5,8 +5,15 @@ ghost use Rattle.std.specs.Prelude.{◌≡◌, Ok, IfOk};
 
 use std::alloc::AllocError;
 
-/// What was changed, where that succeeded.
-pub fn changed<T: Drop>(value: T, done: Result<(), AllocError>) -> Result<T, AllocError>
+/// A refusal, after which what was made before it is dropped.
+pub fn err_dropping<T: Drop, E>(_held: T, refusal: E) -> E
+    ensures { result ≡ refusal }
+{
+    refusal
+}
+
+/// A value, after a step that changed it, where that succeeded.
+pub fn after<T: Drop>(value: T, done: Result<(), AllocError>) -> Result<T, AllocError>
     ensures same { IfOk result (λ same. same ≡ value) }
     ensures done { IfOk result (λ _. done ≡ Ok tt) }
 {
@@ -14,8 +21,8 @@ pub fn changed<T: Drop>(value: T, done: Result<(), AllocError>) -> Result<T, All
     Ok(value)
 }
 
-/// What was made before, and after it what was made last, where that succeeded.
-pub fn behind<T: Drop, U: Drop>(
+/// What was made before, and what was made after it, where that succeeded.
+pub fn pair_after<T: Drop, U: Drop>(
     before: T,
     last: Result<U, AllocError>,
 ) -> Result<(T, U), AllocError>
