@@ -11,7 +11,8 @@ delays (c ∷ cs) = c.delay + delays cs
 -- how long the transmissions on these channels take together
 abbrev pub durations : ℕ → List Channel → ℕ
 durations bits [] = 0
-durations bits (c ∷ cs) = (if is_transmission c then duration_of bits c.datarate else 0) + durations bits cs
+durations bits (c ∷ cs) =
+    (if is_transmission c then duration_of bits c.datarate else 0) + durations bits cs
 
 -- none of them is disabled
 abbrev pub AllEnabled : List Channel → Type 0

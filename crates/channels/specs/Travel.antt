@@ -1,9 +1,11 @@
 -- How a message travels over the channels of its path (OMNeT++ Simulation Manual, "Channels").
-use Rattle.std.specs.Prelude.{ℕ, ◌+◌, ◌-◌, ◌*◌, ◌/◌, ◌==◌, nat_lt, Bool, true, false, List, [], ◌∷◌, Option, Some, None, Result, Ok, Err, if◌then◌else◌}
+use Rattle.std.specs.Prelude.{ℕ, ◌+◌, ◌-◌, ◌*◌, ◌/◌, ◌==◌, nat_lt, Bool, true, false, List, [], ◌∷◌}
+use Rattle.std.specs.Prelude.{Option, Some, None, Result, Ok, Err, if◌then◌else◌}
 use Rattle.sim_time.specs.Time.{time_sum}
 use Rattle.model_questions.specs.declared.answer.Channel.{Channel}
 use Rattle.channels.specs.declared.travels.ChannelFault.{ChannelFault}
-use Rattle.channels.specs.declared.travels.ChannelFault.TheVariants.{Busy, TwoTransmissionChannels, TimeOverflow}
+use Rattle.channels.specs.declared.travels.ChannelFault.TheVariants.{Busy, TwoTransmissionChannels}
+use Rattle.channels.specs.declared.travels.ChannelFault.TheVariants.{TimeOverflow}
 use Rattle.model_questions.specs.declared.answer.ChannelKind.{ChannelKind}
 use Rattle.model_questions.specs.declared.answer.ChannelKind.TheVariants.{Ideal, Delay, Datarate}
 use Rattle.channels.specs.declared.travels.Travel.{Travel}
@@ -35,14 +37,16 @@ is_busy time None = false
 is_busy time (Some end) = nat_lt time end
 
 -- the message is on from there, where nothing is wrong
-abbrev pub and_on : {X : Type 0} → Result Way ChannelFault → (Way → Result X ChannelFault) → Result X ChannelFault
+abbrev pub and_on : {X : Type 0} → Result Way ChannelFault → (Way → Result X ChannelFault)
+    → Result X ChannelFault
 and_on (Ok way) f = f way
 and_on (Err fault) f = Err fault
 
 -- a transmission that ends at that time
 abbrev pub transmitted_until : ℕ → Way → Option ℕ → Result Way ChannelFault
 transmitted_until duration way None = Err TimeOverflow
-transmitted_until duration way (Some end) = Ok (record { time = way.time; duration = duration; busy_until = Some end })
+transmitted_until duration way (Some end) =
+    Ok (record { time = way.time; duration = duration; busy_until = Some end })
 
 -- the transmission begins as the message reaches the channel, where an earlier one is over
 abbrev pub transmitted : ℕ → ℕ → Option ℕ → Way → Result Way ChannelFault
@@ -55,7 +59,8 @@ sent_on c bits busy way = if is_transmission c then transmitted c.datarate bits 
 
 abbrev pub reaches : Way → Option ℕ → Result Way ChannelFault
 reaches way None = Err TimeOverflow
-reaches way (Some time) = Ok (record { time = time; duration = way.duration; busy_until = way.busy_until })
+reaches way (Some time) =
+    Ok (record { time = time; duration = way.duration; busy_until = way.busy_until })
 
 -- and the end of the channel is reached by its delay later
 abbrev pub delayed : Channel → Way → Result Way ChannelFault
@@ -76,7 +81,8 @@ arrived way = arrives_at way (time_sum way.time way.duration)
 -- the channels, one by one; a disabled one loses the message
 abbrev pub walked : ℕ → Option ℕ → List Channel → Way → Result Travel ChannelFault
 walked bits busy [] way = arrived way
-walked bits busy (c ∷ cs) way = if c.disabled then Ok (Lost way.busy_until) else and_on (passed c bits busy way) (walked bits busy cs)
+walked bits busy (c ∷ cs) way = if c.disabled then Ok (Lost way.busy_until)
+    else and_on (passed c bits busy way) (walked bits busy cs)
 
 abbrev pub departing : ℕ → Way
 departing time = record { time = time; duration = 0; busy_until = None }
@@ -85,4 +91,5 @@ departing time = record { time = time; duration = 0; busy_until = None }
 -- transmission channel
 abbrev pub travel : List Channel → ℕ → ℕ → Option ℕ → Result Travel ChannelFault
 travel hops departure bits busy =
-    if nat_lt 1 (transmissions hops) then Err TwoTransmissionChannels else walked bits busy hops (departing departure)
+    if nat_lt 1 (transmissions hops) then Err TwoTransmissionChannels
+    else walked bits busy hops (departing departure)

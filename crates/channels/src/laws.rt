@@ -10,7 +10,8 @@ ghost use Rattle.channels.specs.Laws.{delays, durations, AllEnabled, AnyDisabled
 /// disabled.
 pub fn arrivals_add_up()
     ensures time { (hops : List Channel) (departure bits : ℕ) (busy until : Option ℕ) (time : ℕ)
-        → travel hops departure bits busy ≡ Ok (Travel.Arrival time until) → time ≡ departure + delays hops + durations bits hops }
+        → travel hops departure bits busy ≡ Ok (Travel.Arrival time until)
+        → time ≡ departure + delays hops + durations bits hops }
     ensures enabled { (hops : List Channel) (departure bits : ℕ) (busy until : Option ℕ) (time : ℕ)
         → travel hops departure bits busy ≡ Ok (Travel.Arrival time until) → AllEnabled hops }
 {}
@@ -23,6 +24,8 @@ pub fn losses_are_by_disabled_channels()
 
 /// A transmission takes the least time in which so many bits are transmitted.
 pub fn transmissions_round_up()
-    ensures enough { (bits rate : ℕ) → 0 < rate → bits * 1000000000000 ≤ rate * duration_of bits rate }
-    ensures least { (bits rate : ℕ) → 0 < rate → rate * duration_of bits rate < bits * 1000000000000 + rate }
+    ensures enough { (bits rate : ℕ) → 0 < rate
+        → bits * 1000000000000 ≤ rate * duration_of bits rate }
+    ensures least { (bits rate : ℕ) → 0 < rate
+        → rate * duration_of bits rate < bits * 1000000000000 + rate }
 {}

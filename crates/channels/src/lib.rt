@@ -5,7 +5,9 @@
 ghost use Rattle.std.specs.Prelude.{◌≡◌, ◌+◌, ◌*◌, ◌^◌, ◌<◌, ◌≤◌, ℕ, Ok, Err};
 ghost use Rattle.std.specs.Result.{result_ok};
 ghost use Rattle.sim_time.specs.Time.{time_sum};
-ghost use Rattle.channels.specs.Travel.{is_transmission, transmissions, duration_of, is_busy, transmitted, sent_on, delayed, passed, arrived, walked, departing, travel};
+ghost use Rattle.channels.specs.Travel.{is_transmission, transmissions, duration_of, is_busy};
+ghost use Rattle.channels.specs.Travel.{transmitted, sent_on, delayed, passed, arrived, walked};
+ghost use Rattle.channels.specs.Travel.{departing, travel};
 
 pub mod laws;
 pub mod travels;

@@ -38,7 +38,8 @@ struct Told {
 /// A desk at that network, with a position after each multiple of so many events.
 pub fn desk_of(alloc: Global, interval: u64) -> Result<Desk<Stock>, Fail>
     requires { 1 ≤ interval }
-    ensures { IfOk result (λ desk. IsSettled stock (λ b. ⟦<dyn SimpleModule as SimpleModule>⟧ b.vtable) desk) }
+    ensures { IfOk result
+        (λ desk. IsSettled stock (λ b. ⟦<dyn SimpleModule as SimpleModule>⟧ b.vtable) desk) }
 {
     let mut texts = NedTexts::new(alloc);
     texts.push(NED.as_bytes())?;
@@ -79,7 +80,8 @@ pub fn supply(desk: &mut Desk<Stock>, held: Box<dyn SimpleModule>) -> Result<(),
 
 /// Gives the run that waits its box.
 fn give(desk: &mut Desk<Stock>, held: Box<dyn SimpleModule>) -> Result<(), Fail>
-    requires wanted { let editing = editing_at (λ b. ⟦<dyn SimpleModule as SimpleModule>⟧ b.vtable) desk.old in
+    requires wanted { let editing =
+        editing_at (λ b. ⟦<dyn SimpleModule as SimpleModule>⟧ b.vtable) desk.old in
         IsFor stock (wanted_of editing) (meaning held) }
     requires sound { IsSettled stock (λ b. ⟦<dyn SimpleModule as SimpleModule>⟧ b.vtable) desk.old }
     ensures { IsSettled stock (λ b. ⟦<dyn SimpleModule as SimpleModule>⟧ b.vtable) desk.new }

@@ -1,12 +1,14 @@
 -- What references mean in the rows of values.
-use Rattle.std.specs.Prelude.{ℕ, pos, negsuc, int_lt, true, List, ◌++◌, Ok, Err, codes, if◌then◌else◌}
+use Rattle.std.specs.Prelude.{ℕ, pos, negsuc, int_lt, true, List, ◌++◌, Ok, Err, codes}
+use Rattle.std.specs.Prelude.{if◌then◌else◌}
 use Rattle.std.specs.Str.{bytes_eq}
 use Rattle.sim_values.specs.declared.value.Dimension.TheVariants.{Time}
 use Rattle.sim_values.specs.declared.value.Value.TheVariants as value
 use Rattle.ned_trees.specs.declared.expressions.Scope.TheVariants.{This, Parent}
 use Rattle.param_eval.specs.declared.fault.ValueFault.TheVariants.{Unassigned, Circle}
 use Rattle.param_eval.specs.Operators.{Evaluated}
-use Rattle.param_eval.specs.References.{Reference, Own, Scoped, Member, Element, Index, ParentIndex, Sizeof, Exists, ExistsAt}
+use Rattle.param_eval.specs.References.{Reference, Own, Scoped, Member, Element, Index, ParentIndex}
+use Rattle.param_eval.specs.References.{Sizeof, Exists, ExistsAt}
 
 -- the parameters of a bare name
 abbrev pub own : List ℕ → Evaluated

@@ -1,5 +1,6 @@
 -- What the number of a key rests on.
-use Rattle.std.specs.Prelude.{ℕ, ◌+◌, ◌^◌, ◌≡◌, true, nat_eq, nat_lt, if◌then◌else◌, List, slice_get, Option, Some, None, Ok, Err}
+use Rattle.std.specs.Prelude.{ℕ, ◌+◌, ◌^◌, ◌≡◌, true, nat_eq, nat_lt, if◌then◌else◌, List}
+use Rattle.std.specs.Prelude.{slice_get, Option, Some, None, Ok, Err}
 use Rattle.std.proofs.Common.{eqb-true}
 use Rattle.param_following.specs.Asking.{Asking, Done, Ask}
 use Rattle.param_engine.specs.Turns.{came_to}

@@ -11,8 +11,10 @@ use std::alloc::Global;
 
 /// Whether a text is an ini text. An error where it is too long, or memory ran out.
 fn is_read(alloc: Global, text: &[u8]) -> Result<bool, IniError>
-    ensures read { IfOk result (λ is. is ≡ true → (lines : List IniLine) × IsIniText text.now lines) }
-    ensures refused { IfOk result (λ is. is ≡ false → (lines : List IniLine) → IsIniText text.now lines → ⊥) }
+    ensures read { IfOk result
+        (λ is. is ≡ true → (lines : List IniLine) × IsIniText text.now lines) }
+    ensures refused { IfOk result
+        (λ is. is ≡ false → (lines : List IniLine) → IsIniText text.now lines → ⊥) }
 {
     match parse_ini(alloc, text) {
         Ok(_) => Ok(true),

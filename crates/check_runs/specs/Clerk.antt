@@ -2,7 +2,8 @@
 -- value twice and sets a timer; it records a second scalar for a message, and a third at the end of
 -- the run. So its scalars say how often each of its methods was called. The name that a Scribe
 -- records has a blank in it, which is none of a scalar.
-use Rattle.std.specs.Prelude.{ℕ, ℤ, pos, neg_ℤ, Bool, true, false, ◌||◌, List, [], ◌∷◌, IsTrue, codes, refl, if◌then◌else◌}
+use Rattle.std.specs.Prelude.{ℕ, ℤ, pos, neg_ℤ, Bool, true, false, ◌||◌, List, [], ◌∷◌, IsTrue}
+use Rattle.std.specs.Prelude.{codes, refl, if◌then◌else◌}
 use Rattle.std.specs.Str.{bytes_eq}
 use Rattle.module_api.specs.declared.call.CallReason.{CallReason}
 use Rattle.module_api.specs.declared.call.CallReason.TheVariants as prompt
@@ -15,7 +16,8 @@ use Rattle.module_parts.specs.Replies.{timer_set}
 
 abbrev pub clerk_actions : CallReason → List Action
 clerk_actions (prompt.Initialize stage) =
-    RecordScalar (codes "opened") (neg_ℤ (pos 3)) ∷ Emit (codes "noted") (pos 9223372036854775807) ∷ Emit (codes "noted") (pos 9223372036854775807)
+    RecordScalar (codes "opened") (neg_ℤ (pos 3)) ∷ Emit (codes "noted") (pos 9223372036854775807)
+    ∷ Emit (codes "noted") (pos 9223372036854775807)
     ∷ timer_set 0 (pos 0) ∷ []
 clerk_actions (prompt.Message message) = RecordScalar (codes "heard") (pos 1) ∷ []
 clerk_actions prompt.Finish = RecordScalar (codes "x") (pos 7) ∷ []
@@ -36,7 +38,10 @@ acting actions = record {
   stages = 1;
   is_state = λ state. bytes_eq state [];
   initial = [];
-  reply = λ state call. record { reply = record { reads = []; actions = actions call.prompt }; state = state };
+  reply = λ state call. record {
+    reply = record { reads = []; actions = actions call.prompt };
+    state = state;
+  };
 }
 
 abbrev pub kind_of : Bool → List ℕ
@@ -49,7 +54,8 @@ actions_of false = scribe_actions
 
 -- a Clerk, or a Scribe
 abbrev pub office_module : Bool → Module
-office_module is_clerk = record { kind = kind_of is_clerk; naming = acting (actions_of is_clerk); state = [] }
+office_module is_clerk =
+    record { kind = kind_of is_clerk; naming = acting (actions_of is_clerk); state = [] }
 
 -- the catalogue that knows these two, and its laws
 unfoldable pub office : Behaviour

@@ -21,7 +21,8 @@ use std::test::Fail;
 
 /// A desk at the network of this text.
 fn desk_of(alloc: Global, ned: &str) -> Result<Desk<Office>, Fail>
-    ensures { IfOk result (λ desk. IsSettled office (λ b. ⟦<dyn SimpleModule as SimpleModule>⟧ b.vtable) desk) }
+    ensures { IfOk result
+        (λ desk. IsSettled office (λ b. ⟦<dyn SimpleModule as SimpleModule>⟧ b.vtable) desk) }
 {
     let mut texts = NedTexts::new(alloc);
     texts.push(ned.as_bytes())?;
@@ -34,7 +35,8 @@ fn desk_of(alloc: Global, ned: &str) -> Result<Desk<Office>, Fail>
 /// be of that kind.
 fn supply(desk: &mut Desk<Office>, kind: &[u8], held: Box<dyn SimpleModule>) -> Result<(), Fail>
     requires made { IsFresh office kind.now (meaning held) }
-    requires sound { IsSettled office (λ b. ⟦<dyn SimpleModule as SimpleModule>⟧ b.vtable) desk.old }
+    requires sound { IsSettled office
+        (λ b. ⟦<dyn SimpleModule as SimpleModule>⟧ b.vtable) desk.old }
     ensures { IsSettled office (λ b. ⟦<dyn SimpleModule as SimpleModule>⟧ b.vtable) desk.new }
 {
     match desk.run(100, &mut Unobserved)? {
@@ -50,9 +52,11 @@ fn supply(desk: &mut Desk<Office>, kind: &[u8], held: Box<dyn SimpleModule>) -> 
 
 /// Gives the run that waits its box.
 fn give(desk: &mut Desk<Office>, held: Box<dyn SimpleModule>) -> Result<(), Fail>
-    requires wanted { let editing = editing_at (λ b. ⟦<dyn SimpleModule as SimpleModule>⟧ b.vtable) desk.old in
+    requires wanted { let editing =
+        editing_at (λ b. ⟦<dyn SimpleModule as SimpleModule>⟧ b.vtable) desk.old in
         IsFor office (wanted_of editing) (meaning held) }
-    requires sound { IsSettled office (λ b. ⟦<dyn SimpleModule as SimpleModule>⟧ b.vtable) desk.old }
+    requires sound { IsSettled office
+        (λ b. ⟦<dyn SimpleModule as SimpleModule>⟧ b.vtable) desk.old }
     ensures { IsSettled office (λ b. ⟦<dyn SimpleModule as SimpleModule>⟧ b.vtable) desk.new }
 {
     match desk.supply(held) {
@@ -88,7 +92,8 @@ fn run_both(
 ) -> Result<Text, Fail>
     requires first { IsFresh office kinds.0.now (meaning first) }
     requires second { IsFresh office kinds.1.now (meaning second) }
-    requires sound { IsSettled office (λ b. ⟦<dyn SimpleModule as SimpleModule>⟧ b.vtable) desk.old }
+    requires sound { IsSettled office
+        (λ b. ⟦<dyn SimpleModule as SimpleModule>⟧ b.vtable) desk.old }
     ensures { IsSettled office (λ b. ⟦<dyn SimpleModule as SimpleModule>⟧ b.vtable) desk.new }
 {
     supply(desk, kinds.0, first)?;

@@ -1,6 +1,7 @@
 //! A scenario at a desk, with the stock modules.
 
-ghost use Rattle.std.specs.Prelude.{◌≡◌, ◌≤◌, ℕ, ◌++◌, ◌∷◌, [], Some, IfOk, IfSome, IsSome, OnOk, OnErr, length};
+ghost use Rattle.std.specs.Prelude.{◌≡◌, ◌≤◌, ℕ, ◌++◌, ◌∷◌, [], Some, IfOk, IfSome, IsSome, OnOk};
+ghost use Rattle.std.specs.Prelude.{OnErr, length};
 ghost use Rattle.result_lines.specs.Taken.{untouched};
 ghost use Rattle.desk_client.specs.Devices.{HasFailed};
 ghost use Rattle.desk_client.specs.Stops.{at_stop};
@@ -101,7 +102,8 @@ impl<'a> Player<'a> {
 
     /// Asks that line.
     fn ask(&mut self, line: &[u8]) -> Result<Option<AskedLine>, Gone>
-        ensures asked { IfOk result (λ next. IfSome next (λ a. self.new.transcript.asked ≡ self.old.transcript.asked ++ a ∷ [])) }
+        ensures asked { IfOk result (λ next. IfSome next
+            (λ a. self.new.transcript.asked ≡ self.old.transcript.asked ++ a ∷ [])) }
         ensures some { IfOk result (λ next. IsSome next) }
         ensures none { OnErr result (self.new.transcript.asked ≡ self.old.transcript.asked) }
         ensures heard { self.new.transcript.heard ≡ self.old.transcript.heard }
@@ -163,7 +165,8 @@ impl Client<Buffer> for Player<'_> {
 
     ghost label = { λ _. 0 };
 
-    ghost stops = { λ player why. at_stop (player.lines.now ≡ []) (IsSome player.error) (λ page written. player.lost ≡ Some (page, written)) why };
+    ghost stops = { λ player why. at_stop (player.lines.now ≡ []) (IsSome player.error)
+        (λ page written. player.lost ≡ Some (page, written)) why };
 
     fn next(&mut self) -> Result<Option<AskedLine>, Gone> {
         match self.lines {

@@ -42,7 +42,8 @@ gap_line = line.Declaration (record {
   name = codes "gap";
   word = word.Double;
   unit = Some dimension.Time;
-  value = Some (parameter_value.Default (expression.Literal (values.Quantity dimension.Time (pos 1000000000000))));
+  value = Some (parameter_value.Default
+      (expression.Literal (values.Quantity dimension.Time (pos 1000000000000))));
 })
 
 -- no connections
@@ -57,15 +58,23 @@ tick = record {
   base = None;
   interfaces = [];
   lines =
-      number (codes "count") ∷ gap_line ∷ zero_number (codes "priority") ∷ zero_number (codes "late") ∷ zero_number (codes "extra")
+      number (codes "count") ∷ gap_line ∷ zero_number (codes "priority")
+      ∷ zero_number (codes "late") ∷ zero_number (codes "extra")
       ∷ line.Statistic (record {
         name = codes "fired";
         source = codes "fired";
         modes =
-            record { mode = mode.Count; optional = false } ∷ record { mode = mode.Max; optional = false }
+            record { mode = mode.Count; optional = false } ∷ record {
+              mode = mode.Max;
+              optional = false;
+            }
             ∷ record { mode = mode.Vector; optional = false } ∷ [];
       })
-      ∷ line.Statistic (record { name = codes "extra"; source = codes "extra"; modes = record { mode = mode.Last; optional = false } ∷ [] })
+      ∷ line.Statistic (record {
+        name = codes "extra";
+        source = codes "extra";
+        modes = record { mode = mode.Last; optional = false } ∷ [];
+      })
       ∷ [];
   gates = [];
   submodules = [];
@@ -74,11 +83,27 @@ tick = record {
 
 -- `NAME: Tick;`
 abbrev pub tick_named : List ℕ → Submodule
-tick_named name = record { name = name; size = None; submodule_type = submodule_type.Named (codes "Tick"); condition = None; body = record { lines = []; gates = [] } }
+tick_named name = record {
+  name = name;
+  size = None;
+  submodule_type = submodule_type.Named
+      (codes "Tick");
+  condition = None;
+  body = record { lines = []; gates = [] };
+}
 
 -- `network N` with Ticks of these names
 abbrev pub network : List (List ℕ) → TypeDeclaration
-network names = record { kind = kind.Network; name = codes "N"; base = None; interfaces = []; lines = []; gates = []; submodules = map tick_named names; connections = no_connections }
+network names = record {
+  kind = kind.Network;
+  name = codes "N";
+  base = None;
+  interfaces = [];
+  lines = [];
+  gates = [];
+  submodules = map tick_named names;
+  connections = no_connections;
+}
 
 -- the pattern `**.NAME`
 abbrev pub any_path_to : List ℕ → List Piece
@@ -91,7 +116,10 @@ given name written value = record {
   meaning = ini.Entry (record {
     key = codes "**." ++ name;
     value = written;
-    meaning = meaning.Parameter (record { pattern = any_path_to name; value = entry_value.Given (expression.Literal value) });
+    meaning = meaning.Parameter (record {
+      pattern = any_path_to name;
+      value = entry_value.Given (expression.Literal value);
+    });
   });
 }
 
@@ -101,13 +129,25 @@ ini_of more =
     record { text = codes "[General]"; meaning = ini.Section (codes "General") }
     ∷ record {
       text = codes "network = N";
-      meaning = ini.Entry (record { key = codes "network"; value = codes "N"; meaning = meaning.Network (codes "N") });
+      meaning = ini.Entry (record {
+        key = codes "network";
+        value = codes "N";
+        meaning = meaning.Network (codes "N");
+      });
     }
     ∷ more
 
 -- the network of Ticks of these names, with these lines of the ini text
 abbrev pub ticks : List (List ℕ) → List IniLine → Model
-ticks names more = record { files = record { types = lone tick ∷ lone (network names) ∷ [] } ∷ []; types = tick ∷ network names ∷ []; ini = ini_of more; config = codes "General"; chain = codes "General" ∷ []; injections = []; last_injection = 0 }
+ticks names more = record {
+  files = record { types = lone tick ∷ lone (network names) ∷ [] } ∷ [];
+  types = tick ∷ network names ∷ [];
+  ini = ini_of more;
+  config = codes "General";
+  chain = codes "General" ∷ [];
+  injections = [];
+  last_injection = 0;
+}
 
 -- one Tick that fires three times
 abbrev pub three_ticks : Model

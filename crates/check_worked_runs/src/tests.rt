@@ -58,7 +58,8 @@ fn empty_network(alloc: Global) -> Result<NedTexts, NoMemory> {
 
 /// A desk at the network of these texts.
 fn desk_of<C: Catalogue>(alloc: Global, texts: &NedTexts) -> Result<Desk<C>, BeginFault>
-    ensures { IfOk result (λ desk. IsSettled C.behaviour (λ b. ⟦<dyn SimpleModule as SimpleModule>⟧ b.vtable) desk) }
+    ensures { IfOk result
+        (λ desk. IsSettled C.behaviour (λ b. ⟦<dyn SimpleModule as SimpleModule>⟧ b.vtable) desk) }
 {
     let ini = b"[General]\nnetwork = N\n".as_slice();
     let session = Session::begin(alloc, texts, ini, b"General".as_slice(), 1000)?;

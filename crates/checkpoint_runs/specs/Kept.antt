@@ -1,6 +1,8 @@
 -- Stored positions, and how a run leaves them.
-use Rattle.std.specs.Prelude.{◌≡◌, ◌⊎◌, ◌≤◌, ℕ, suc, ◌-◌, ◌<◌, ◌&&◌, nat_lt, not, Bool, true, false, List, [], ◌∷◌, ◌++◌, Option, Some, None, map, if◌then◌else◌}
-use Rattle.checkpoints.specs.Stored.{counts_in, cut_after, ends_at, begun, is_multiple, with_position, AreBelow, Timeline}
+use Rattle.std.specs.Prelude.{◌≡◌, ◌⊎◌, ◌≤◌, ℕ, suc, ◌-◌, ◌<◌, ◌&&◌, nat_lt, not, Bool, true, false}
+use Rattle.std.specs.Prelude.{List, [], ◌∷◌, ◌++◌, Option, Some, None, map, if◌then◌else◌}
+use Rattle.checkpoints.specs.Stored.{counts_in, cut_after, ends_at, begun, is_multiple}
+use Rattle.checkpoints.specs.Stored.{with_position, AreBelow, Timeline}
 use Rattle.kernel_actions.specs.declared.position.Position.{Position}
 use Rattle.kernel_boxes.specs.Seats.{Members}
 use Rattle.kernel.specs.Kernels.{boxes_in, world_in}
@@ -20,7 +22,8 @@ use Rattle.checkpoint_runs.specs.declared.running.Stood.TheVariants as stood
 
 -- A POSITION IS GOOD: the run of the model goes on after its events, it is the position of the
 -- world there, whose lists have only grown since, and its modules are those that have boxes.
-pub record IsGood (b : Behaviour) (m : Answers) (seats : List BoxAt) (w : World) (p : Position) : Type 0 where
+pub record IsGood (b : Behaviour) (m : Answers) (seats : List BoxAt) (w : World)
+    (p : Position) : Type 0 where
   pub world : World
   pub stage : after b m p.count ≡ Running world
   pub position : p ≡ position_of world
@@ -60,31 +63,38 @@ is_owed from faulted last counts = not faulted && (nat_lt from last && not (ends
 
 -- A run went on from so many events to its end: after the positions that there were stand those of
 -- the multiples. Where it did not end in a fault it could go on from there.
-pub record HasGoneOn (b : Behaviour) (m : Answers) (from : ℕ) (before new : Timeline Position) (w : World) (outcome : Outcome) : Type 0 where
+pub record HasGoneOn (b : Behaviour) (m : Answers) (from : ℕ) (before new : Timeline Position)
+    (w : World) (outcome : Outcome) : Type 0 where
   pub grew : from ≤ w.count
   pub faulted : is_fault outcome ≡ true → from < w.count
   pub lasts : is_fault outcome ≡ false → Running w ≡ after b m w.count
-  pub counts : counts_in new ≡ behind is_multiple (counts_in before) (numbers_from (suc from) (lasting (is_fault outcome) w.count - from))
+  pub counts : counts_in new ≡ behind is_multiple (counts_in before)
+      (numbers_from (suc from) (lasting (is_fault outcome) w.count - from))
 
 -- after them stand its own; a fault is that of an event after where it went on
 pub record HasLeft (from : ℕ) (before new : Timeline Position) (ran : Ran) : Type 0 where
   pub grew : from ≤ ran.world.count
   pub faulted : is_fault ran.outcome ≡ true → from < ran.world.count
-  pub counts : counts_in new ≡ behind (is_left ran.world.count (is_fault ran.outcome)) (counts_in before) (numbers_from (suc from) (ran.world.count - from))
+  pub counts : counts_in new ≡ behind (is_left ran.world.count (is_fault ran.outcome))
+      (counts_in before) (numbers_from (suc from) (ran.world.count - from))
 
 -- It has executed so many events, at least this many and no more than its limit; after them stand
 -- the multiples among so many numbers.
-pub record HasGone (b : Behaviour) (m : Answers) (limit from least k more : ℕ) (before new : Timeline Position) : Type 0 where
+pub record HasGone (b : Behaviour) (m : Answers) (limit from least k more : ℕ)
+    (before new : Timeline Position) : Type 0 where
   pub going : CanGoOn b m k
   pub limited : k ≤ limit
   pub grew : least ≤ k
   pub counts : counts_in new ≡ behind is_multiple (counts_in before) (numbers_from (suc from) more)
 
 -- what stands after them, by where the run to that limit stands that went on from so many events
-abbrev pub HasBegun : Behaviour → Answers → ℕ → ℕ → Stood → Timeline Position → Timeline Position → Type 0
+abbrev pub HasBegun : Behaviour → Answers → ℕ → ℕ → Stood → Timeline Position
+    → Timeline Position → Type 0
 HasBegun b m limit from stood.Before before new = ⊥
-HasBegun b m limit from (stood.After k) before new = HasGone b m limit from from k (k - from) before new
-HasBegun b m limit from (stood.Untaken k) before new = HasGone b m limit from (suc from) k (k - suc from) before new
+HasBegun b m limit from (stood.After k) before new =
+    HasGone b m limit from from k (k - from) before new
+HasBegun b m limit from (stood.Untaken k) before new =
+    HasGone b m limit from (suc from) k (k - suc from) before new
 HasBegun b m limit from stood.Ending before new = HasLeft from before new (run_to b m limit)
 
 -- ---- in a runner
@@ -92,11 +102,13 @@ HasBegun b m limit from stood.Ending before new = HasLeft from before new (run_t
 module _ {C X : Type 0} {Y : X → Type 0} where
   -- its positions are good
   abbrev pub HasGood : Behaviour → Answers → Members X Y → Runner C X Y → Type 0
-  HasGood b m members r = AreGood b m (boxes_in members r.kernel) (world_in members r.kernel) r.positions.stored
+  HasGood b m members r =
+      AreGood b m (boxes_in members r.kernel) (world_in members r.kernel) r.positions.stored
 
   -- the run of the model goes on from where its kernel stands, which is up to the limit; numbers
   -- are far from running out
-  pub record IsGoing (b : Behaviour) (m : Answers) (members : Members X Y) (limit : ℕ) (r : Runner C X Y) : Type 0 where
+  pub record IsGoing (b : Behaviour) (m : Answers) (members : Members X Y) (limit : ℕ)
+      (r : Runner C X Y) : Type 0 where
     pub going : Running (world_in members r.kernel) ≡ after b m (world_in members r.kernel).count
     pub within : (world_in members r.kernel).count ≤ limit
     pub room : HasRoom (world_in members r.kernel)
@@ -110,14 +122,17 @@ module _ {C X : Type 0} {Y : X → Type 0} where
 
   -- THE MODULES THAT HAVE BOXES: those that were started, and then those whose boxes wait
   abbrev pub standing_in : Members X Y → Runner C X Y → List Part
-  standing_in members r = standing (world_in members r.kernel).modules ++ parts_in (waiting_in members r)
+  standing_in members r =
+      standing (world_in members r.kernel).modules ++ parts_in (waiting_in members r)
 
   -- Where there is a start the run goes on from there, of the positions those up to it are left,
   -- and no box waits; else nothing has changed.
-  abbrev pub IsBack : Behaviour → Answers → Members X Y → ℕ → Runner C X Y → Runner C X Y → Option ℕ → Type 0
+  abbrev pub IsBack : Behaviour → Answers → Members X Y → ℕ → Runner C X Y → Runner C X Y
+      → Option ℕ → Type 0
   IsBack b m members limit before after None = after ≡ before
   IsBack b m members limit before after (Some start) =
-      IsGoing b m members limit after × ((world_in members after.kernel).count ≡ start) × (after.positions ≡ cut_after start before.positions)
+      IsGoing b m members limit after × ((world_in members after.kernel).count ≡ start)
+      × (after.positions ≡ cut_after start before.positions)
       × (waiting_in members after ≡ [])
 
   -- all but its kernel and its boxes stays

@@ -1,5 +1,6 @@
 -- Which positions the runs of a session leave, by their counts of events.
-use Rattle.std.specs.Prelude.{◌≡◌, ◌≤◌, ◌<◌, ◌^◌, ℕ, zero, suc, ◌+◌, ◌-◌, ◌==◌, nat_le, Bool, not, List, [], ◌∷◌, ◌++◌, length, Option, Some, None, if◌then◌else◌}
+use Rattle.std.specs.Prelude.{◌≡◌, ◌≤◌, ◌<◌, ◌^◌, ℕ, zero, suc, ◌+◌, ◌-◌, ◌==◌, nat_le, Bool, not}
+use Rattle.std.specs.Prelude.{List, [], ◌∷◌, ◌++◌, length, Option, Some, None, if◌then◌else◌}
 use Rattle.std.specs.List.{filter}
 use Rattle.checkpoints.specs.Stored.{begun, is_multiple, left, most_stored, with_count, Timeline}
 use Rattle.module_api.specs.Behaviour.{Behaviour}
@@ -69,23 +70,27 @@ is_left last faulted interval n = if n == last then not faulted else is_multiple
 -- are taken
 abbrev pub positions_left : Timeline ℕ → Option ℕ → ℕ → Bool → Timeline ℕ
 positions_left old start last faulted =
-    behind (is_left last faulted) (cut start old) (numbers_from (first_behind start) (suc last - first_behind start))
+    behind (is_left last faulted) (cut start old)
+    (numbers_from (first_behind start) (suc last - first_behind start))
 
 -- the numbers of the events after which a run leaves a position where its interval stays
 abbrev pub due_behind : Option ℕ → ℕ → Bool → ℕ → List ℕ
-due_behind start last faulted interval = filter (is_left last faulted interval) (numbers_from (first_behind start) (suc last - first_behind start))
+due_behind start last faulted interval = filter (is_left last faulted interval)
+    (numbers_from (first_behind start) (suc last - first_behind start))
 
 -- Where no 65th is taken, all stay: those up to where it began, and its own after them.
 abbrev pub AllStay : Timeline ℕ → Option ℕ → ℕ → Bool → Type 0
 AllStay old start last faulted =
     let kept = cut start old in
     let own = due_behind start last faulted kept.interval in
-    length kept.stored + length own ≤ most_stored → positions_left old start last faulted ≡ record { first = kept.first; interval = kept.interval; stored = kept.stored ++ own }
+    length kept.stored + length own ≤ most_stored → positions_left old start last faulted
+    ≡ record { first = kept.first; interval = kept.interval; stored = kept.stored ++ own }
 
 -- the same, of a run that was given up before its end: of its events so many are those after whose
 -- multiples one was taken
 abbrev pub positions_begun : Timeline ℕ → Option ℕ → ℕ → Timeline ℕ
-positions_begun old start more = behind is_multiple (cut start old) (numbers_from (first_behind start) more)
+positions_begun old start more =
+    behind is_multiple (cut start old) (numbers_from (first_behind start) more)
 
 -- THE POSITIONS BEHIND a run of the model to that limit, where these were stored before
 abbrev pub positions_after : Behaviour → Answers → ℕ → Timeline ℕ → Timeline ℕ
@@ -99,7 +104,8 @@ CanGoOn b m k = (w : World) × (Running w ≡ after b m k)
 
 -- a run of the model to that limit, which began there, executed so many events, and of its own
 -- positions those of so many numbers are stored
-pub record HasGoneTo (b : Behaviour) (m : Answers) (limit : ℕ) (old : Timeline ℕ) (start : Option ℕ) (k more : ℕ) (new : Timeline ℕ) : Type 0 where
+pub record HasGoneTo (b : Behaviour) (m : Answers) (limit : ℕ) (old : Timeline ℕ) (start : Option ℕ)
+    (k more : ℕ) (new : Timeline ℕ) : Type 0 where
   pub going : CanGoOn b m k
   pub limited : k ≤ limit
   pub within : starts_within start k
@@ -110,8 +116,10 @@ pub record HasGoneTo (b : Behaviour) (m : Answers) (limit : ℕ) (old : Timeline
 -- position could not be taken, those before it. In its end there are all of its own.
 abbrev pub HasStored : Behaviour → Answers → ℕ → Timeline ℕ → Stood → Timeline ℕ → Type 0
 HasStored b m limit old stood.Before new = (start_of limit old.stored ≡ None) × (new ≡ cut None old)
-HasStored b m limit old (stood.After k) new = HasGoneTo b m limit old (start_of limit old.stored) k (suc k - first_behind (start_of limit old.stored)) new
-HasStored b m limit old (stood.Untaken k) new = HasGoneTo b m limit old (start_of limit old.stored) k (k - first_behind (start_of limit old.stored)) new
+HasStored b m limit old (stood.After k) new = HasGoneTo b m limit old (start_of limit old.stored) k
+    (suc k - first_behind (start_of limit old.stored)) new
+HasStored b m limit old (stood.Untaken k) new = HasGoneTo b m limit old (start_of limit old.stored)
+    k (k - first_behind (start_of limit old.stored)) new
 HasStored b m limit old stood.Ending new = new ≡ positions_after b m limit old
 
 -- ---- one run and one edit after the other
@@ -122,5 +130,7 @@ HasStored b m limit old stood.Ending new = new ≡ positions_after b m limit old
 pub data CanBeStored : Timeline ℕ → Type 0 where
   begins : (interval : ℕ) → 1 ≤ interval → CanBeStored (begun interval)
   is_cut : (event : Option ℕ) (t : Timeline ℕ) → CanBeStored t → CanBeStored (cut event t)
-  is_done : (b : Behaviour) (m : Answers) (limit : ℕ) (t : Timeline ℕ) → limit < 2 ^ 64 → CanBeStored t → CanBeStored (positions_after b m limit t)
-  is_given_up : (b : Behaviour) (m : Answers) (limit : ℕ) (at : Stood) (t new : Timeline ℕ) → limit < 2 ^ 64 → HasStored b m limit t at new → CanBeStored t → CanBeStored new
+  is_done : (b : Behaviour) (m : Answers) (limit : ℕ) (t : Timeline ℕ) → limit < 2 ^ 64
+      → CanBeStored t → CanBeStored (positions_after b m limit t)
+  is_given_up : (b : Behaviour) (m : Answers) (limit : ℕ) (at : Stood) (t new : Timeline ℕ)
+      → limit < 2 ^ 64 → HasStored b m limit t at new → CanBeStored t → CanBeStored new

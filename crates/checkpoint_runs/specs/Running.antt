@@ -1,11 +1,13 @@
 -- A run that gets its boxes and gets on, and what it leaves.
-use Rattle.std.specs.Prelude.{◌≡◌, ◌⊎◌, ◌<◌, ◌^◌, ℕ, false, List, [], ◌∷◌, ◌++◌, Option, Some, None, map, if◌then◌else◌}
+use Rattle.std.specs.Prelude.{◌≡◌, ◌⊎◌, ◌<◌, ◌^◌, ℕ, false, List, [], ◌∷◌, ◌++◌, Option, Some, None}
+use Rattle.std.specs.Prelude.{map, if◌then◌else◌}
 use Rattle.module_api.specs.Behaviour.{Behaviour}
 use Rattle.model_questions.specs.Answers.{Answers}
 use Rattle.run_semantics.specs.declared.outcome.Outcome.{Outcome}
 use Rattle.run_semantics.specs.World.{World, HasRoom}
 use Rattle.run_semantics.specs.Perform.{Flow, On, Stopped, Broken}
-use Rattle.run_semantics.specs.Run.{Part, first_unknown, needs, prepared, standing, start, Over, Ran, run_to}
+use Rattle.run_semantics.specs.Run.{Part, first_unknown, needs, prepared, standing, start, Over}
+use Rattle.run_semantics.specs.Run.{Ran, run_to}
 use Rattle.run_semantics.specs.Ending.{ending}
 use Rattle.kernel.specs.declared.request.Request.{Request}
 use Rattle.kernel_boxes.specs.Seats.{BoxAt, instance_of}
@@ -61,7 +63,8 @@ boxes_unless None standing supplied = standing
 boxes_unless (Some unknown) standing supplied = supplied
 
 abbrev pub boxes_of : Behaviour → Flow → List Part → List Part
-boxes_of b (On w) standing = boxes_unless (first_unknown b (needs w)) standing (known_first b (needs w))
+boxes_of b (On w) standing =
+    boxes_unless (first_unknown b (needs w)) standing (known_first b (needs w))
 boxes_of b (Stopped w) standing = standing
 boxes_of b (Broken w path f) standing = []
 
@@ -87,7 +90,8 @@ pub record IsFilled (b : Behaviour) (m : Answers) (w : World) (waiting : List Bo
   pub first : AreFirst b w waiting
 
 -- the next box was declined
-pub record IsDeclined (b : Behaviour) (m : Answers) (w : World) (waiting : List BoxAt) : Type 0 where
+pub record IsDeclined (b : Behaviour) (m : Answers) (w : World)
+    (waiting : List BoxAt) : Type 0 where
   pub filled : IsFilled b m w waiting
   pub part : Part
   pub missing : missing_part w (parts_in waiting) ≡ Some part
@@ -120,11 +124,14 @@ pub record IsStopped (b : Behaviour) (m : Answers) (limit : ℕ) (ran : Ran) : T
 -- ---- how a run gets on
 
 -- where a run stands that has its boxes, waits for one, or can't begin
-abbrev pub Stands : Behaviour → Answers → List Part → World → List BoxAt → RunStatus (Option Outcome) → Type 0
+abbrev pub Stands : Behaviour → Answers → List Part → World → List BoxAt
+    → RunStatus (Option Outcome) → Type 0
 Stands b m kept w waiting (status.Done (Some outcome)) =
-    (Over w outcome ≡ start b m) × (w.modules ≡ []) × (parts_in waiting ≡ boxes_of b (prepared m) [])
+    (Over w outcome ≡ start b m) × (w.modules ≡ [])
+    × (parts_in waiting ≡ boxes_of b (prepared m) [])
 Stands b m kept w waiting (status.Waits request) =
-    IsFilled b m w waiting × (missing_of w (parts_in waiting) ≡ Some request) × (parts_in waiting ≡ kept)
+    IsFilled b m w waiting × (missing_of w (parts_in waiting) ≡ Some request)
+    × (parts_in waiting ≡ kept)
 Stands b m kept w waiting (status.Done None) = CanStart b m w waiting
 
 -- what it waits for is what its model wants after so many boxes; it doesn't go on while there is
@@ -135,7 +142,9 @@ Wants m kept phase (status.Done (Some outcome)) = (phase ≡ Declined) ⊎ (want
 Wants m kept phase (status.Done None) = (phase ≡ Declined) ⊎ (wanted_by m kept ≡ None)
 
 -- a run waits with the boxes that it kept, as it begins with setup; no position is stored
-pub record IsWaiting (b : Behaviour) (m : Answers) (limit : ℕ) (kept : List Part) (phase : Phase) (old : Timeline ℕ) (w : World) (waiting : List BoxAt) (new : Timeline ℕ) (request : Request) : Type 0 where
+pub record IsWaiting (b : Behaviour) (m : Answers) (limit : ℕ) (kept : List Part)
+    (phase : Phase) (old : Timeline ℕ) (w : World) (waiting : List BoxAt) (new : Timeline ℕ)
+    (request : Request) : Type 0 where
   pub filled : IsFilled b m w waiting
   pub kept_is : parts_in waiting ≡ kept
   pub undeclined : IsUndeclined phase
@@ -144,7 +153,9 @@ pub record IsWaiting (b : Behaviour) (m : Answers) (limit : ℕ) (kept : List Pa
   pub positions : new ≡ cut None old
 
 -- a run is done that began there, and it has left its positions
-pub record IsEnded (b : Behaviour) (m : Answers) (limit : ℕ) (kept : List Part) (phase : Phase) (old : Timeline ℕ) (w : World) (waiting : List BoxAt) (new : Timeline ℕ) (from : Option ℕ) (outcome : Outcome) : Type 0 where
+pub record IsEnded (b : Behaviour) (m : Answers) (limit : ℕ) (kept : List Part) (phase : Phase)
+    (old : Timeline ℕ) (w : World) (waiting : List BoxAt) (new : Timeline ℕ) (from : Option ℕ)
+    (outcome : Outcome) : Type 0 where
   pub whole : whole_run b m limit w outcome
   pub boxes : standing w.modules ++ parts_in waiting ≡ boxes_left b m limit
   pub start : from ≡ start_of limit old.stored
@@ -153,6 +164,9 @@ pub record IsEnded (b : Behaviour) (m : Answers) (limit : ℕ) (kept : List Part
   pub positions : new ≡ positions_after b m limit old
 
 -- where a run is after it was asked for, with the positions before and after
-abbrev pub Advances : Behaviour → Answers → ℕ → List Part → Phase → Timeline ℕ → World → List BoxAt → Timeline ℕ → RunStatus Ended → Type 0
-Advances b m limit kept phase old w waiting new (status.Waits request) = IsWaiting b m limit kept phase old w waiting new request
-Advances b m limit kept phase old w waiting new (status.Done ended) = IsEnded b m limit kept phase old w waiting new ended.start ended.outcome
+abbrev pub Advances : Behaviour → Answers → ℕ → List Part → Phase → Timeline ℕ → World → List BoxAt
+    → Timeline ℕ → RunStatus Ended → Type 0
+Advances b m limit kept phase old w waiting new (status.Waits request) =
+    IsWaiting b m limit kept phase old w waiting new request
+Advances b m limit kept phase old w waiting new (status.Done ended) =
+    IsEnded b m limit kept phase old w waiting new ended.start ended.outcome

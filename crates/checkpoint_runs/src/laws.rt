@@ -8,7 +8,8 @@ ghost use Rattle.checkpoint_runs.specs.Positions.{AllStay, CanBeStored};
 /// after each multiple of the interval and after its last event, unless that ended in a fault. The
 /// interval stays too.
 pub fn few_positions_all_stay()
-    ensures { (old : Timeline ℕ) (start : Option ℕ) (last : ℕ) (faulted : Bool) → AllStay old start last faulted }
+    ensures { (old : Timeline ℕ) (start : Option ℕ) (last : ℕ) (faulted : Bool)
+        → AllStay old start last faulted }
 {}
 
 /// Whatever runs and edits came before, whether the runs are done or were given up, at most 64

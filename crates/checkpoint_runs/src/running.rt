@@ -1,14 +1,20 @@
 //! A run, from setup or from a position, and the positions that it leaves.
 
-ghost use Rattle.std.specs.Prelude.{◌≡◌, ◌≤◌, ◌&&◌, ◌++◌, ◌∷◌, [], nat_lt, not, true, None, OnOk, OnErr, IfOk, IfErr, length};
+ghost use Rattle.std.specs.Prelude.{◌≡◌, ◌≤◌, ◌&&◌, ◌++◌, ◌∷◌, [], nat_lt, not, true, None, OnOk};
+ghost use Rattle.std.specs.Prelude.{OnErr, IfOk, IfErr, length};
 ghost use Rattle.model_answers.specs.Answering.{answers_of};
 ghost use Rattle.run_semantics.specs.Run.{prepared, run_to, settled, stage_of};
 ghost use Rattle.kernel_actions.specs.Positions.{position_of};
 ghost use Rattle.kernel_call_views.specs.Tables.{AreShown};
 ghost use Rattle.kernel.specs.Kernels.{boxes_in, world_in, ran_in, HasKinds};
-ghost use Rattle.checkpoints.specs.Stored.{counts_in, counts_of, is_multiple, last_of, AreBelow, AreRising, IsBegun};
-ghost use Rattle.checkpoint_runs.specs.Running.{boxes_left, fresh_run, kept_boxes, parts_in, Advances, CanStart, IsDeclined, IsFilled, IsLive, IsStopped, IsUndeclined, Stands, Wants};
-ghost use Rattle.checkpoint_runs.specs.Kept.{standing_in, cut_to_last, kept_up_to, taken_if, waiting_in, HasBegun, HasGood, HasGoneOn, HasLeft, IsBack, IsBesideKernel, IsGoing};
+ghost use Rattle.checkpoints.specs.Stored.{counts_in, counts_of, is_multiple, last_of, AreBelow};
+ghost use Rattle.checkpoints.specs.Stored.{AreRising, IsBegun};
+ghost use Rattle.checkpoint_runs.specs.Running.{boxes_left, fresh_run, kept_boxes, parts_in};
+ghost use Rattle.checkpoint_runs.specs.Running.{Advances, CanStart, IsDeclined, IsFilled, IsLive};
+ghost use Rattle.checkpoint_runs.specs.Running.{IsStopped, IsUndeclined, Stands, Wants};
+ghost use Rattle.checkpoint_runs.specs.Kept.{standing_in, cut_to_last, kept_up_to, taken_if};
+ghost use Rattle.checkpoint_runs.specs.Kept.{waiting_in, HasBegun, HasGood, HasGoneOn, HasLeft};
+ghost use Rattle.checkpoint_runs.specs.Kept.{IsBack, IsBesideKernel, IsGoing};
 ghost use Rattle.checkpoint_runs.specs.Positions.{last_count, positions_after, start_of, HasStored};
 ghost use Rattle.kernel_boxes.specs.Seats.{BoxAt, AreBelow as AreOfSmallerIds};
 ghost use Rattle.kernel_boxes.specs.Saved.{instances_held};
@@ -144,7 +150,8 @@ impl<C: Catalogue> Runner<C> {
         ensures empty { OnOk result (boxes_in SimpleModule-box self.new.kernel ≡ []) }
         ensures none { waiting_in SimpleModule-box self.new ≡ [] }
         ensures step { IfOk result (λ over.
-            stage_of over (world_in SimpleModule-box self.new.kernel) ≡ settled (prepared M.answers)) }
+            stage_of over (world_in SimpleModule-box self.new.kernel)
+            ≡ settled (prepared M.answers)) }
     {
         self.waiting.clear();
         let mut answers = AskedModel::<M>::new(alloc, model)?;
@@ -307,7 +314,8 @@ impl<C: Catalogue> Runner<C> {
         ensures back { IfOk result (λ start.
             (start ≡ start_of limit (counts_of self.old.positions.stored))
             × IsBack C.behaviour M.answers SimpleModule-box limit self.old self.new start) }
-        ensures err { OnErr result (HasStored C.behaviour M.answers limit (counts_in self.old.positions)
+        ensures err { OnErr result
+            (HasStored C.behaviour M.answers limit (counts_in self.old.positions)
             self.new.stood (counts_in self.new.positions)) }
     {
         let Some(position) = self.positions.at_most(limit) else {
@@ -349,7 +357,8 @@ impl<C: Catalogue> Runner<C> {
         ensures rising { AreRising self.old.positions.stored }
         ensures last { result ≡ last_count (counts_of self.old.positions.stored) }
         ensures world { world_in SimpleModule-box self.new.kernel
-            ≡ cut_to_last (last_of self.old.positions.stored) (world_in SimpleModule-box self.old.kernel) }
+            ≡ cut_to_last (last_of self.old.positions.stored)
+            (world_in SimpleModule-box self.old.kernel) }
     {
         let Some(position) = self.positions.last() else {
             return None;
@@ -383,7 +392,8 @@ impl<C: Catalogue> Runner<C> {
         ensures good { HasGood C.behaviour A.answers SimpleModule-box self.new }
         ensures waiting { self.new.waiting ≡ self.old.waiting }
         ensures begun { let from = (world_in SimpleModule-box self.old.kernel).count in
-            OnErr result (HasBegun C.behaviour A.answers limit from self.new.stood self.old.positions
+            OnErr result
+            (HasBegun C.behaviour A.answers limit from self.new.stood self.old.positions
             self.new.positions) }
         ensures ran { IfOk result (λ outcome. IsStopped C.behaviour A.answers limit
             (ran_in SimpleModule-box outcome self.new.kernel)) }
@@ -502,7 +512,8 @@ impl<C: Catalogue> Runner<C> {
             let left = world_in SimpleModule-box self.new.kernel in
             let waiting = waiting_in SimpleModule-box self.new in
             IfOk result (λ advance.
-            Advances C.behaviour M.answers limit kept phase (counts_in self.old.positions) left waiting
+            Advances C.behaviour M.answers limit kept phase (counts_in self.old.positions)
+            left waiting
             (counts_in self.new.positions) advance) }
         ensures stopped { HasStored C.behaviour M.answers limit (counts_in self.old.positions)
             self.new.stood (counts_in self.new.positions) }
@@ -546,9 +557,11 @@ impl<C: Catalogue> Runner<C> {
             let left = world_in SimpleModule-box self.new.kernel in
             let waiting = waiting_in SimpleModule-box self.new in
             IfOk result (λ advance.
-            Advances C.behaviour (answers_of model.now) limit kept phase (counts_in self.old.positions) left waiting
+            Advances C.behaviour (answers_of model.now) limit kept phase
+            (counts_in self.old.positions) left waiting
             (counts_in self.new.positions) advance) }
-        ensures stopped { HasStored C.behaviour (answers_of model.now) limit (counts_in self.old.positions)
+        ensures stopped { HasStored C.behaviour (answers_of model.now) limit
+            (counts_in self.old.positions)
             self.new.stood (counts_in self.new.positions) }
     {
         self.advance_as::<Brand, W>(alloc, model, phase, limit, observer)
@@ -577,7 +590,8 @@ impl<C: Catalogue> Runner<C> {
             let left = world_in SimpleModule-box self.new.kernel in
             let waiting = waiting_in SimpleModule-box self.new in
             IfOk result (λ advance.
-            Advances C.behaviour M.answers limit kept phase (counts_in self.old.positions) left waiting
+            Advances C.behaviour M.answers limit kept phase (counts_in self.old.positions)
+            left waiting
             (counts_in self.new.positions) advance) }
         ensures stopped { HasStored C.behaviour M.answers limit (counts_in self.old.positions)
             self.new.stood (counts_in self.new.positions) }

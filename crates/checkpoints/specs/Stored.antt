@@ -1,5 +1,7 @@
 -- Stored positions, and how far apart they are taken.
-use Rattle.std.specs.Prelude.{◌≡◌, ℕ, zero, suc, ◌*◌, ◌^◌, ◌%◌, ◌<◌, ◌≤◌, ◌==◌, ◌||◌, nat_le, nat_lt, min, Bool, false, List, [], ◌∷◌, ◌++◌, Option, Some, None, length, map, if◌then◌else◌}
+use Rattle.std.specs.Prelude.{◌≡◌, ℕ, zero, suc, ◌*◌, ◌^◌, ◌%◌, ◌<◌, ◌≤◌, ◌==◌, ◌||◌, nat_le}
+use Rattle.std.specs.Prelude.{nat_lt, min, Bool, false, List, [], ◌∷◌, ◌++◌, Option, Some, None}
+use Rattle.std.specs.Prelude.{length, map, if◌then◌else◌}
 use Rattle.std.specs.List.{filter}
 use Rattle.kernel_actions.specs.declared.position.Position.{Position}
 
@@ -90,12 +92,17 @@ stays interval newest n = is_multiple interval n || n == newest
 abbrev pub thinned : {A : Type 0} → (A → ℕ) → ℕ → Timeline A → Timeline A
 thinned count newest t =
     if nat_lt most_stored (length t.stored)
-    then record { first = t.first; interval = doubled t.interval; stored = filter (λ a. stays (doubled t.interval) newest (count a)) t.stored }
+    then record {
+      first = t.first;
+      interval = doubled t.interval;
+      stored = filter (λ a. stays (doubled t.interval) newest (count a)) t.stored;
+    }
     else t
 
 -- ONE MORE IS TAKEN, after the others
 abbrev pub taken : {A : Type 0} → (A → ℕ) → A → Timeline A → Timeline A
-taken count a t = thinned count (count a) (record { first = t.first; interval = t.interval; stored = t.stored ++ a ∷ [] })
+taken count a t = thinned count (count a)
+    (record { first = t.first; interval = t.interval; stored = t.stored ++ a ∷ [] })
 
 -- one more position
 abbrev pub with_position : Position → Timeline Position → Timeline Position

@@ -4,7 +4,9 @@ ghost use Rattle.std.specs.Prelude.{◌≡◌, ◌≤◌, [], ◌∷◌, ◌++�
 ghost use Rattle.std.specs.List.{filter};
 ghost use Rattle.std.specs.Option.{option_copied};
 ghost use Rattle.kernel_actions.specs.declared.position.Position.{Position};
-ghost use Rattle.checkpoints.specs.Stored.{begun, counts_of, cut_after, doubled, ends_at, last_of, number_up_to, stays, thinned, up_to, with_position, AreBelow, AreRising};
+ghost use Rattle.checkpoints.specs.Stored.{begun, counts_of, cut_after, doubled, ends_at, last_of};
+ghost use Rattle.checkpoints.specs.Stored.{number_up_to, stays, thinned, up_to, with_position};
+ghost use Rattle.checkpoints.specs.Stored.{AreBelow, AreRising};
 
 use kernel_actions::position::Position;
 use sim_values::NoMemory;
@@ -84,7 +86,8 @@ impl Positions {
     /// Stores a position after the others. After NoMemory it is dropped, and the others stay.
     fn push(&mut self, position: Position) -> Result<(), NoMemory>
         requires { AreBelow position.count self.old.stored }
-        ensures ok { OnOk result (self.new ≡ record self.old { stored = self.old.stored ++ position ∷ [] }) }
+        ensures ok { OnOk result (self.new
+            ≡ record self.old { stored = self.old.stored ++ position ∷ [] }) }
         ensures err { OnErr result (self.new ≡ self.old) }
     {
         self.counts.push(position.count())?;
@@ -204,7 +207,8 @@ fn stays(interval: u64, newest: u64, count: u64) -> bool
 /// Drops the positions that don't stay.
 fn keep_positions(held: &mut Vec<Position>, interval: u64, newest: u64)
     requires { 1 ≤ interval }
-    ensures { held.new.items ≡ filter (λ (p : Position). stays interval newest p.count) held.old.items }
+    ensures { held.new.items
+        ≡ filter (λ (p : Position). stays interval newest p.count) held.old.items }
 {
     held.retain(|position| stays(interval, newest, position.count()));
 }

@@ -7,7 +7,8 @@ use Rattle.model_reading.specs.Faults.{begin_fault_name}
 
 -- where what is refused stands: the file, counted from 0, and the line, counted from 1
 abbrev pub refusal_place : BeginFault → List ℕ
-refusal_place (refusal.NedSyntax file line) = codes " file " ++ (decimal file ++ (codes " line " ++ decimal line))
+refusal_place (refusal.NedSyntax file line) =
+    codes " file " ++ (decimal file ++ (codes " line " ++ decimal line))
 refusal_place (refusal.IniSyntax line reason) = codes " line " ++ decimal line
 refusal_place _ = []
 

@@ -16,7 +16,8 @@ use Rattle.checkpoint_runs.specs.Positions.{cut, events_behind, positions_after,
 use Rattle.checkpoint_runs.specs.declared.running.Phase.TheVariants.{Idle}
 use Rattle.edit_session.specs.Reuse.{IsValidTo}
 use Rattle.edit_session.specs.Sessions.{editing_of, IsSound, KeepsModel}
-use Rattle.desk_client.specs.Answers.{done_text, edit_refusal_text, edited_text, held_text, positions_text, IsTold}
+use Rattle.desk_client.specs.Answers.{done_text, edit_refusal_text, edited_text, held_text}
+use Rattle.desk_client.specs.Answers.{positions_text, IsTold}
 use Rattle.desk_answers.specs.declared.desk.Desk.{Desk}
 use Rattle.desk_answers.specs.declared.desk.DeskTurn.{DeskTurn}
 use Rattle.desk_answers.specs.declared.desk.DeskTurn.TheVariants as turn
@@ -57,10 +58,12 @@ pub record IsDone (b : Behaviour) (before : Editing) (limit : ℕ) (after : Edit
   pub done : after.done ≡ Some (completed b before.model limit)
   pub boxes : after.boxes ≡ boxes_left b (answers_of before.model) limit
   pub known : after.known ≡ Some (fresh_run b (answers_of before.model) limit).world.count
-  pub positions : after.positions ≡ positions_after b (answers_of before.model) limit before.positions
+  pub positions : after.positions
+      ≡ positions_after b (answers_of before.model) limit before.positions
 
 -- The same, and the text is its answer.
-pub record HasRun (b : Behaviour) (before : Editing) (limit : ℕ) (text : List ℕ) (after : Editing) : Type 0 where
+pub record HasRun (b : Behaviour) (before : Editing) (limit : ℕ) (text : List ℕ)
+    (after : Editing) : Type 0 where
   pub answer : text ≡ run_answer b before.model limit before.positions.stored
   pub done : IsDone b before limit after
 
@@ -78,7 +81,8 @@ MayBeDone b before limit after = IsGivenUp b before limit after ⊎ IsDone b bef
 
 -- The edit is made: the model is the one that it makes, and it makes no other. It is told up to
 -- which event a run of the old model, of which so many events are known, is one of the new model.
-pub record IsMade (b : Behaviour) (m : Model) (known : Option ℕ) (e : Edit) (text : List ℕ) (new : Model) (valid : Option ℕ) : Type 0 where
+pub record IsMade (b : Behaviour) (m : Model) (known : Option ℕ) (e : Edit) (text : List ℕ)
+    (new : Model) (valid : Option ℕ) : Type 0 where
   pub text_is : text ≡ edited_text valid (number_given e m)
   pub valid_to : IsValidTo b (answers_of m) (answers_of new) known valid
   pub edited : IsEditOf m e new
@@ -96,7 +100,14 @@ pub record IsRefused (m : Model) (e : Edit) (text : List ℕ) : Type 0 where
 abbrev pub AnswersEdit : Behaviour → Editing → Edit → List ℕ → Editing → Type 0
 AnswersEdit b before e text after =
     ((valid : Option ℕ) × IsMade b before.model before.known e text after.model valid
-    × (after ≡ record { model = after.model; done = None; phase = Idle; boxes = before.boxes; known = valid; positions = cut valid before.positions }))
+    × (after ≡ record {
+      model = after.model;
+      done = None;
+      phase = Idle;
+      boxes = before.boxes;
+      known = valid;
+      positions = cut valid before.positions;
+    }))
     ⊎ (IsRefused before.model e text × (after ≡ before))
 
 -- ---- lines
@@ -113,14 +124,22 @@ IsToldIn (turn.Want request) = Unit {0}
 
 -- WHAT A COMMAND IS ANSWERED, and what it leaves
 abbrev pub AnswersCommand : Behaviour → Editing → Command → DeskTurn → Editing → Type 0
-AnswersCommand b before (command.Run limit) answer after = IsRunTurn b before limit answer after × (after.model ≡ before.model)
-AnswersCommand b before (command.Edit e) answer after = IsTextOf answer (λ text. AnswersEdit b before e text after)
-AnswersCommand b before (command.Ned number path) answer after = IsTextOf answer (λ text. text ≡ codes "refused Command") × (after ≡ before)
-AnswersCommand b before command.Positions answer after = IsTextOf answer (λ text. text ≡ positions_text before.positions.stored) × (after ≡ before)
-AnswersCommand b before command.Held answer after = IsTextOf answer (λ text. text ≡ held_text (length before.boxes)) × (after ≡ before)
-AnswersCommand b before command.Write answer after = IsTextOf answer (λ text. text ≡ codes "refused Command") × (after ≡ before)
-AnswersCommand b before command.Unknown answer after = IsTextOf answer (λ text. text ≡ codes "refused Command") × (after ≡ before)
-AnswersCommand b before command.TooLarge answer after = IsTextOf answer (λ text. text ≡ codes "refused TooLarge") × (after ≡ before)
+AnswersCommand b before (command.Run limit) answer after =
+    IsRunTurn b before limit answer after × (after.model ≡ before.model)
+AnswersCommand b before (command.Edit e) answer after =
+    IsTextOf answer (λ text. AnswersEdit b before e text after)
+AnswersCommand b before (command.Ned number path) answer after =
+    IsTextOf answer (λ text. text ≡ codes "refused Command") × (after ≡ before)
+AnswersCommand b before command.Positions answer after =
+    IsTextOf answer (λ text. text ≡ positions_text before.positions.stored) × (after ≡ before)
+AnswersCommand b before command.Held answer after =
+    IsTextOf answer (λ text. text ≡ held_text (length before.boxes)) × (after ≡ before)
+AnswersCommand b before command.Write answer after =
+    IsTextOf answer (λ text. text ≡ codes "refused Command") × (after ≡ before)
+AnswersCommand b before command.Unknown answer after =
+    IsTextOf answer (λ text. text ≡ codes "refused Command") × (after ≡ before)
+AnswersCommand b before command.TooLarge answer after =
+    IsTextOf answer (λ text. text ≡ codes "refused TooLarge") × (after ≡ before)
 
 abbrev pub AnswersLine : Behaviour → Editing → List ℕ → DeskTurn → Editing → Type 0
 AnswersLine b before line answer after = AnswersCommand b before (command_of line) answer after
@@ -128,7 +147,8 @@ AnswersLine b before line answer after = AnswersCommand b before (command_of lin
 -- WHAT LACK OF MEMORY LEAVES after a command: of a run the model and what it stored; and of all
 -- else everything as it was
 abbrev pub Forgoes : Behaviour → Command → Editing → Editing → Type 0
-Forgoes b (command.Run limit) before after = MayBeDone b before limit after × (after.model ≡ before.model)
+Forgoes b (command.Run limit) before after =
+    MayBeDone b before limit after × (after.model ≡ before.model)
 Forgoes b _ before after = after ≡ before
 
 -- the limit of the last run, after a command

@@ -3,7 +3,9 @@
 ghost use Rattle.std.specs.Prelude.{◌≡◌, ◌++◌, Some, IfOk, OnOk, codes};
 ghost use Rattle.std.specs.Fmt.{decimal};
 ghost use Rattle.desk_answers.specs.Refusals.{refusal_place, refusal_text};
-ghost use Rattle.desk_client.specs.Answers.{counts_text, done_text, edit_refusal_text, edited_text, held_text, injection_text, numbers_text, positions_text, valid_text};
+ghost use Rattle.desk_client.specs.Answers.{counts_text, done_text, edit_refusal_text, edited_text};
+ghost use Rattle.desk_client.specs.Answers.{held_text, injection_text, numbers_text};
+ghost use Rattle.desk_client.specs.Answers.{positions_text, valid_text};
 ghost use Rattle.desk_client.specs.Answers.{fault_detail, outcome_text, start_text, IsTold};
 
 use desk_client::told::AnswerContent;

@@ -1,6 +1,7 @@
 //! The desk.
 
-ghost use Rattle.std.specs.Prelude.{◌≡◌, ◌↔◌, None, IsSome, length, OnOk, OnErr, IfOk, IfErr, option_map, option_copied};
+ghost use Rattle.std.specs.Prelude.{◌≡◌, ◌↔◌, None, IsSome, length, OnOk, OnErr, IfOk, IfErr};
+ghost use Rattle.std.specs.Prelude.{option_map, option_copied};
 ghost use Rattle.edit_session.specs.Editing.{Completed, IsFor, IsUnknown, wanted_of, with_box};
 ghost use Rattle.edit_session.specs.Files.{scalars_of_run, vectors_of_run, FileWritten};
 ghost use Rattle.edit_session.specs.Sessions.{editing_of, IsSound};
@@ -9,7 +10,9 @@ ghost use Rattle.edit_session.specs.declared.session.SupplyReason.{SupplyReason}
 ghost use Rattle.desk_commands.specs.Commands.{command_of};
 ghost use Rattle.desk_client.specs.Answers.{held_text, positions_text, IsTold};
 ghost use Rattle.model_edits.specs.declared.edit.Edit.TheVariants as edits;
-ghost use Rattle.desk_answers.specs.Turns.{editing_at, limit_at, limit_after, AnswersEdit, AnswersLine, Forgoes, IsRunTurn, IsSettled, IsToldIn, MayBeDone, StaysSettled};
+ghost use Rattle.desk_answers.specs.Turns.{editing_at, limit_at, limit_after, AnswersEdit};
+ghost use Rattle.desk_answers.specs.Turns.{AnswersLine, Forgoes, IsRunTurn, IsSettled, IsToldIn};
+ghost use Rattle.desk_answers.specs.Turns.{MayBeDone, StaysSettled};
 
 use crate::answers::{Answer, done, edited_text, held_text, positions_text, refused, refused_as};
 use checkpoint_runs::observer::Observer;
@@ -140,7 +143,8 @@ impl<C: Catalogue> Desk<C> {
         ensures sound { IsSettled C.behaviour SimpleModule-box self.new }
         ensures answer { let before = editing_at SimpleModule-box self.old in
             let after = editing_at SimpleModule-box self.new in
-            IfOk result (λ answer. AnswersEdit C.behaviour before (edits.ReplaceNed file text) answer.text after) }
+            IfOk result (λ answer. AnswersEdit C.behaviour before (edits.ReplaceNed file text)
+            answer.text after) }
         ensures told { IfOk result (λ answer. IsTold answer.told answer.text) }
         ensures limit { limit_at self.new ≡ limit_at self.old }
         ensures memory { OnErr result (self.new ≡ self.old) }

@@ -24,7 +24,8 @@ outcome_text outcome.EventLimit = codes "event-limit"
 outcome_text outcome.NoMoreEvents = codes "no-more-events"
 outcome_text outcome.TimeLimit = codes "time-limit"
 outcome_text (outcome.Fault event path f) =
-    codes "fault " ++ (decimal event ++ (codes " " ++ (path ++ (codes " " ++ (fault_name f ++ fault_detail f)))))
+    codes "fault " ++ (decimal event
+    ++ (codes " " ++ (path ++ (codes " " ++ (fault_name f ++ fault_detail f)))))
 
 -- THE ANSWER of a run that is done: how it ended, where it began, and how many events were executed
 -- after that
@@ -34,7 +35,8 @@ start_text (Some event) = decimal event
 
 abbrev pub done_text : Outcome → Option ℕ → ℕ → List ℕ
 done_text o from executed =
-    codes "done " ++ (outcome_text o ++ (codes " from " ++ (start_text from ++ (codes " executed " ++ decimal executed))))
+    codes "done " ++ (outcome_text o
+    ++ (codes " from " ++ (start_text from ++ (codes " executed " ++ decimal executed))))
 
 -- ---- edits
 
@@ -49,7 +51,8 @@ injection_text None = []
 injection_text (Some number) = codes " injection " ++ decimal number
 
 abbrev pub edited_text : Option ℕ → Option ℕ → List ℕ
-edited_text valid_to injection = codes "edited valid " ++ (valid_text valid_to ++ injection_text injection)
+edited_text valid_to injection =
+    codes "edited valid " ++ (valid_text valid_to ++ injection_text injection)
 
 -- THE ANSWER TO `held`: how many boxes there are
 abbrev pub held_text : ℕ → List ℕ
@@ -78,7 +81,8 @@ edit_refusal_text edit.NoSuchType = Some (codes "refused NoSuchType")
 edit_refusal_text edit.NoSuchConnection = Some (codes "refused NoSuchConnection")
 edit_refusal_text (edit.NedSyntax line) = Some (codes "refused NedSyntax line " ++ decimal line)
 edit_refusal_text (edit.Types fault) = Some (codes "refused " ++ type_fault_name fault)
-edit_refusal_text (edit.IniSyntax line reason) = Some (codes "refused IniSyntax line " ++ decimal line)
+edit_refusal_text (edit.IniSyntax line reason) =
+    Some (codes "refused IniSyntax line " ++ decimal line)
 edit_refusal_text (edit.Config fault) = Some (codes "refused " ++ config_fault_name fault)
 edit_refusal_text (edit.NoMemory _) = None
 
@@ -88,7 +92,8 @@ edit_refusal_text (edit.NoMemory _) = None
 -- or why it is refused; of another command its text is what such a command is answered
 abbrev pub IsTold : AnswerContent → List ℕ → Type 0
 IsTold (told.Done o) text = (from : Option ℕ) × (executed : ℕ) × (text ≡ done_text o from executed)
-IsTold (told.Edited injection) text = (valid_to : Option ℕ) × (text ≡ edited_text valid_to injection)
+IsTold (told.Edited injection) text =
+    (valid_to : Option ℕ) × (text ≡ edited_text valid_to injection)
 IsTold (told.Refused why) text = Some text ≡ edit_refusal_text why
 IsTold told.NoCommand text = text ≡ codes "refused Command"
 IsTold told.TooLarge text = text ≡ codes "refused TooLarge"

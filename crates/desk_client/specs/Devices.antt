@@ -8,5 +8,7 @@ use Rattle.desk_client.specs.declared.clients.Page.TheVariants as page
 -- first: where its device fails the other one took nothing, and it did not fail where the other one
 -- does.
 abbrev pub HasFailed : Page → ℕ → Taken → Taken → Type 0
-HasFailed page.Scalars written scalars vectors = (length scalars.bytes ≡ written) × (scalars.failures ≡ 1) × (vectors ≡ untouched)
-HasFailed page.Vectors written scalars vectors = (length vectors.bytes ≡ written) × (vectors.failures ≡ 1) × (scalars.failures ≡ 0)
+HasFailed page.Scalars written scalars vectors =
+    (length scalars.bytes ≡ written) × (scalars.failures ≡ 1) × (vectors ≡ untouched)
+HasFailed page.Vectors written scalars vectors =
+    (length vectors.bytes ≡ written) × (vectors.failures ≡ 1) × (scalars.failures ≡ 0)

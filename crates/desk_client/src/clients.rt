@@ -1,6 +1,7 @@
 //! Who asks at a desk, and hears what comes of it.
 
-ghost use Rattle.std.specs.Prelude.{◌≡◌, ◌<◌, ℕ, List, ◌∷◌, ◌++◌, [], None, OnOk, OnErr, IfOk, IfSome};
+ghost use Rattle.std.specs.Prelude.{◌≡◌, ◌<◌, ℕ, List, ◌∷◌, ◌++◌, [], None, OnOk, OnErr, IfOk};
+ghost use Rattle.std.specs.Prelude.{IfSome};
 ghost use Rattle.result_lines.specs.Taken.{untouched};
 ghost use Rattle.desk_client.specs.Answers.{IsTold};
 ghost use Rattle.desk_client.specs.Devices.{HasFailed};
@@ -99,7 +100,8 @@ pub trait Client<O: Out + Drop> {
         ensures kept { keeps self.new }
         ensures label { label self.new ≡ label self.old }
         ensures stuck { OnErr result (stops self.new why.Gone) }
-        ensures heard { IfOk result (λ text. heard self.new ≡ heard self.old ++ Read path.now text ∷ []) }
+        ensures heard { IfOk result
+            (λ text. heard self.new ≡ heard self.old ++ Read path.now text ∷ []) }
         ensures gone { OnErr result (heard self.new ≡ heard self.old) }
         ensures asked { asked self.new ≡ asked self.old }
         ensures left { left self.new ≡ left self.old };

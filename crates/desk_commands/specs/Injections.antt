@@ -1,5 +1,7 @@
 -- Commands that inject a message, or take one back.
-use Rattle.std.specs.Prelude.{ℕ, ◌==◌, Bool, ◌&&◌, ◌||◌, not, nat_le, nat_lt, List, [], ◌∷◌, Option, Some, None, option_map, codes, length, position, take, drop, unwrap_or, if◌then◌else◌}
+use Rattle.std.specs.Prelude.{ℕ, ◌==◌, Bool, ◌&&◌, ◌||◌, not, nat_le, nat_lt, List, [], ◌∷◌, Option}
+use Rattle.std.specs.Prelude.{Some, None, option_map, codes, length, position, take, drop}
+use Rattle.std.specs.Prelude.{unwrap_or, if◌then◌else◌}
 use Rattle.std.specs.Char.{is_ascii_digit}
 use Rattle.std.specs.List.{list_all}
 use Rattle.std.specs.Option.{option_and_then}
@@ -33,7 +35,8 @@ number_length word = unwrap_or (position begins_unit word) (length word)
 
 -- TIME: a number, and the unit after it
 unfoldable pub time_of : List ℕ → Option ℕ
-time_of word = result_ok (time_of_decimal (take (number_length word) word) (drop (number_length word) word))
+time_of word =
+    result_ok (time_of_decimal (take (number_length word) word) (drop (number_length word) word))
 
 -- TIME and PRIORITY: when it is due
 unfoldable pub due_of : List ℕ → List ℕ → Option Due
@@ -71,8 +74,10 @@ asked_by _ = None
 
 -- `inject PATH TIME PRIORITY KIND BITS HEX`
 abbrev pub injection_of : List ℕ → Option Edit
-injection_of line = option_and_then (λ rest. asked_by (words_of rest)) (behind (codes "inject ") line)
+injection_of line = option_and_then (λ rest. asked_by (words_of rest))
+    (behind (codes "inject ") line)
 
 -- `withdraw K`: K has 32 bits
 abbrev pub withdrawal_of : List ℕ → Option Edit
-withdrawal_of line = option_map edit.Withdraw (option_and_then short_of (behind (codes "withdraw ") line))
+withdrawal_of line =
+    option_map edit.Withdraw (option_and_then short_of (behind (codes "withdraw ") line))

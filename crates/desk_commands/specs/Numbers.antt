@@ -1,5 +1,6 @@
 -- Numbers in command lines.
-use Rattle.std.specs.Prelude.{ℕ, ◌+◌, ◌-◌, ◌*◌, ◌^◌, ◌==◌, ℤ, pos, neg_ℤ, Bool, ◌||◌, List, [], ◌∷◌, Option, Some, None, nat_lt, if◌then◌else◌}
+use Rattle.std.specs.Prelude.{ℕ, ◌+◌, ◌-◌, ◌*◌, ◌^◌, ◌==◌, ℤ, pos, neg_ℤ, Bool, ◌||◌, List, [], ◌∷◌}
+use Rattle.std.specs.Prelude.{Option, Some, None, nat_lt, if◌then◌else◌}
 use Rattle.std.specs.Option.{option_and_then}
 
 -- the byte is no decimal digit
@@ -12,7 +13,8 @@ abbrev pub number_after : ℕ → List ℕ → Option ℕ
 number_after n [] = Some n
 number_after n (d ∷ ds) =
     if is_no_digit d then None
-    else (if nat_lt (2 ^ 64 - 1) (n * 10 + (d - 48)) then None else number_after (n * 10 + (d - 48)) ds)
+    else (if nat_lt (2 ^ 64 - 1) (n * 10 + (d - 48)) then None
+    else number_after (n * 10 + (d - 48)) ds)
 
 -- the number that a word of decimal digits writes
 abbrev pub number_of : List ℕ → Option ℕ

@@ -1,5 +1,6 @@
 -- Words of command lines: each is separated from the next by one space.
-use Rattle.std.specs.Prelude.{ℕ, ◌+◌, ◌==◌, Bool, ◌&&◌, not, List, Option, Some, None, option_map, length, position, take, drop, if◌then◌else◌}
+use Rattle.std.specs.Prelude.{ℕ, ◌+◌, ◌==◌, Bool, ◌&&◌, not, List, Option, Some, None, option_map}
+use Rattle.std.specs.Prelude.{length, position, take, drop, if◌then◌else◌}
 use Rattle.std.specs.List.{list_any, slice_split, starts_with}
 use Rattle.std.specs.Option.{option_and_then}
 use Rattle.std.specs.Str.{is_utf8}
@@ -10,7 +11,8 @@ is_space b = b == 32
 
 -- what stands after these bytes, where the line begins with them
 abbrev pub behind : List ℕ → List ℕ → Option (List ℕ)
-behind first line = if starts_with (λ a b. a == b) line first then Some (drop (length first) line) else None
+behind first line = if starts_with (λ a b. a == b) line first
+    then Some (drop (length first) line) else None
 
 -- all words: what stands between the spaces
 abbrev pub words_of : List ℕ → List (List ℕ)
@@ -30,7 +32,8 @@ numbered bytes = option_and_then (λ p. option_map (λ n. (n, p.1)) (number_of p
 
 -- the number of 32 bits of the first word, with all that stands after the space that ends it
 abbrev pub short_numbered : List ℕ → Option (ℕ × List ℕ)
-short_numbered bytes = option_and_then (λ p. option_map (λ n. (n, p.1)) (short_of p.0)) (parted bytes)
+short_numbered bytes =
+    option_and_then (λ p. option_map (λ n. (n, p.1)) (short_of p.0)) (parted bytes)
 
 -- one word, which is UTF-8
 abbrev pub is_word : List ℕ → Bool

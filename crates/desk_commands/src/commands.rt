@@ -1,8 +1,12 @@
 //! What command lines ask for.
 
 ghost use Rattle.std.specs.Prelude.{◌≡◌, IfOk, IsSome, OnErr, option_map};
-ghost use Rattle.desk_commands.specs.Commands.{addition_of, command_of, connection_at, connection_edit_of, disconnection_of, edit_of, file_of, file_or_plain, ini_edit_of, insertion_of, place_at};
-ghost use Rattle.desk_commands.specs.Commands.{limit_of, plain_command, removal_of, replacement_of, selection_of, IsEdit};
+ghost use Rattle.desk_commands.specs.Commands.{addition_of, command_of, connection_at};
+ghost use Rattle.desk_commands.specs.Commands.{connection_edit_of, disconnection_of, edit_of};
+ghost use Rattle.desk_commands.specs.Commands.{file_of, file_or_plain, ini_edit_of, insertion_of};
+ghost use Rattle.desk_commands.specs.Commands.{place_at};
+ghost use Rattle.desk_commands.specs.Commands.{limit_of, plain_command, removal_of, replacement_of};
+ghost use Rattle.desk_commands.specs.Commands.{selection_of, IsEdit};
 
 use crate::injections::{injection_of, withdrawal_of};
 use crate::numbers::number_of;

@@ -1,12 +1,15 @@
 //! Commands that inject a message, or take one back.
 
-ghost use Rattle.std.specs.Prelude.{◌≡◌, ◌≤◌, ◌<◌, ◌↔◌, [], ◌∷◌, codes, length, position, IfOk, IfSome, IsSome, OnErr, is_some, option_map};
+ghost use Rattle.std.specs.Prelude.{◌≡◌, ◌≤◌, ◌<◌, ◌↔◌, [], ◌∷◌, codes, length, position, IfOk};
+ghost use Rattle.std.specs.Prelude.{IfSome, IsSome, OnErr, is_some, option_map};
 ghost use Rattle.std.specs.List.{list_all};
 ghost use Rattle.std.specs.Option.{option_and_then, option_copied};
 ghost use Rattle.std.specs.Str.{bytes_eq};
 ghost use Rattle.hex.specs.declared.error.FromHexError.TheVariants.{OutOfMemory};
 ghost use Rattle.model_edits.specs.declared.edit.Edit.TheVariants as edits;
-ghost use Rattle.desk_commands.specs.Injections.{asked_by, begins_unit, due_of, injection_of, is_lower_digit, is_lower_hex, number_length, path_of, payload_of, time_of, withdrawal_of};
+ghost use Rattle.desk_commands.specs.Injections.{asked_by, begins_unit, due_of, injection_of};
+ghost use Rattle.desk_commands.specs.Injections.{is_lower_digit, is_lower_hex, number_length};
+ghost use Rattle.desk_commands.specs.Injections.{path_of, payload_of, time_of, withdrawal_of};
 ghost use Rattle.desk_commands.specs.Words.{words_of};
 
 use crate::numbers::{number_of, short_of, signed_of};
@@ -185,7 +188,8 @@ struct Said<'a> {
 #[tactic(auto, unfolding(crate::specs::Injections::asked_by))]
 fn said_by(words: Words<'_>) -> Option<Said<'_>>
     ensures value { option_and_then (λ s. option_map
-        (λ payload. edits.Inject s.path.now s.due s.kind s.bits payload) (payload_of s.hex.now)) result
+        (λ payload. edits.Inject s.path.now s.due s.kind s.bits payload) (payload_of s.hex.now))
+        result
         ≡ asked_by (words.entry.path.now ∷ words.entry.time.now ∷ words.entry.priority.now
         ∷ words.entry.kind.now ∷ words.entry.bits.now ∷ words.entry.hex.now ∷ []) }
     ensures payload { IfSome result (λ s. IsSome (payload_of s.hex.now)) }

@@ -1,7 +1,8 @@
 //! Numbers in command lines.
 
 ghost use Rattle.std.specs.Prelude.{◌≡◌};
-ghost use Rattle.desk_commands.specs.Numbers.{below_zero, from_zero, number_after, number_of, short, short_of, signed_of};
+ghost use Rattle.desk_commands.specs.Numbers.{below_zero, from_zero, number_after, number_of};
+ghost use Rattle.desk_commands.specs.Numbers.{short, short_of, signed_of};
 
 /// The number that further digits make, where the digits so far made this one. There is none where
 /// a byte is no digit, or where it doesn't fit in 64 bits.

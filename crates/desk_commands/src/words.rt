@@ -1,10 +1,12 @@
 //! Words of command lines: each is separated from the next by one space.
 
-ghost use Rattle.std.specs.Prelude.{◌≡◌, ◌<◌, [], ◌∷◌, length, position, IfSome, MatchOption, option_map};
+ghost use Rattle.std.specs.Prelude.{◌≡◌, ◌<◌, [], ◌∷◌, length, position, IfSome, MatchOption};
+ghost use Rattle.std.specs.Prelude.{option_map};
 ghost use Rattle.std.specs.List.{list_any};
 ghost use Rattle.std.specs.Str.{is_utf8};
 ghost use Rattle.std.specs.Option.{option_copied};
-ghost use Rattle.desk_commands.specs.Words.{behind, is_space, is_word, named, numbered, parted, short_numbered, word_of, words_of};
+ghost use Rattle.desk_commands.specs.Words.{behind, is_space, is_word, named, numbered, parted};
+ghost use Rattle.desk_commands.specs.Words.{short_numbered, word_of, words_of};
 
 use crate::numbers::{number_of, short_of};
 use std::str::from_utf8;

@@ -63,7 +63,8 @@ pub record GivesUpRun (b : Behaviour) (s : Machine) (limit : ℕ) (s' : Machine)
 -- limit. Or memory ran out: the run may be done nevertheless.
 abbrev pub HearsRun : Behaviour → Machine → ℕ → List Heard → Machine → Type 0
 HearsRun b s limit heard s' =
-    ((heard ≡ Answer (run_answer b s.model limit s.positions.stored) ∷ []) × (s' ≡ behind_run b s limit))
+    ((heard ≡ Answer (run_answer b s.model limit s.positions.stored) ∷ [])
+    × (s' ≡ behind_run b s limit))
     ⊎ ((heard ≡ OutOfMemory ∷ []) × (GivesUpRun b s limit s' ⊎ (s' ≡ behind_run b s limit)))
 
 -- AN EDIT is made, and then no run is done, the boxes stay, and so do the positions up to which the
@@ -79,12 +80,14 @@ HearsEdit b s e heard s' =
 -- number is what was read; or memory ran out before.
 abbrev pub HearsNed : Behaviour → Machine → ℕ → List ℕ → List Heard → Machine → Type 0
 HearsNed b s number path heard s' =
-    ((text : List ℕ) × (rest : List Heard) × (heard ≡ Read path text ∷ rest) × HearsEdit b s (edit.ReplaceNed number text) rest s')
+    ((text : List ℕ) × (rest : List Heard) × (heard ≡ Read path text ∷ rest)
+    × HearsEdit b s (edit.ReplaceNed number text) rest s')
     ⊎ ((heard ≡ OutOfMemory ∷ []) × (s' ≡ s))
 
 -- AFTER WHICH EVENTS a position is stored is told, or memory ran out.
 abbrev pub HearsPositions : List ℕ → List Heard → Type 0
-HearsPositions positions heard = (heard ≡ Answer (positions_text positions) ∷ []) ⊎ (heard ≡ OutOfMemory ∷ [])
+HearsPositions positions heard = (heard ≡ Answer (positions_text positions) ∷ [])
+    ⊎ (heard ≡ OutOfMemory ∷ [])
 
 -- HOW MANY BOXES there are is told, or memory ran out.
 abbrev pub HearsHeld : ℕ → List Heard → Type 0
@@ -94,7 +97,8 @@ HearsHeld held heard = (heard ≡ Answer (held_text held) ∷ []) ⊎ (heard ≡
 -- configuration that the model selects. Where no run is done there are none.
 abbrev pub HearsFiles : Behaviour → Model → Option ℕ → List Heard → Type 0
 HearsFiles b m None heard = heard ≡ Answer (codes "refused NotDone") ∷ []
-HearsFiles b m (Some limit) heard = heard ≡ Files m.config (scalars_of_run b m limit) (vectors_of_run b m limit) ∷ Answer (codes "written") ∷ []
+HearsFiles b m (Some limit) heard = heard ≡ Files m.config (scalars_of_run b m limit)
+    (vectors_of_run b m limit) ∷ Answer (codes "written") ∷ []
 
 -- WHAT IS HEARD OF A COMMAND, and what the machine holds after it
 abbrev pub Hears : Behaviour → Machine → Command → List Heard → Machine → Type 0
@@ -116,17 +120,20 @@ AreHeard b s (a ∷ more) heard s' = (front rest : List Heard) × (mid : Machine
 
 -- a machine that has run nothing has no boxes and no positions
 abbrev pub fresh_machine : Model → ℕ → Machine
-fresh_machine m interval = record { model = m; last = None; held = 0; known = None; positions = begun interval }
+fresh_machine m interval =
+    record { model = m; last = None; held = 0; known = None; positions = begun interval }
 
 -- THE FIRST PART of what a command is answered is heard, or nothing; what comes next is missed.
-pub record BeginsToHear (b : Behaviour) (s : Machine) (c : Command) (heard : List Heard) : Type 0 where
+pub record BeginsToHear (b : Behaviour) (s : Machine) (c : Command)
+    (heard : List Heard) : Type 0 where
   pub missed : Heard
   pub rest : List Heard
   pub behind : Machine
   pub whole : Hears b s c (heard ++ missed ∷ rest) behind
 
 -- Of the last that was asked not all is heard, and nothing else.
-pub record IsBroken (b : Behaviour) (s : Machine) (asks : List AskedLine) (heard : List Heard) : Type 0 where
+pub record IsBroken (b : Behaviour) (s : Machine) (asks : List AskedLine)
+    (heard : List Heard) : Type 0 where
   pub before : List AskedLine
   pub last : AskedLine
   pub all : asks ≡ before ++ last ∷ []

@@ -1,5 +1,6 @@
 -- A desk with a client, from one turn to the next.
-use Rattle.std.specs.Prelude.{◌≡◌, ◌⊎◌, ◌≤◌, ◌<◌, ℕ, ◌+◌, ◌*◌, List, [], ◌∷◌, ◌++◌, length, Option, Some, None, IsSome, option_map}
+use Rattle.std.specs.Prelude.{◌≡◌, ◌⊎◌, ◌≤◌, ◌<◌, ℕ, ◌+◌, ◌*◌, List, [], ◌∷◌, ◌++◌, length, Option}
+use Rattle.std.specs.Prelude.{Some, None, IsSome, option_map}
 use Rattle.module_api.specs.Behaviour.{Behaviour}
 use Rattle.model_data.specs.declared.model.Model.{Model}
 use Rattle.desk_commands.specs.declared.commands.Command.{Command}
@@ -13,7 +14,8 @@ use Rattle.kernel_boxes.specs.Seats.{Members}
 use Rattle.desk_answers.specs.Turns.{editing_at, IsSettled}
 use Rattle.checkpoint_runs.specs.declared.running.Phase.TheVariants.{Declined}
 use Rattle.desk_server.specs.Boxes.{left_of, most_boxes}
-use Rattle.desk_server.specs.Served.{Machine, AreHeard, BeginsToHear, Hears, HearsRun, IsBroken, command_asked}
+use Rattle.desk_server.specs.Served.{Machine, AreHeard, BeginsToHear, Hears, HearsRun, IsBroken}
+use Rattle.desk_server.specs.Served.{command_asked}
 use Rattle.transcripts.specs.Heard.{Heard}
 use Rattle.transcripts.specs.declared.asked.AskedLine.{AskedLine}
 use Rattle.desk_server.specs.declared.serving.Next.{Next}
@@ -34,7 +36,8 @@ pub record Seen : Type 0 where
   pub running : Option ℕ
 
 abbrev pub seen : Editing → List AskedLine → List Heard → ℕ → Option ℕ → Seen
-seen e asked heard may running = record { editing = e; asked = asked; heard = heard; may = may; running = running }
+seen e asked heard may running =
+    record { editing = e; asked = asked; heard = heard; may = may; running = running }
 
 -- ---- what stays true
 
@@ -51,7 +54,8 @@ pub record IsAt (b : Behaviour) (e : Editing) (s : Machine) : Type 0 where
 pub record RunsAlike (limit : ℕ) (e : Editing) (s : Machine) : Type 0 where
   pub model : e.model ≡ s.model
   pub start : start_of limit e.positions.stored ≡ start_of limit s.positions.stored
-  pub kept : cut (start_of limit e.positions.stored) e.positions ≡ cut (start_of limit s.positions.stored) s.positions
+  pub kept : cut (start_of limit e.positions.stored) e.positions
+      ≡ cut (start_of limit s.positions.stored) s.positions
 
 -- All that was asked is heard.
 pub record IsServed (b : Behaviour) (s : Machine) (v : Seen) : Type 0 where
@@ -106,7 +110,8 @@ EndsServing b s v (stop.Device page written) = IsBroken b s v.asked v.heard
 
 abbrev pub Ends : Behaviour → Machine → List AskedLine → List Heard → ServeEnd → Type 0
 Ends b s asked heard stop.End = (s' : Machine) × AreHeard b s asked heard s'
-Ends b s asked heard stop.Gone = ((s' : Machine) × AreHeard b s asked heard s') ⊎ IsBroken b s asked heard
+Ends b s asked heard stop.Gone = ((s' : Machine) × AreHeard b s asked heard s')
+    ⊎ IsBroken b s asked heard
 Ends b s asked heard (stop.Device page written) = IsBroken b s asked heard
 
 -- A client is served no more only where that is true of it which it says of the reason.
@@ -127,8 +132,10 @@ HearsOne h before after (next.Stop _) = ⊥
 -- ---- turns
 
 abbrev pub IsNextServing : Behaviour → Seen → Seen → Next → Type 0
-IsNextServing b before after next.GoOn = GoesOnServing b before after × (left_seen after < left_seen before)
-IsNextServing b before after (next.Stop why) = (s : Machine) → Stands b s before → EndsServing b s after why
+IsNextServing b before after next.GoOn =
+    GoesOnServing b before after × (left_seen after < left_seen before)
+IsNextServing b before after (next.Stop why) = (s : Machine) → Stands b s before
+    → EndsServing b s after why
 
 -- A run waits for a box, and a module was made for it.
 pub record NeedsBox (b : Behaviour) (before after : Seen) (made : StockModule) : Type 0 where
@@ -147,16 +154,20 @@ IsServingTurn b before after (turn.Over n) = IsNextServing b before after n
 -- All of it is heard, and the session is where the machine then is.
 abbrev pub IsHeardNow : Behaviour → Command → Seen → Seen → Type 0
 IsHeardNow b c before after = (s : Machine) → IsAt b before.editing s
-    → (front : List Heard) × (s' : Machine) × (after.heard ≡ before.heard ++ front) × Hears b s c front s' × IsAt b after.editing s'
+    → (front : List Heard) × (s' : Machine) × (after.heard ≡ before.heard ++ front)
+    × Hears b s c front s' × IsAt b after.editing s'
 
 -- The same of a run, whatever was done before.
 abbrev pub IsHeardRun : Behaviour → ℕ → Seen → Seen → Type 0
-IsHeardRun b limit before after = (after.asked ≡ before.asked) × (after.may ≡ before.may) × (after.running ≡ None)
+IsHeardRun b limit before after = (after.asked ≡ before.asked) × (after.may ≡ before.may)
+    × (after.running ≡ None)
     × ((s : Machine) → RunsAlike limit before.editing s
-    → (front : List Heard) × (s' : Machine) × (after.heard ≡ before.heard ++ front) × HearsRun b s limit front s' × IsAt b after.editing s')
+    → (front : List Heard) × (s' : Machine) × (after.heard ≡ before.heard ++ front)
+    × HearsRun b s limit front s' × IsAt b after.editing s')
 
 -- The first part of it is heard, or nothing, and no more, wherever the machine may be.
-pub record IsCutOff (b : Behaviour) (c : Command) (may_be : Machine → Type 0) (before after : Seen) : Type 0 where
+pub record IsCutOff (b : Behaviour) (c : Command) (may_be : Machine
+    → Type 0) (before after : Seen) : Type 0 where
   pub asked : after.asked ≡ before.asked
   pub more : List Heard
   pub heard : after.heard ≡ before.heard ++ more
@@ -164,28 +175,33 @@ pub record IsCutOff (b : Behaviour) (c : Command) (may_be : Machine → Type 0) 
 
 abbrev pub HearsNext : Behaviour → Command → Seen → Seen → Next → Type 0
 HearsNext b c before after next.GoOn =
-    (after.asked ≡ before.asked) × (after.may ≡ before.may) × (after.running ≡ None) × IsHeardNow b c before after
+    (after.asked ≡ before.asked) × (after.may ≡ before.may) × (after.running ≡ None)
+    × IsHeardNow b c before after
 HearsNext b c before after (next.Stop stop.End) = ⊥
 HearsNext b c before after (next.Stop why) = IsCutOff b c (IsAt b before.editing) before after
 
 -- the files of the last run, where one is done
 abbrev pub AreFilled : Behaviour → Model → Option Completed → List ℕ → List ℕ → Type 0
 AreFilled b m None scalars vectors = ⊥
-AreFilled b m (Some done) scalars vectors = (scalars ≡ scalars_of_run b m done.limit) × (vectors ≡ vectors_of_run b m done.limit)
+AreFilled b m (Some done) scalars vectors =
+    (scalars ≡ scalars_of_run b m done.limit) × (vectors ≡ vectors_of_run b m done.limit)
 
 -- ---- a server
 
 module _ {O K X : Type 0} {Y : X → Type 0} where
   -- what is seen of a server, by what its client says of itself
-  abbrev pub seen_in : Members X Y → (K → List AskedLine) → (K → List Heard) → (K → ℕ) → Server O K X Y → Seen
-  seen_in members asked heard may server = seen (editing_at members server.desk) (asked server.client) (heard server.client) (may server.client) server.running
+  abbrev pub seen_in : Members X Y → (K → List AskedLine) → (K → List Heard) → (K → ℕ)
+      → Server O K X Y → Seen
+  seen_in members asked heard may server = seen (editing_at members server.desk)
+      (asked server.client) (heard server.client) (may server.client) server.running
 
   -- what it keeps
   abbrev pub IsServer : Behaviour → Members X Y → Server O K X Y → Type 0
   IsServer b members server = IsSettled b members server.desk
 
   -- What each step that answers a command takes for granted.
-  pub record IsReady (b : Behaviour) (members : Members X Y) (keeps : K → Type 0) (server : Server O K X Y) : Type 0 where
+  pub record IsReady (b : Behaviour) (members : Members X Y) (keeps : K
+      → Type 0) (server : Server O K X Y) : Type 0 where
     -- the desk keeps what it keeps
     pub sound : IsServer b members server
     -- no run goes on
@@ -195,8 +211,10 @@ module _ {O K X : Type 0} {Y : X → Type 0} where
 
   -- What each step comes to, by what the client says of itself. The step's own relation, and which
   -- of its answers end it, are handed over: it answers a `Next` or a `ServerStep`.
-  pub record Serves {R : Type 0} (b : Behaviour) (members : Members X Y) (asked_of : K → List AskedLine) (heard_of : K → List Heard) (may_ask : K → ℕ)
-      (keeps : K → Type 0) (label_of : K → ℕ) (stops_of : K → ServeEnd → Type 0) (may_stop : (ServeEnd → Type 0) → R → Type 0) (is_step : Seen → Seen → R → Type 0)
+  pub record Serves {R : Type 0} (b : Behaviour) (members : Members X Y) (asked_of : K
+      → List AskedLine) (heard_of : K → List Heard) (may_ask : K → ℕ)
+      (keeps : K → Type 0) (label_of : K → ℕ) (stops_of : K → ServeEnd → Type 0)
+      (may_stop : (ServeEnd → Type 0) → R → Type 0) (is_step : Seen → Seen → R → Type 0)
       (before after : Server O K X Y) (answer : R) : Type 0 where
     -- the client keeps true of itself what it says
     pub kept : keeps after.client
@@ -207,12 +225,15 @@ module _ {O K X : Type 0} {Y : X → Type 0} where
     -- the desk keeps what it keeps
     pub sound : IsServer b members after
     -- what is seen before and after the step, and what it answers, are as its relation says
-    pub comes : is_step (seen_in members asked_of heard_of may_ask before) (seen_in members asked_of heard_of may_ask after) answer
+    pub comes : is_step (seen_in members asked_of heard_of may_ask before)
+        (seen_in members asked_of heard_of may_ask after) answer
 
   -- The client hears this, an answer or that memory ran out, or is gone, and nothing else changes
   -- but which run goes on.
-  pub record Tells (asked_of : K → List AskedLine) (heard_of : K → List Heard) (may_ask : K → ℕ) (keeps : K → Type 0) (label_of : K → ℕ)
-      (stops_of : K → ServeEnd → Type 0) (told : Heard) (goes_on : Option ℕ) (before after : Server O K X Y) (answer : Next) : Type 0 where
+  pub record Tells (asked_of : K → List AskedLine) (heard_of : K → List Heard) (may_ask : K
+      → ℕ) (keeps : K → Type 0) (label_of : K → ℕ)
+      (stops_of : K → ServeEnd → Type 0) (told : Heard) (goes_on : Option ℕ)
+      (before after : Server O K X Y) (answer : Next) : Type 0 where
     -- the client keeps true of itself what it says
     pub kept : keeps after.client
     -- its label is that from before
@@ -244,7 +265,8 @@ pub record WaitsIn (before after : Seen) (limit : ℕ) : Type 0 where
 
 -- a box is made for what the run waits for, or there may be no such box, and the run is told so
 abbrev pub IsMetIn : Behaviour → Editing → Editing → ServerStep → Type 0
-IsMetIn b before after (turn.Need made) = (after ≡ before) × IsFor b (wanted_of after) (module_of made)
+IsMetIn b before after (turn.Need made) =
+    (after ≡ before) × IsFor b (wanted_of after) (module_of made)
 IsMetIn b before after (turn.Over next.GoOn) = after ≡ record before { phase = Declined }
 IsMetIn b before after (turn.Over (next.Stop why)) = ⊥
 
@@ -252,12 +274,14 @@ IsMetIn b before after (turn.Over (next.Stop why)) = ⊥
 -- what is made, or was told that there is none; or the client is gone.
 abbrev pub IsRunIn : Behaviour → ℕ → Seen → Seen → ServerStep → Type 0
 IsRunIn b limit before after (turn.Need made) =
-    WaitsIn before after limit × IsFor b (wanted_of after.editing) (module_of made) × IsSome (wanted_of after.editing)
+    WaitsIn before after limit × IsFor b (wanted_of after.editing) (module_of made)
+    × IsSome (wanted_of after.editing)
     × (left_in_run after.editing ≤ left_in_run before.editing)
 IsRunIn b limit before after (turn.Over next.GoOn) =
     (WaitsIn before after limit × (left_in_run after.editing < left_in_run before.editing))
     ⊎ IsHeardRun b limit before after
-IsRunIn b limit before after (turn.Over (next.Stop stop.Gone)) = IsCutOff b (command.Run limit) (RunsAlike limit before.editing) before after
+IsRunIn b limit before after (turn.Over (next.Stop stop.Gone)) =
+    IsCutOff b (command.Run limit) (RunsAlike limit before.editing) before after
 IsRunIn b limit before after (turn.Over (next.Stop _)) = ⊥
 
 -- What a command comes to that is asked where no run goes on: a run goes on or is heard; all else

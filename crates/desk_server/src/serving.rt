@@ -1,7 +1,8 @@
 //! A client at a desk with boxes of the stock modules: it asks one thing after the other, and hears
 //! what comes of it.
 
-ghost use Rattle.std.specs.Prelude.{◌≡◌, ◌<◌, ◌≤◌, ℕ, [], ◌∷◌, ◌++◌, Some, None, IsSome, OnOk, IfOk, IfErr};
+ghost use Rattle.std.specs.Prelude.{◌≡◌, ◌<◌, ◌≤◌, ℕ, [], ◌∷◌, ◌++◌, Some, None, IsSome, OnOk};
+ghost use Rattle.std.specs.Prelude.{IfOk, IfErr};
 ghost use Rattle.model_data.specs.declared.model.Model.{Model};
 ghost use Rattle.model_reading.specs.Models.{IsModelOf, IsRuledOut, Refuses};
 ghost use Rattle.module_stock.specs.Stock.{stock};
@@ -10,7 +11,9 @@ ghost use Rattle.desk_answers.specs.Turns.{editing_at};
 ghost use Rattle.desk_server.specs.Served.{fresh_machine};
 ghost use Rattle.desk_commands.specs.declared.commands.Command.TheVariants as commands;
 ghost use Rattle.desk_server.specs.Served.{command_asked};
-ghost use Rattle.desk_server.specs.Serving.{AreFilled, ComesTo, Ends, HearsNext, IsMetIn, IsNextServing, IsReady, IsRunIn, IsServer, IsServingTurn, MayStopAt, MayStopIn, Serves, Tells};
+ghost use Rattle.desk_server.specs.Serving.{AreFilled, ComesTo, Ends, HearsNext, IsMetIn};
+ghost use Rattle.desk_server.specs.Serving.{IsNextServing, IsReady, IsRunIn, IsServer};
+ghost use Rattle.desk_server.specs.Serving.{IsServingTurn, MayStopAt, MayStopIn, Serves, Tells};
 ghost use Rattle.result_lines.specs.Taken.{untouched};
 ghost use Rattle.transcripts.specs.Heard.{Answer, OutOfMemory};
 ghost use Rattle.desk_client.specs.Answers.{IsTold};

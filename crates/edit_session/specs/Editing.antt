@@ -1,5 +1,6 @@
 -- What a session keeps.
-use Rattle.std.specs.Prelude.{◌≡◌, ◌⊎◌, ◌≤◌, ◌<◌, ◌^◌, ℕ, false, List, [], ◌∷◌, ◌++◌, Option, Some, None}
+use Rattle.std.specs.Prelude.{◌≡◌, ◌⊎◌, ◌≤◌, ◌<◌, ◌^◌, ℕ, false, List, [], ◌∷◌, ◌++◌, Option, Some}
+use Rattle.std.specs.Prelude.{None}
 use Rattle.module_api.specs.Behaviour.{Behaviour}
 use Rattle.module_api.specs.Meaning.{Module, IsFresh}
 use Rattle.model_data.specs.declared.model.Model.{Model}
@@ -25,8 +26,10 @@ use Rattle.checkpoint_runs.specs.declared.running.RunStatus.TheVariants as statu
 use Rattle.edit_session.specs.declared.session.Report.{Report}
 use Rattle.checkpoint_runs.specs.Kept.{AreGood}
 use Rattle.checkpoint_runs.specs.declared.running.Stood.{Stood}
-use Rattle.checkpoint_runs.specs.Positions.{cut, events_behind, last_count, positions_after, start_of, HasStored, CanBeStored}
-use Rattle.checkpoint_runs.specs.Running.{boxes_left, fresh_run, kept_boxes, needed_by, wanted_by, whole_run, IsLive, IsUndeclined}
+use Rattle.checkpoint_runs.specs.Positions.{cut, events_behind, last_count, positions_after}
+use Rattle.checkpoint_runs.specs.Positions.{start_of, HasStored, CanBeStored}
+use Rattle.checkpoint_runs.specs.Running.{boxes_left, fresh_run, kept_boxes, needed_by, wanted_by}
+use Rattle.checkpoint_runs.specs.Running.{whole_run, IsLive, IsUndeclined}
 use Rattle.edit_session.specs.Reuse.{IsKnown, IsValidTo}
 
 -- a run that is done: its limit, its outcome, and what is known of its result files before they are
@@ -77,7 +80,8 @@ with_box e = record e { boxes = with_wanted (wanted_of e) e.boxes }
 
 -- the box that a run to that limit needs first
 abbrev pub needed : Editing → ℕ → Option Request
-needed e limit = needed_by (answers_of e.model) (start_of limit e.positions.stored) (kept_boxes e.phase e.boxes)
+needed e limit = needed_by (answers_of e.model) (start_of limit e.positions.stored)
+    (kept_boxes e.phase e.boxes)
 
 -- ---- what it keeps
 
@@ -94,7 +98,9 @@ IsUndone (Waiting from at) last known ps = (last ≡ None) × (known ≡ None) �
 IsUndone Declined last known ps = (last ≡ None) × (known ≡ None) × IsBegun ps
 
 -- all that a session keeps
-pub record IsKept (b : Behaviour) (seats waiting : List BoxAt) (w : World) (m : Model) (phase : Phase) (done : Option Completed) (known : Option ℕ) (ps : Timeline Position) : Type 0 where
+pub record IsKept (b : Behaviour) (seats waiting : List BoxAt)
+    (w : World) (m : Model) (phase : Phase) (done : Option Completed) (known : Option ℕ)
+    (ps : Timeline Position) : Type 0 where
   pub kinds : AreOfKinds b seats
   pub live : IsLive b (answers_of m) w waiting phase
   pub left : IsLeft b m w done
@@ -118,24 +124,36 @@ IsUnknown b (Some request) = b.known request.kind ≡ false
 -- WHAT A RUN THAT IS DONE TELLS, and what is kept of it: a fresh run of the model. It began at the
 -- greatest position up to its limit, or with setup where there is none; after that it executed all
 -- events of the fresh run, and it left its positions. It needs no box, or none that there is.
-pub record IsFreshRun (b : Behaviour) (before : Editing) (limit : ℕ) (report : Report) (after : Editing) : Type 0 where
+pub record IsFreshRun (b : Behaviour) (before : Editing) (limit : ℕ) (report : Report)
+    (after : Editing) : Type 0 where
   pub outcome : report.outcome ≡ (fresh_run b (answers_of before.model) limit).outcome
   pub started_from : report.started_from ≡ start_of limit before.positions.stored
-  pub executed : report.executed ≡ events_behind (start_of limit before.positions.stored) (fresh_run b (answers_of before.model) limit).world.count
+  pub executed : report.executed ≡ events_behind (start_of limit before.positions.stored)
+      (fresh_run b (answers_of before.model) limit).world.count
   pub done : after.done ≡ Some (completed b before.model limit)
   pub boxes : after.boxes ≡ boxes_left b (answers_of before.model) limit
   pub known : after.known ≡ Some (fresh_run b (answers_of before.model) limit).world.count
-  pub positions : after.positions ≡ positions_after b (answers_of before.model) limit before.positions
+  pub positions : after.positions
+      ≡ positions_after b (answers_of before.model) limit before.positions
   pub needs_none : (before.phase ≡ Declined) ⊎ (needed before limit ≡ None)
 
 -- It waits for the box that its model wants next, with those that it kept, and none is done. It
 -- began with setup, as there was no position up to its limit, and there is none now. No box was
 -- declined before.
-pub record WaitsFor (before : Editing) (limit : ℕ) (request : Request) (after : Editing) : Type 0 where
+pub record WaitsFor (before : Editing) (limit : ℕ) (request : Request)
+    (after : Editing) : Type 0 where
   pub undeclined : IsUndeclined before.phase
   pub start : start_of limit before.positions.stored ≡ None
-  pub wanted : wanted_by (answers_of before.model) (kept_boxes before.phase before.boxes) ≡ Some request
-  pub waits : after ≡ record { model = before.model; done = None; phase = Waiting None Setup; boxes = kept_boxes before.phase before.boxes; known = None; positions = cut None before.positions }
+  pub wanted : wanted_by (answers_of before.model) (kept_boxes before.phase before.boxes)
+      ≡ Some request
+  pub waits : after ≡ record {
+    model = before.model;
+    done = None;
+    phase = Waiting None Setup;
+    boxes = kept_boxes before.phase before.boxes;
+    known = None;
+    positions = cut None before.positions;
+  }
 
 -- the last number that was used, where one was given
 abbrev pub last_used : ℕ → Option ℕ → Option ℕ
@@ -147,7 +165,8 @@ last_used last (Some number) = Some last
 pub record IsChangeBy (b : Behaviour) (before : Editing) (e : Edit) (change : Change) : Type 0 where
   pub model : IsEditOf before.model e change.model
   pub only : IsOnlyEditOf before.model e change.model
-  pub valid_to : IsValidTo b (answers_of before.model) (answers_of change.model) before.known change.edited.valid_to
+  pub valid_to : IsValidTo b (answers_of before.model) (answers_of change.model) before.known
+      change.edited.valid_to
   pub injection : change.edited.injection ≡ number_given e before.model
 
 -- what it leaves. No run waits and none is done; boxes stay until the next run. Of the last run
@@ -163,7 +182,8 @@ edited_by before change = record {
 }
 
 -- WHAT AN ACCEPTED EDIT LEAVES, and what it tells
-pub record IsAccepted (b : Behaviour) (before : Editing) (e : Edit) (edited : Edited) (after : Editing) : Type 0 where
+pub record IsAccepted (b : Behaviour) (before : Editing) (e : Edit) (edited : Edited)
+    (after : Editing) : Type 0 where
   pub change : Change
   pub by : IsChangeBy b before e change
   pub told : edited ≡ change.edited
@@ -181,7 +201,14 @@ pub record IsGivenUp (b : Behaviour) (before : Editing) (limit : ℕ) (after : E
 
 -- a session of that model, without a run
 abbrev pub fresh_editing : Model → ℕ → Editing
-fresh_editing m interval = record { model = m; done = None; phase = Idle; boxes = []; known = None; positions = begun interval }
+fresh_editing m interval = record {
+  model = m;
+  done = None;
+  phase = Idle;
+  boxes = [];
+  known = None;
+  positions = begun interval;
+}
 
 abbrev pub IfDone : RunStatus Report → (Report → Type 0) → Type 0
 IfDone (status.Waits request) P = Unit {0}

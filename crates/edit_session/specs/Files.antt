@@ -27,12 +27,15 @@ vectors_of_run b m limit =
 -- the text's first bytes as the answer says, and not all.
 abbrev pub TextWritten : Taken → Taken → List ℕ → Result Unit FileFault → Type 0
 TextWritten before after text (Ok u) = IsWritten before after text (Ok u)
-TextWritten before after text (Err (fault.Device k)) = IsWritten before after text (Err (record { written = k }))
+TextWritten before after text (Err (fault.Device k)) =
+    IsWritten before after text (Err (record { written = k }))
 TextWritten before after text (Err fault.NotDone) = ⊥
 
 -- Where a run is done the text of its file is written, which is known by the run's limit; where
 -- none is, nothing.
-abbrev pub FileWritten : (ℕ → List ℕ) → Option Completed → Taken → Taken → Result Unit FileFault → Type 0
+abbrev pub FileWritten : (ℕ → List ℕ) → Option Completed → Taken → Taken
+    → Result Unit FileFault → Type 0
 FileWritten text_of None before after result =
     (result ≡ Err fault.NotDone) × (after.bytes ≡ before.bytes) × (after.failures ≡ before.failures)
-FileWritten text_of (Some last) before after result = TextWritten before after (text_of last.limit) result
+FileWritten text_of (Some last) before after result =
+    TextWritten before after (text_of last.limit) result

@@ -12,7 +12,8 @@ use Rattle.run_semantics.specs.World.{World}
 abbrev pub IsValidTo : Behaviour → Answers → Answers → Option ℕ → Option ℕ → Type 0
 IsValidTo b old new None valid = valid ≡ None
 IsValidTo b old new (Some known) valid =
-    IsAgreement old new (world_at (after b old known)).records known (world_at (after b old known)).questions valid
+    IsAgreement old new (world_at (after b old known)).records known
+    (world_at (after b old known)).questions valid
 
 -- The questions of this world are those of a run of a model that agrees with this one on the events
 -- up to v.

@@ -36,16 +36,22 @@ module _ {C X : Type 0} {Y : X → Type 0} where
   -- what it keeps
   abbrev pub IsSound : Behaviour → Members X Y → Session C X Y → Type 0
   IsSound b members s =
-      IsKept b (boxes_in members s.runner.kernel) (waiting_in members s.runner) (world_in members s.runner.kernel) s.model s.phase (option_map completed_of s.done) s.known s.runner.positions
+      IsKept b (boxes_in members s.runner.kernel) (waiting_in members s.runner)
+      (world_in members s.runner.kernel) s.model s.phase (option_map completed_of s.done)
+      s.known s.runner.positions
 
   -- It is sound, and of the same model as before.
-  pub record KeepsModel (b : Behaviour) (members : Members X Y) (before after : Session C X Y) : Type 0 where
+  pub record KeepsModel (b : Behaviour) (members : Members X Y)
+      (before after : Session C X Y) : Type 0 where
     pub sound : IsSound b members after
     pub model : (editing_of members after).model ≡ (editing_of members before).model
 
   -- The change is what the edit makes of this session. Up to where it says the questions stay known
   -- and the positions good.
-  pub record IsChangeOf (b : Behaviour) (members : Members X Y) (s : Session C X Y) (e : Edit) (change : Change) : Type 0 where
+  pub record IsChangeOf (b : Behaviour) (members : Members X Y) (s : Session C X Y) (e : Edit)
+      (change : Change) : Type 0 where
     pub by : IsChangeBy b (editing_of members s) e change
-    pub known : IsKnown b (answers_of change.model) (world_in members s.runner.kernel) change.edited.valid_to
-    pub good : AreGood b (answers_of change.model) (boxes_in members s.runner.kernel) (world_in members s.runner.kernel) (kept_up_to change.edited.valid_to s.runner.positions).stored
+    pub known : IsKnown b (answers_of change.model) (world_in members s.runner.kernel)
+        change.edited.valid_to
+    pub good : AreGood b (answers_of change.model) (boxes_in members s.runner.kernel) (world_in
+        members s.runner.kernel) (kept_up_to change.edited.valid_to s.runner.positions).stored

@@ -1,6 +1,7 @@
 //! A session.
 
-ghost use Rattle.std.specs.Prelude.{◌≡◌, ◌↔◌, ◌≤◌, true, Some, None, IsSome, OnOk, OnErr, IfOk, IfErr, length, option_map, option_copied};
+ghost use Rattle.std.specs.Prelude.{◌≡◌, ◌↔◌, ◌≤◌, true, Some, None, IsSome, OnOk, OnErr, IfOk};
+ghost use Rattle.std.specs.Prelude.{IfErr, length, option_map, option_copied};
 ghost use Rattle.sim_values.specs.Memory.{no_memory};
 ghost use Rattle.model_data.specs.declared.model.Model.{Model};
 ghost use Rattle.model_answers.specs.Answering.{answers_of};
@@ -8,14 +9,19 @@ ghost use Rattle.model_settings.specs.Standings.{setting_of};
 ghost use Rattle.result_lines.specs.ScalarText.{scalar_text};
 ghost use Rattle.result_lines.specs.VectorText.{vector_text};
 ghost use Rattle.model_reading.specs.Models.{IsModelOf, IsRuledOut, Refuses};
-ghost use Rattle.model_edits.specs.Edited.{number_given, IsRuledOut as IsEditRuledOut, Refuses as RefusesEdit};
-ghost use Rattle.edit_session.specs.Files.{scalars_of_run, vectors_of_run, FileWritten, TextWritten};
-ghost use Rattle.edit_session.specs.Editing.{Completed, edited_by, fresh_editing, last_used, wanted_of, with_box, IfDone, IfWaiting, IsAccepted, IsFor, IsFreshRun, IsGivenUp, IsUnknown, WaitsFor};
+ghost use Rattle.model_edits.specs.Edited.{number_given, IsRuledOut as IsEditRuledOut};
+ghost use Rattle.model_edits.specs.Edited.{Refuses as RefusesEdit};
+ghost use Rattle.edit_session.specs.Files.{scalars_of_run, vectors_of_run, FileWritten};
+ghost use Rattle.edit_session.specs.Files.{TextWritten};
+ghost use Rattle.edit_session.specs.Editing.{Completed, edited_by, fresh_editing, last_used};
+ghost use Rattle.edit_session.specs.Editing.{wanted_of, with_box, IfDone, IfWaiting, IsAccepted};
+ghost use Rattle.edit_session.specs.Editing.{IsFor, IsFreshRun, IsGivenUp, IsUnknown, WaitsFor};
 ghost use Rattle.checkpoint_runs.specs.Kept.{kept_up_to, AreGood, HasGood};
 ghost use Rattle.checkpoint_runs.specs.Positions.{events_behind, starts_within, HasStored};
 ghost use Rattle.kernel.specs.declared.request.Request.{Request};
 ghost use Rattle.edit_session.specs.Reuse.{IsKnown, IsValidTo};
-ghost use Rattle.edit_session.specs.Sessions.{editing_of, stood_in, IsChangeOf, IsSound, KeepsModel};
+ghost use Rattle.edit_session.specs.Sessions.{editing_of, stood_in, IsChangeOf, IsSound};
+ghost use Rattle.edit_session.specs.Sessions.{KeepsModel};
 ghost use Rattle.kernel.specs.Kernels.{boxes_in, world_in, HasKinds};
 ghost use Rattle.checkpoints.specs.Stored.{counts_in, most_stored};
 ghost use Rattle.model_edits.specs.declared.edit.Edit.{Edit};
@@ -253,16 +259,20 @@ impl<C: Catalogue> Session<C> {
         requires sound { IsSound C.behaviour SimpleModule-box self.now }
         requires stay { stay ≡ true → setting_of model ≡ setting_of self.now.model }
         ensures model { IfOk result (λ change. change.model ≡ model) }
-        ensures injection { IfOk result (λ change. change.edited.injection ≡ last_used model.last_injection given) }
+        ensures injection { IfOk result
+            (λ change. change.edited.injection ≡ last_used model.last_injection given) }
         ensures valid { let before = editing_of SimpleModule-box self.now in
-            IfOk result (λ change. IsValidTo C.behaviour (answers_of before.model) (answers_of change.model) before.known
+            IfOk result (λ change. IsValidTo C.behaviour (answers_of before.model)
+            (answers_of change.model) before.known
             change.edited.valid_to) }
         ensures known { IfOk result (λ change.
             IsKnown C.behaviour (answers_of change.model)
             (world_in SimpleModule-box self.now.runner.kernel) change.edited.valid_to) }
         ensures good { let kernel = self.now.runner.kernel in
-            IfOk result (λ change. AreGood C.behaviour (answers_of change.model) (boxes_in SimpleModule-box kernel)
-            (world_in SimpleModule-box kernel) (kept_up_to change.edited.valid_to self.now.runner.positions).stored) }
+            IfOk result (λ change.
+            AreGood C.behaviour (answers_of change.model) (boxes_in SimpleModule-box kernel)
+            (world_in SimpleModule-box kernel)
+            (kept_up_to change.edited.valid_to self.now.runner.positions).stored) }
     {
         let injection = last_used(model.last_injection, given);
         let model = evaluated(self.alloc, &self.model, model, stay)?;
@@ -280,13 +290,16 @@ impl<C: Catalogue> Session<C> {
     fn valid_to(&self, model: &EvaluatedModel) -> Result<Option<u64>, NoMemory>
         requires sound { IsSound C.behaviour SimpleModule-box self.now }
         ensures valid { let before = editing_of SimpleModule-box self.now in
-            IfOk result (λ valid. IsValidTo C.behaviour (answers_of before.model) (answers_of model.now) before.known valid) }
+            IfOk result (λ valid. IsValidTo C.behaviour (answers_of before.model)
+            (answers_of model.now) before.known valid) }
         ensures known { IfOk result (λ valid.
             IsKnown C.behaviour (answers_of model.now)
             (world_in SimpleModule-box self.now.runner.kernel) valid) }
         ensures good { let kernel = self.now.runner.kernel in
-            IfOk result (λ valid. AreGood C.behaviour (answers_of model.now) (boxes_in SimpleModule-box kernel)
-            (world_in SimpleModule-box kernel) (kept_up_to valid self.now.runner.positions).stored) }
+            IfOk result (λ valid.
+            AreGood C.behaviour (answers_of model.now) (boxes_in SimpleModule-box kernel)
+            (world_in SimpleModule-box kernel)
+            (kept_up_to valid self.now.runner.positions).stored) }
     {
         let Some(last) = self.known else {
             return Ok(None);
@@ -399,7 +412,8 @@ impl<C: Catalogue> Session<C> {
         requires sound { IsSound C.behaviour SimpleModule-box self.old }
         ensures model { self.new.model ≡ self.old.model }
         ensures kinds { HasKinds C.behaviour SimpleModule-box self.new.runner.kernel }
-        ensures good { HasGood C.behaviour (answers_of self.new.model) SimpleModule-box self.new.runner }
+        ensures good { HasGood C.behaviour (answers_of self.new.model) SimpleModule-box
+            self.new.runner }
         ensures stored { HasStored C.behaviour (answers_of self.old.model) limit
             (counts_in self.old.runner.positions) self.new.runner.stood
             (counts_in self.new.runner.positions) }
@@ -551,7 +565,8 @@ impl<C: Catalogue> Session<C> {
     /// runs came before, there are at most 64.
     pub fn positions(&self) -> &[u64]
         ensures are { result.now ≡ (editing_of SimpleModule-box self.now).positions.stored }
-        ensures few { IsSound C.behaviour SimpleModule-box self.now → length result.now ≤ most_stored }
+        ensures few { IsSound C.behaviour SimpleModule-box self.now
+            → length result.now ≤ most_stored }
     {
         self.runner.positions.counts()
     }

@@ -1,5 +1,6 @@
 -- The events to come, as callers see them.
-use Rattle.std.specs.Prelude.{ℕ, ℤ, ◌+◌, Bool, false, not, List, [], ◌∷◌, slice_get, unwrap_or, if◌then◌else◌}
+use Rattle.std.specs.Prelude.{ℕ, ℤ, ◌+◌, Bool, false, not, List, [], ◌∷◌, slice_get, unwrap_or}
+use Rattle.std.specs.Prelude.{if◌then◌else◌}
 use Rattle.event_set.specs.declared.pending.Happening.{Happening}
 use Rattle.event_set.specs.declared.pending.Pending.{Pending}
 use Rattle.event_set.specs.declared.set.Coming.{Coming}
@@ -17,7 +18,13 @@ none = record { list = []; next = 0 }
 -- one more event
 abbrev pub scheduled : ℕ → ℤ → ℕ → Happening → Events → Events
 scheduled time priority id what e = record {
-  list = inserted (record { time = time; priority = priority; number = e.next; id = id; what = what }) e.list;
+  list = inserted (record {
+    time = time;
+    priority = priority;
+    number = e.next;
+    id = id;
+    what = what;
+  }) e.list;
   next = e.next + 1;
 }
 

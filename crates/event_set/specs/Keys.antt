@@ -1,5 +1,6 @@
 -- What the tree of events of an event set says, and what is said of its timers.
-use Rattle.std.specs.Prelude.{◌≡◌, ℕ, ◌<◌, ◌==◌, cond, List, map, Option, Some, None, slice_get, unwrap_or}
+use Rattle.std.specs.Prelude.{◌≡◌, ℕ, ◌<◌, ◌==◌, cond, List, map, Option, Some, None, slice_get}
+use Rattle.std.specs.Prelude.{unwrap_or}
 use Rattle.std.specs.declared.cmp.Ordering.{Ordering}
 use Rattle.std.specs.Ordering.{nat_cmp, int_cmp, ordering_then}
 use Rattle.std.specs.BTreeMap.{is_at}
@@ -18,7 +19,8 @@ use Rattle.event_set.specs.declared.timers.First.TheVariants.{Free, Held}
 use Rattle.event_set.specs.Order.{Each}
 
 abbrev pub key_order : Key → Key → Ordering
-key_order a b = ordering_then (nat_cmp a.time b.time) (ordering_then (int_cmp a.priority b.priority) (nat_cmp a.number b.number))
+key_order a b = ordering_then (nat_cmp a.time b.time)
+    (ordering_then (int_cmp a.priority b.priority) (nat_cmp a.number b.number))
 
 abbrev pub timer_order : TimerKey → TimerKey → Ordering
 timer_order a b = ordering_then (nat_cmp a.id b.id) (nat_cmp a.timer b.timer)
@@ -36,7 +38,13 @@ what_of (entry.Delivery id delivery alloc) = Delivery delivery
 
 -- an entry as the event that it is
 abbrev pub pending_of : Key × EventEntry → Pending
-pending_of e = record { time = e.0.time; priority = e.0.priority; number = e.0.number; id = id_of e.1; what = what_of e.1 }
+pending_of e = record {
+  time = e.0.time;
+  priority = e.0.priority;
+  number = e.0.number;
+  id = id_of e.1;
+  what = what_of e.1;
+}
 
 abbrev pub list_of : List (Key × EventEntry) → List Pending
 list_of es = map pending_of es
@@ -64,7 +72,8 @@ pub record Slots : Type 0 where
 -- where a timer stands by what is in a slot, by its module's slot, and by the tree
 abbrev pub held : First → ℕ → Option Key
 held Free timer = None
-held (Held priority number time insertion) timer = cond (number == timer) (Some (record { time = time; priority = priority; number = insertion })) None
+held (Held priority number time insertion) timer = cond (number == timer)
+    (Some (record { time = time; priority = priority; number = insertion })) None
 
 abbrev pub first_at : List First → TimerKey → Option Key
 first_at firsts t = held (unwrap_or (slice_get firsts t.id) Free) t.timer
@@ -82,11 +91,14 @@ place_at s t = option_or (first_at s.firsts t) (other_at s.others t)
 
 -- each timer of the events stands at its place, and nothing else does; and numbers are below the
 -- next
-pub record AreSound (es : List (Key × EventEntry)) (at : TimerKey → Option Key) (next : ℕ) : Type 0 where
+pub record AreSound (es : List (Key × EventEntry)) (at : TimerKey
+    → Option Key) (next : ℕ) : Type 0 where
   pub ordered : IsStrictlySortedBy key_order (keys_of es)
   pub below : Each (λ (e : Key × EventEntry). e.0.number < next) es
-  pub placed : (k : Key) (e : EventEntry) (t : TimerKey) → at_key es k ≡ Some e → timer_of e ≡ Some t → at t ≡ Some k
-  pub standing : (t : TimerKey) (k : Key) → at t ≡ Some k → option_and_then timer_of (at_key es k) ≡ Some t
+  pub placed : (k : Key) (e : EventEntry) (t : TimerKey) → at_key es k ≡ Some e
+      → timer_of e ≡ Some t → at t ≡ Some k
+  pub standing : (t : TimerKey) (k : Key) → at t ≡ Some k
+      → option_and_then timer_of (at_key es k) ≡ Some t
 
 -- which timer an entry may be: none, or one that stands nowhere
 abbrev pub IsFree : (TimerKey → Option Key) → Option TimerKey → Type 0

@@ -1,5 +1,6 @@
 -- The order of events to come.
-use Rattle.std.specs.Prelude.{◌≢◌, nat_lt, int_lt, ◌==◌, Bool, true, false, IsTrue, List, [], ◌∷◌, if◌then◌else◌}
+use Rattle.std.specs.Prelude.{◌≢◌, nat_lt, int_lt, ◌==◌, Bool, true, false, IsTrue, List, [], ◌∷◌}
+use Rattle.std.specs.Prelude.{if◌then◌else◌}
 use Rattle.event_set.specs.declared.pending.Pending.{Pending}
 
 -- by time, then priority, then insertion number (OMNeT++ Simulation Manual, "Message Scheduling and
@@ -7,7 +8,8 @@ use Rattle.event_set.specs.declared.pending.Pending.{Pending}
 abbrev pub comes_before : Pending → Pending → Bool
 comes_before a b =
     if a.time == b.time
-    then (if int_lt a.priority b.priority then true else (if int_lt b.priority a.priority then false else nat_lt a.number b.number))
+    then (if int_lt a.priority b.priority then true
+    else (if int_lt b.priority a.priority then false else nat_lt a.number b.number))
     else nat_lt a.time b.time
 
 -- the list with one more, before the first that comes after it

@@ -1,10 +1,12 @@
 //! The events to come, in a tree by their order.
 
-ghost use Rattle.std.specs.Prelude.{◌≡◌, ◌+◌, ◌^◌, ◌<◌, [], ◌∷◌, false, cond, OnOk, OnErr, IfOk, MatchOption, Some, slice_get};
+ghost use Rattle.std.specs.Prelude.{◌≡◌, ◌+◌, ◌^◌, ◌<◌, [], ◌∷◌, false, cond, OnOk, OnErr, IfOk};
+ghost use Rattle.std.specs.Prelude.{MatchOption, Some, slice_get};
 ghost use Rattle.std.specs.Option.{option_map};
 ghost use Rattle.event_set.specs.Order.{Each, AreInOrder};
 ghost use Rattle.event_set.specs.Timers.{has_timer, is_pending};
-ghost use Rattle.event_set.specs.Keys.{key_order, timer_in, at_key, place_at, noted, forgotten, IsFree};
+ghost use Rattle.event_set.specs.Keys.{key_order, timer_in, at_key, place_at, noted, forgotten};
+ghost use Rattle.event_set.specs.Keys.{IsFree};
 ghost use Rattle.event_set.specs.declared.places.TimerKey.{TimerKey};
 ghost use Rattle.event_set.specs.declared.places.Key.{Key};
 ghost use Rattle.std.specs.BTreeMap.{is_at, insert_entry};
@@ -148,7 +150,8 @@ impl EventSet {
 
     /// Takes the first event out.
     pub fn take_first(&mut self) -> Option<Pending>
-        ensures first { MatchOption result ((self.old.list ≡ []) × (self.new ≡ self.old)) (λ p. self.old ≡ with_list (p ∷ self.new.list) self.new) }
+        ensures first { MatchOption result ((self.old.list ≡ [])
+            × (self.new ≡ self.old)) (λ p. self.old ≡ with_list (p ∷ self.new.list) self.new) }
     {
         let Some((key, entry)) = self.events.pop_first() else {
             return None;
@@ -234,8 +237,10 @@ fn put_entry(
     entry: EventEntry,
 ) -> Result<(), AllocError>
     ensures ordered { IsStrictlySortedBy key_order (keys_of events.new.entries) }
-    ensures entries { OnOk result (events.new.entries ≡ insert_entry key_order events.old.entries key entry) }
-    ensures places { OnOk result ((q : Key) → at_key events.new.entries q ≡ cond (is_at (key_order key) q) (Some entry) (at_key events.old.entries q)) }
+    ensures entries { OnOk result (events.new.entries
+        ≡ insert_entry key_order events.old.entries key entry) }
+    ensures places { OnOk result ((q : Key) → at_key events.new.entries q
+        ≡ cond (is_at (key_order key) q) (Some entry) (at_key events.old.entries q)) }
     ensures err { OnErr result (events.new.entries ≡ events.old.entries) }
 {
     events.insert(key, entry)?;
@@ -245,7 +250,8 @@ fn put_entry(
 /// Notes where a timer stands, if it is one.
 fn note_timer(timers: &mut Timers, timer: &Option<TimerKey>, key: &Key) -> Result<(), AllocError>
     requires { IsFree (place_at timers.old) timer.now }
-    ensures ok { OnOk result ((t : TimerKey) → place_at timers.new t ≡ noted timer.now key.now (place_at timers.old) t) }
+    ensures ok { OnOk result ((t : TimerKey)
+        → place_at timers.new t ≡ noted timer.now key.now (place_at timers.old) t) }
     ensures err { OnErr result ((t : TimerKey) → place_at timers.new t ≡ place_at timers.old t) }
 {
     if let Some(timer) = timer {

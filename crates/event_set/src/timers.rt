@@ -85,7 +85,8 @@ impl Timers {
     /// Notes where a timer stands that isn't pending yet.
     pub(crate) fn put(&mut self, timer: TimerKey, key: &Key) -> Result<(), AllocError>
         requires { place_at self.old timer ≡ None }
-        ensures ok { OnOk result ((t : TimerKey) → place_at self.new t ≡ noted (Some timer) key.now (place_at self.old) t) }
+        ensures ok { OnOk result ((t : TimerKey)
+            → place_at self.new t ≡ noted (Some timer) key.now (place_at self.old) t) }
         ensures err { OnErr result ((t : TimerKey) → place_at self.new t ≡ place_at self.old t) }
     {
         if put_in_slot(&mut self.firsts, timer, key)? {
@@ -98,7 +99,8 @@ impl Timers {
     /// Forgets where that timer stands, and says where it stood if it was pending.
     pub(crate) fn remove(&mut self, timer: TimerKey) -> Option<Key>
         ensures found { result ≡ place_at self.old timer }
-        ensures rest { (t : TimerKey) → place_at self.new t ≡ forgotten (Some timer) (place_at self.old) t }
+        ensures rest { (t : TimerKey)
+            → place_at self.new t ≡ forgotten (Some timer) (place_at self.old) t }
     {
         match take_from_slot(&mut self.firsts, timer) {
             Some(key) => Some(key),
@@ -166,8 +168,11 @@ fn held(timer: u32, key: Key) -> First
 
 /// Puts a timer in its module's slot, and says whether that was free.
 fn put_in_slot(firsts: &mut Vec<First>, timer: TimerKey, key: &Key) -> Result<bool, AllocError>
-    ensures ok { IfOk result (λ put. (t : TimerKey) → first_at firsts.new.items t ≡ (if put then noted (Some timer) key.now (first_at firsts.old.items) t else first_at firsts.old.items t)) }
-    ensures err { OnErr result ((t : TimerKey) → first_at firsts.new.items t ≡ first_at firsts.old.items t) }
+    ensures ok { IfOk result (λ put. (t : TimerKey) → first_at firsts.new.items t
+        ≡ (if put then noted (Some timer) key.now (first_at firsts.old.items) t
+        else first_at firsts.old.items t)) }
+    ensures err { OnErr result ((t : TimerKey)
+        → first_at firsts.new.items t ≡ first_at firsts.old.items t) }
 {
     if timer.id >= SLOTS {
         return Ok(false);
@@ -184,7 +189,8 @@ fn put_in_slot(firsts: &mut Vec<First>, timer: TimerKey, key: &Key) -> Result<bo
 /// Takes a timer out of its module's slot, and says where it stood if it was there.
 fn take_from_slot(firsts: &mut Vec<First>, timer: TimerKey) -> Option<Key>
     ensures found { result ≡ first_at firsts.old.items timer }
-    ensures rest { (t : TimerKey) → first_at firsts.new.items t ≡ forgotten (Some timer) (first_at firsts.old.items) t }
+    ensures rest { (t : TimerKey)
+        → first_at firsts.new.items t ≡ forgotten (Some timer) (first_at firsts.old.items) t }
 {
     let key = found_in(firsts.as_slice(), timer)?;
     firsts[timer.id as usize] = First::Free;

@@ -1,5 +1,6 @@
 -- Changes of the NED files of a model, and why there are none.
-use Rattle.std.specs.Prelude.{◌≡◌, ℕ, ◌≤◌, ◌<◌, Bool, true, false, List, ◌∷◌, ◌++◌, length, drop, nat_lt, remove, slice_set, take, Some, None, Result, Ok, Err}
+use Rattle.std.specs.Prelude.{◌≡◌, ℕ, ◌≤◌, ◌<◌, Bool, true, false, List, ◌∷◌, ◌++◌, length, drop}
+use Rattle.std.specs.Prelude.{nat_lt, remove, slice_set, take, Some, None, Result, Ok, Err}
 use Rattle.sim_values.specs.Limits.{max_length}
 use Rattle.ned_tokens.specs.Viable.{IsFirstBadLine}
 use Rattle.ned_connections.specs.ConnectionText.{IsConnectionText}
@@ -48,7 +49,8 @@ pub record IsReplaced (number : ℕ) (text : List ℕ) (old new : List NedFile) 
 
 -- The item that the text is stands at that place among the items of the type, before the one that
 -- stood there, and all else is as it was.
-pub record IsInserted (name : List ℕ) (place : ℕ) (text : List ℕ) (old new : List NedFile) : Type 0 where
+pub record IsInserted (name : List ℕ) (place : ℕ) (text : List ℕ)
+    (old new : List NedFile) : Type 0 where
   pub items : List ConnectionItem
   pub own : items_of name old ≡ Some items
   pub there : place ≤ length items
@@ -73,7 +75,8 @@ IsChanged (Removed name place) old new = IsRemoved name place old new
 
 -- why a text declares nothing
 abbrev pub RefusesText : List ℕ → FileError → Type 0
-RefusesText text (error.NedSyntax line) = IsFirstBadLine file text line × ((declared : NedFile) → IsNedFile text declared → ⊥)
+RefusesText text (error.NedSyntax line) =
+    IsFirstBadLine file text line × ((declared : NedFile) → IsNedFile text declared → ⊥)
 RefusesText text error.TooLarge = is_large text ≡ true
 RefusesText text (error.NoMemory _) = Unit {0}
 RefusesText text _ = ⊥
@@ -92,16 +95,19 @@ pub record AreApart (c : Change) (old : List NedFile) (why : TypeFault) : Type 0
 
 abbrev pub RefusesReplacement : ℕ → List ℕ → List NedFile → FileError → Type 0
 RefusesReplacement number text old error.TooLarge = is_large text ≡ true
-RefusesReplacement number text old error.NoSuchFile = (is_large text ≡ false) × (length old ≤ number)
+RefusesReplacement number text old error.NoSuchFile =
+    (is_large text ≡ false) × (length old ≤ number)
 RefusesReplacement number text old (error.NedSyntax line) =
-    (is_large text ≡ false) × (number < length old) × IsFirstBadLine file text line × ((declared : NedFile) → IsNedFile text declared → ⊥)
+    (is_large text ≡ false) × (number < length old) × IsFirstBadLine file text line
+    × ((declared : NedFile) → IsNedFile text declared → ⊥)
 RefusesReplacement number text old (error.Types why) = AreApart (Replaced number text) old why
 RefusesReplacement number text old (error.NoMemory _) = Unit {0}
 RefusesReplacement number text old _ = ⊥
 
 -- why a text is no item of connections
 abbrev pub RefusesItem : List ℕ → FileError → Type 0
-RefusesItem text (error.NedSyntax line) = IsFirstBadLine whole_item text line × ((item : ConnectionItem) → IsConnectionText text item → ⊥)
+RefusesItem text (error.NedSyntax line) =
+    IsFirstBadLine whole_item text line × ((item : ConnectionItem) → IsConnectionText text item → ⊥)
 RefusesItem text error.TooLarge = is_large text ≡ true
 RefusesItem text (error.NoMemory _) = Unit {0}
 RefusesItem text _ = ⊥
@@ -119,7 +125,8 @@ pub record HasNoItem (name : List ℕ) (place : ℕ) (old : List NedFile) : Type
   pub none : length items ≤ place
 
 -- The type has that place, and the text is no item, by this line.
-pub record IsNoItem (name : List ℕ) (place : ℕ) (text : List ℕ) (old : List NedFile) (line : ℕ) : Type 0 where
+pub record IsNoItem (name : List ℕ) (place : ℕ) (text : List ℕ) (old : List NedFile)
+    (line : ℕ) : Type 0 where
   pub items : List ConnectionItem
   pub own : items_of name old ≡ Some items
   pub there : place ≤ length items
@@ -128,9 +135,12 @@ pub record IsNoItem (name : List ℕ) (place : ℕ) (text : List ℕ) (old : Lis
 
 abbrev pub RefusesInsertion : List ℕ → ℕ → List ℕ → List NedFile → FileError → Type 0
 RefusesInsertion name place text old error.TooLarge = is_large text ≡ true
-RefusesInsertion name place text old error.NoSuchType = (is_large text ≡ false) × (items_of name old ≡ None)
-RefusesInsertion name place text old error.NoSuchConnection = (is_large text ≡ false) × HasNoPlace name place old
-RefusesInsertion name place text old (error.NedSyntax line) = (is_large text ≡ false) × IsNoItem name place text old line
+RefusesInsertion name place text old error.NoSuchType =
+    (is_large text ≡ false) × (items_of name old ≡ None)
+RefusesInsertion name place text old error.NoSuchConnection =
+    (is_large text ≡ false) × HasNoPlace name place old
+RefusesInsertion name place text old (error.NedSyntax line) =
+    (is_large text ≡ false) × IsNoItem name place text old line
 RefusesInsertion name place text old (error.Types why) = AreApart (Inserted name place text) old why
 RefusesInsertion name place text old (error.NoMemory _) = Unit {0}
 RefusesInsertion name place text old _ = ⊥

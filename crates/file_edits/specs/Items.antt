@@ -1,14 +1,18 @@
 -- The connections that files declare of a type, and files in which they are others.
-use Rattle.std.specs.Prelude.{ℕ, Bool, true, false, ◌&&◌, List, [], ◌∷◌, Option, Some, None, option_map, if◌then◌else◌}
+use Rattle.std.specs.Prelude.{ℕ, Bool, true, false, ◌&&◌, List, [], ◌∷◌, Option, Some, None}
+use Rattle.std.specs.Prelude.{option_map, if◌then◌else◌}
 use Rattle.std.specs.List.{list_any}
 use Rattle.std.specs.Option.{option_and_then}
 use Rattle.std.specs.Str.{bytes_eq}
 use Rattle.ned_trees.specs.declared.connections.ConnectionItem.{ConnectionItem}
 use Rattle.ned_trees.specs.declared.declarations.NedFile.{NedFile}
-use Rattle.ned_trees.specs.declared.declarations.NestedType.{NestedType, out-NestedType, roll-NestedType}
+use Rattle.ned_trees.specs.declared.declarations.NestedType.{NestedType, out-NestedType}
+use Rattle.ned_trees.specs.declared.declarations.NestedType.{roll-NestedType}
 use Rattle.ned_trees.specs.declared.declarations.TypeDeclaration.{TypeDeclaration}
 use Rattle.ned_trees.specs.declared.declarations.TypeKind.{TypeKind}
-use Rattle.ned_trees.specs.declared.declarations.TypeKind.TheVariants.{Simple, Module, Network, Channel, ModuleInterface, ChannelInterface}
+use Rattle.ned_trees.specs.declared.declarations.TypeKind.TheVariants.{Simple, Module, Network}
+use Rattle.ned_trees.specs.declared.declarations.TypeKind.TheVariants.{Channel, ModuleInterface}
+use Rattle.ned_trees.specs.declared.declarations.TypeKind.TheVariants.{ChannelInterface}
 use Rattle.ned_scopes.specs.Scopes.{declared_of}
 
 -- ---- the first of several
@@ -45,7 +49,8 @@ declares name f = list_any (is_module_named name) f.types
 -- THE ITEMS of its own connections: those of the first module or network of that name that the
 -- files declare, not within another type
 abbrev pub items_in_file : List ℕ → NedFile → Option (List ConnectionItem)
-items_in_file name f = option_map (λ t. (declared_of t).connections.items) (first_of (is_module_named name) f.types)
+items_in_file name f =
+    option_map (λ t. (declared_of t).connections.items) (first_of (is_module_named name) f.types)
 
 abbrev pub items_of : List ℕ → List NedFile → Option (List ConnectionItem)
 items_of name files = option_and_then (items_in_file name) (first_of (declares name) files)
@@ -57,10 +62,14 @@ declared_with items t = record t { connections = record t.connections { items = 
 
 -- the type with these items, and with all else as it is
 abbrev pub type_with : List ConnectionItem → NestedType → NestedType
-type_with items t = roll-NestedType (record { declared = declared_with items (declared_of t); types = (out-NestedType t).types })
+type_with items t = roll-NestedType (record {
+  declared = declared_with items (declared_of t);
+  types = (out-NestedType t).types;
+})
 
 abbrev pub file_with : List ℕ → List ConnectionItem → NedFile → NedFile
-file_with name items f = record { types = change_first (is_module_named name) (type_with items) f.types }
+file_with name items f =
+    record { types = change_first (is_module_named name) (type_with items) f.types }
 
 -- THE FILES in which the type of that name has these items, and all else is as it was
 abbrev pub files_with : List ℕ → List ConnectionItem → List NedFile → List NedFile

@@ -1,11 +1,13 @@
 //! Changes of files.
 
-ghost use Rattle.std.specs.Prelude.{◌≡◌, ◌<◌, ◌≤◌, ◌∷◌, ◌++◌, length, drop, remove, slice_set, take, IfOk, IfErr};
+ghost use Rattle.std.specs.Prelude.{◌≡◌, ◌<◌, ◌≤◌, ◌∷◌, ◌++◌, length, drop, remove, slice_set};
+ghost use Rattle.std.specs.Prelude.{take, IfOk, IfErr};
 ghost use Rattle.ned_scopes.specs.Scopes.{types_of};
 ghost use Rattle.ned_syntax.specs.NedText.{IsNedFile};
 ghost use Rattle.ned_connections.specs.ConnectionText.{IsConnectionText};
 ghost use Rattle.file_edits.specs.Items.{files_with};
-ghost use Rattle.file_edits.specs.Changes.{is_large, AnswersChange, AreTypesOf, RefusesItem, RefusesText, RefusesTypes};
+ghost use Rattle.file_edits.specs.Changes.{is_large, AnswersChange, AreTypesOf, RefusesItem};
+ghost use Rattle.file_edits.specs.Changes.{RefusesText, RefusesTypes};
 ghost use Rattle.file_edits.specs.Changes as change;
 
 use crate::error::FileError;
@@ -228,9 +230,10 @@ fn typed_removed(
     }
 }
 
-/// The files, where the item of connections that this text is stands at that place of the connections of the module or network of that
-/// name, and the table of their types; or why there is none. A place numbers the connections and groups of connections of the
-/// type's own section from 0. The files that were there stay as they are.
+/// The files, where the item of connections that this text is stands at that place of the
+/// connections of the module or network of that name, and the table of their types; or why there is
+/// none. A place numbers the connections and groups of connections of the type's own section from
+/// 0. The files that were there stay as they are.
 pub fn with_connection(
     alloc: Global,
     files: &[SharedFile],

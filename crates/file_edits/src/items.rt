@@ -3,7 +3,9 @@
 ghost use Rattle.std.specs.Prelude.{◌≡◌, ◌++◌, IfOk, OnOk, option_map};
 ghost use Rattle.std.specs.List.{list_any};
 ghost use Rattle.std.specs.Option.{option_copied};
-ghost use Rattle.file_edits.specs.Items.{change_first, declared_with, declares, file_with, files_with, first_of, is_compound, is_module_named, items_in_file, items_of, type_with};
+ghost use Rattle.file_edits.specs.Items.{change_first, declared_with, declares, file_with};
+ghost use Rattle.file_edits.specs.Items.{files_with, first_of, is_compound, is_module_named};
+ghost use Rattle.file_edits.specs.Items.{items_in_file, items_of, type_with};
 
 use crate::copies::copy_nested;
 use ned_files::shared::SharedFile;

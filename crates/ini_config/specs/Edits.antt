@@ -1,5 +1,7 @@
 -- Edits of an ini text: the changed lines, their bytes, and why an edit is refused.
-use Rattle.std.specs.Prelude.{◌≡◌, ℕ, ◌+◌, ◌-◌, Bool, true, false, ◌&&◌, List, [], ◌∷◌, ◌++◌, length, take, drop, Option, Some, None, Result, Ok, Err, IfErr, ◌==◌, if◌then◌else◌, map, nat_le}
+use Rattle.std.specs.Prelude.{◌≡◌, ℕ, ◌+◌, ◌-◌, Bool, true, false, ◌&&◌, List, [], ◌∷◌, ◌++◌}
+use Rattle.std.specs.Prelude.{length, take, drop, Option, Some, None, Result, Ok, Err, IfErr, ◌==◌}
+use Rattle.std.specs.Prelude.{if◌then◌else◌, map, nat_le}
 use Rattle.std.specs.List.{list_any}
 use Rattle.ini_entries.specs.declared.reason.Reason.TheVariants as reason
 use Rattle.ini_config.specs.declared.error.EditError.{EditError}
@@ -46,15 +48,22 @@ pub record Edit : Type 0 where
 -- The lines count from 1. Where there is no line of the number, nothing is taken out, and a given
 -- text stands at an end. this text stands between lines, as the line of this number
 abbrev pub edit_with : List IniLine → Bytes → List IniLine → ℕ → Bool → Edit
-edit_with before text behind n found = record { lines = with_between before text behind; number = n; found = found; broken = holds_feed text }
+edit_with before text behind n found = record {
+  lines = with_between before text behind;
+  number = n;
+  found = found;
+  broken = holds_feed text;
+}
 
 -- nothing stands between lines, where the line of this number stood
 abbrev pub edit_without : List IniLine → List IniLine → ℕ → Bool → Edit
-edit_without before behind n found = record { lines = texts_of before ++ texts_of behind; number = n; found = found; broken = false }
+edit_without before behind n found =
+    record { lines = texts_of before ++ texts_of behind; number = n; found = found; broken = false }
 
 -- a line of this text is put before line number n
 abbrev pub insertion : ℕ → Bytes → List IniLine → Edit
-insertion n text lines = edit_with (take (n - 1) lines) text (drop (n - 1) lines) n (is_place n lines)
+insertion n text lines =
+    edit_with (take (n - 1) lines) text (drop (n - 1) lines) n (is_place n lines)
 
 -- a line of this text stands instead of line number n
 abbrev pub replacement : ℕ → Bytes → List IniLine → Edit
@@ -77,7 +86,8 @@ without_return (b ∷ c ∷ cs) = b ∷ without_return (c ∷ cs)
 
 -- Where the old text was a text, the new one has the lines that the edit leaves.
 abbrev pub HasLines : List IniLine → Edit → List IniLine → Type 0
-HasLines old edit edited = (bytes : Bytes) → IsIniText bytes old → texts_of edited ≡ map without_return edit.lines
+HasLines old edit edited = (bytes : Bytes) → IsIniText bytes old
+    → texts_of edited ≡ map without_return edit.lines
 
 -- What an edit makes: its number is right, the given text is a line, and the new text means what
 -- the changed lines say.

@@ -1,5 +1,7 @@
 -- What an ini text means.
-use Rattle.std.specs.Prelude.{◌≡◌, ℕ, suc, ◌+◌, ◌-◌, ◌<◌, ◌≤◌, Bool, true, false, ◌&&◌, not, List, [], ◌∷◌, ◌++◌, length, take, drop, Option, Some, None, Result, Ok, Err, ◌==◌, ◌⊎◌, position, codes, nat_lt, slice_index}
+use Rattle.std.specs.Prelude.{◌≡◌, ℕ, suc, ◌+◌, ◌-◌, ◌<◌, ◌≤◌, Bool, true, false, ◌&&◌, not, List}
+use Rattle.std.specs.Prelude.{[], ◌∷◌, ◌++◌, length, take, drop, Option, Some, None, Result, Ok}
+use Rattle.std.specs.Prelude.{Err, ◌==◌, ◌⊎◌, position, codes, nat_lt, slice_index}
 use Rattle.std.specs.Str.{bytes_eq, is_utf8}
 use Rattle.sim_values.specs.Limits.{max_length}
 use Rattle.ini_trees.specs.declared.lines.IniEntry.{IniEntry}
@@ -23,7 +25,8 @@ ends_with c bytes = nat_lt 0 (length bytes) && slice_index bytes (length bytes -
 -- UTF-8, not empty, without `${`, and not ending with `\`
 abbrev pub is_value : Bytes → Bool
 is_value [] = false
-is_value (b ∷ bs) = is_utf8 (b ∷ bs) && not (ends_with 92 (b ∷ bs)) && not (holds_variable 0 (b ∷ bs))
+is_value (b ∷ bs) = is_utf8 (b ∷ bs) && not (ends_with 92 (b ∷ bs))
+    && not (holds_variable 0 (b ∷ bs))
 
 -- no blank, and no byte that begins a comment
 abbrev pub is_first_of_entry : ℕ → Bool
@@ -65,7 +68,8 @@ IsSectionLine name bytes = (bytes ≡ in_brackets name) ⊎ (bytes ≡ in_bracke
 -- what follows the word `Config` and a blank, where a text begins with them, or else the text
 -- itself
 abbrev pub IsNamed : Bytes → Bytes → Type 0
-IsNamed inner name = (inner ≡ word_config ++ name) ⊎ ((name ≡ inner) × ((other : Bytes) → inner ≡ word_config ++ other → ⊥))
+IsNamed inner name = (inner ≡ word_config ++ name)
+    ⊎ ((name ≡ inner) × ((other : Bytes) → inner ≡ word_config ++ other → ⊥))
 
 -- the line is a section of that name
 abbrev pub IsSection : Bytes → Bytes → Type 0
@@ -111,13 +115,16 @@ pub record IsIniText (bytes : Bytes) (reads : List IniLine) : Type 0 where
 
 -- a text has at most one meaning
 abbrev pub HasOneMeaning : Bytes → Type 0
-HasOneMeaning bytes = (first second : List IniLine) → IsIniText bytes first → IsIniText bytes second → first ≡ second
+HasOneMeaning bytes = (first second : List IniLine) → IsIniText bytes first → IsIniText bytes second
+    → first ≡ second
 
 -- The line of this number is the first that means nothing, where the first has number n.
 abbrev pub FirstBadOf : ℕ → ℕ → Option Bytes → List Bytes → Type 0
 FirstBadOf bad n section [] = ⊥
-FirstBadOf bad n section (bytes ∷ more) = ((bad ≡ n) × ((read : IniLine) → IsIniLine section bytes read → ⊥))
-    ⊎ ((read : IniLine) × IsIniLine section bytes read × FirstBadOf bad (suc n) (section_behind section read.meaning) more)
+FirstBadOf bad n section (bytes ∷ more) =
+    ((bad ≡ n) × ((read : IniLine) → IsIniLine section bytes read → ⊥))
+    ⊎ ((read : IniLine) × IsIniLine section bytes read
+    × FirstBadOf bad (suc n) (section_behind section read.meaning) more)
 
 -- The number, from 1, of the first line that means nothing, or is an entry before the first
 -- section.
@@ -131,11 +138,13 @@ abbrev pub Settles : List Bytes → Result (List IniLine) IniError → Type 0
 Settles bytes (Ok reads) = Tells (AreLines None bytes) (Some reads)
 Settles bytes (Err (errors.NoMemory _)) = Unit {0}
 Settles bytes (Err errors.TooLarge) = ⊥
-Settles bytes (Err (errors.IniSyntax bad why)) = FirstBadOf bad 1 None bytes × Tells (AreLines None bytes) None
+Settles bytes (Err (errors.IniSyntax bad why)) =
+    FirstBadOf bad 1 None bytes × Tells (AreLines None bytes) None
 
 -- What was read of the line of this number, in this section, and put after these lines, or why it
 -- was refused.
-abbrev pub SettlesLine : Option Bytes → Bytes → ℕ → List IniLine → List IniLine → Result (Unit {0}) IniError → Type 0
+abbrev pub SettlesLine : Option Bytes → Bytes → ℕ → List IniLine → List IniLine
+    → Result (Unit {0}) IniError → Type 0
 SettlesLine section bytes number before behind (Ok done) =
     (read : IniLine) × Tells (IsIniLine section bytes) (Some read) × (behind ≡ before ++ read ∷ [])
 SettlesLine section bytes number before behind (Err (errors.NoMemory _)) = Unit {0}

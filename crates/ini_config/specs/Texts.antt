@@ -1,5 +1,6 @@
 -- The parts of an ini text: its lines, and what stands before a comment.
-use Rattle.std.specs.Prelude.{ℕ, zero, suc, Bool, false, ◌||◌, ◌&&◌, not, List, [], ◌∷◌, Option, Some, None, ◌==◌, if◌then◌else◌, option_map, unwrap_or}
+use Rattle.std.specs.Prelude.{ℕ, zero, suc, Bool, false, ◌||◌, ◌&&◌, not, List, [], ◌∷◌, Option}
+use Rattle.std.specs.Prelude.{Some, None, ◌==◌, if◌then◌else◌, option_map, unwrap_or}
 use Rattle.ini_entries.specs.Texts.{Bytes, after_blanks, before_blanks}
 
 -- ---- lines
@@ -16,7 +17,8 @@ begins_with c (b ∷ bs) = b == c
 -- without LF counts.
 unfoldable pub lines_of_ini : Bytes → List Bytes
 lines_of_ini [] = []
-lines_of_ini (b ∷ bs) = if b == 10 then [] ∷ lines_of_ini bs else (if b == 13 && begins_with 10 bs then lines_of_ini bs else add_front b (lines_of_ini bs))
+lines_of_ini (b ∷ bs) = if b == 10 then [] ∷ lines_of_ini bs
+    else (if b == 13 && begins_with 10 bs then lines_of_ini bs else add_front b (lines_of_ini bs))
 
 abbrev pub after_feed : Bytes → Option Bytes
 after_feed [] = None
@@ -44,7 +46,8 @@ ends_literal taken b = not taken && b == 34
 -- up to the first `"` that no `\` takes along. None where there is no such.
 unfoldable pub literal_rest : Bool → Bytes → Option ℕ
 literal_rest taken [] = None
-literal_rest taken (b ∷ bs) = if ends_literal taken b then Some 1 else option_map (λ n. suc n) (literal_rest (takes_next taken b) bs)
+literal_rest taken (b ∷ bs) = if ends_literal taken b then Some 1
+    else option_map (λ n. suc n) (literal_rest (takes_next taken b) bs)
 
 -- how many bytes of a text literal follow this byte: none but after a `"` that is closed
 abbrev pub literal_behind : ℕ → Bytes → ℕ

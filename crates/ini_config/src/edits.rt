@@ -1,9 +1,13 @@
 //! Edits of an ini text. Each gives a new text, and leaves the old one as it was.
 
-ghost use Rattle.std.specs.Prelude.{◌≡◌, ◌+◌, ◌<◌, ◌≤◌, ◌∷◌, ◌++◌, [], IfOk, IfErr, OnOk, MatchOption, List, length, take, drop, nat_le};
+ghost use Rattle.std.specs.Prelude.{◌≡◌, ◌+◌, ◌<◌, ◌≤◌, ◌∷◌, ◌++◌, [], IfOk, IfErr, OnOk};
+ghost use Rattle.std.specs.Prelude.{MatchOption, List, length, take, drop, nat_le};
 ghost use Rattle.sim_values.specs.Limits.{max_length};
 ghost use Rattle.ini_config.specs.Meaning.{IsIniText};
-ghost use Rattle.ini_config.specs.Edits.{AnswersEdit, HasLines, IsEdited, Refused, RefusesBytes, bytes_of, edit_with, edit_without, holds_feed, insertion, is_line, is_place, removal, replacement, texts_of, with_between};
+ghost use Rattle.ini_config.specs.Edits.{AnswersEdit, HasLines, IsEdited, Refused, RefusesBytes};
+ghost use Rattle.ini_config.specs.Edits.{bytes_of, edit_with, edit_without, holds_feed, insertion};
+ghost use Rattle.ini_config.specs.Edits.{is_line, is_place, removal, replacement, texts_of};
+ghost use Rattle.ini_config.specs.Edits.{with_between};
 ghost use Rattle.ini_trees.specs.declared.lines.IniLine.{IniLine};
 
 use crate::error::{EditError, IniError};

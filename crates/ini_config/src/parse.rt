@@ -1,12 +1,17 @@
 //! Reading ini texts.
 
-ghost use Rattle.std.specs.Prelude.{◌≡◌, ◌<◌, ◌||◌, ◌++◌, ◌==◌, ℕ, true, false, length, position, IfOk, IfErr, IfSome, MatchOption, MatchResult, Err, List, is_ok};
+ghost use Rattle.std.specs.Prelude.{◌≡◌, ◌<◌, ◌||◌, ◌++◌, ◌==◌, ℕ, true, false, length, position};
+ghost use Rattle.std.specs.Prelude.{IfOk, IfErr, IfSome, MatchOption, MatchResult, Err, List};
+ghost use Rattle.std.specs.Prelude.{is_ok};
 ghost use Rattle.std.specs.List.{list_all};
 ghost use Rattle.std.specs.Str.{is_utf8};
 ghost use Rattle.ini_config.specs.Texts.{lines_of_ini};
 ghost use Rattle.ini_entries.specs.Meaning.{Finds, is_key, is_key_byte};
 ghost use Rattle.sim_values.specs.Limits.{max_length};
-ghost use Rattle.ini_config.specs.Meaning.{IsIniText, IsIniLine, IsLine, IsEntry, IsNamed, IsParted, IsSection, Settles, Answers, Explains, begins_entry, ends_with, in_brackets, is_first_of_entry, is_value, may_stand, SettlesLine};
+ghost use Rattle.ini_config.specs.Meaning.{IsIniText, IsIniLine, IsLine, IsEntry, IsNamed};
+ghost use Rattle.ini_config.specs.Meaning.{IsParted, IsSection, Settles, Answers, Explains};
+ghost use Rattle.ini_config.specs.Meaning.{begins_entry, ends_with, in_brackets, is_first_of_entry};
+ghost use Rattle.ini_config.specs.Meaning.{is_value, may_stand, SettlesLine};
 ghost use Rattle.ini_trees.specs.Sections.{is_extends, section_behind};
 ghost use Rattle.ini_trees.specs.declared.lines.IniLine.{IniLine};
 ghost use Rattle.ini_trees.specs.declared.lines.LineMeaning.{LineMeaning};
@@ -88,7 +93,8 @@ fn no_value(bytes: &[u8]) -> Reason {
 
 /// The key and the value of an entry, or why a line has none.
 pub fn key_and_value(line: &[u8]) -> Result<(&[u8], &[u8]), Reason>
-    ensures { MatchResult result (λ parts. IsParted line.now parts.0.now parts.1.now) (λ _. (key value : List ℕ) → IsParted line.now key value → ⊥) }
+    ensures { MatchResult result (λ parts. IsParted line.now parts.0.now parts.1.now)
+        (λ _. (key value : List ℕ) → IsParted line.now key value → ⊥) }
 {
     let Some(at) = first_equals(line) else {
         return Err(no_entry(line));
@@ -154,7 +160,8 @@ fn blank_or_comment(line: &[u8]) -> Result<LineMeaning, Unread>
 
 /// What stands between the brackets that a line begins and ends with.
 fn in_brackets(line: &[u8]) -> Option<&[u8]>
-    ensures { MatchOption result ((inner : List ℕ) → line.now ≡ in_brackets inner → ⊥) (λ inner. line.now ≡ in_brackets inner.now) }
+    ensures { MatchOption result ((inner : List ℕ) → line.now ≡ in_brackets inner
+        → ⊥) (λ inner. line.now ≡ in_brackets inner.now) }
 {
     match line.strip_prefix(b"[".as_slice()) {
         None => None,
@@ -174,7 +181,8 @@ fn without_config(inner: &[u8]) -> &[u8]
 
 /// The name of the section that a line is.
 fn section_name(line: &[u8]) -> Option<&[u8]>
-    ensures { MatchOption result ((name : List ℕ) → IsSection line.now name → ⊥) (λ name. IsSection line.now name.now) }
+    ensures { MatchOption result ((name : List ℕ) → IsSection line.now name
+        → ⊥) (λ name. IsSection line.now name.now) }
 {
     let Some(inner) = in_brackets(line) else {
         return None;

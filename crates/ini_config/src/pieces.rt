@@ -1,6 +1,7 @@
 //! The pieces of an ini text: its lines, and what stands before a comment.
 
-ghost use Rattle.std.specs.Prelude.{◌≡◌, ◌+◌, ◌<◌, ◌≤◌, ◌∷◌, false, length, take, option_map, IfSome};
+ghost use Rattle.std.specs.Prelude.{◌≡◌, ◌+◌, ◌<◌, ◌≤◌, ◌∷◌, false, length, take, option_map};
+ghost use Rattle.std.specs.Prelude.{IfSome};
 ghost use Rattle.ini_config.specs.Texts as texts;
 
 use ini_entries::blanks::{after_blanks, before_blanks};

@@ -1,9 +1,11 @@
 -- Keys of entries: their parts, and what they are for.
 -- OMNeT++ Simulation Manual, "Configuring Simulations", "Per-Object Configuration Options".
-use Rattle.std.specs.Prelude.{ℕ, Bool, true, false, ◌&&◌, [], ◌∷◌, Option, Some, None, ◌==◌, if◌then◌else◌}
+use Rattle.std.specs.Prelude.{ℕ, Bool, true, false, ◌&&◌, [], ◌∷◌, Option, Some, None, ◌==◌}
+use Rattle.std.specs.Prelude.{if◌then◌else◌}
 use Rattle.std.specs.Str.{bytes_eq}
 use Rattle.ini_entries.specs.declared.keys.KeyPlace.{KeyPlace}
-use Rattle.ini_entries.specs.declared.keys.KeyPlace.TheVariants.{Open, InSet, InBrackets, InSetInBrackets}
+use Rattle.ini_entries.specs.declared.keys.KeyPlace.TheVariants.{Open, InSet, InBrackets}
+use Rattle.ini_entries.specs.declared.keys.KeyPlace.TheVariants.{InSetInBrackets}
 use Rattle.ini_trees.specs.Words.{Bytes, word_typename}
 
 -- ---- sets and brackets
@@ -23,7 +25,8 @@ is_closing false b = b == 93
 unfoldable pub is_closed_from : Bool → Bool → Bytes → Bool
 is_closed_from in_set escaped [] = false
 is_closed_from in_set true (b ∷ bs) = is_closed_from in_set false bs
-is_closed_from in_set false (b ∷ bs) = if is_closing in_set b then true else is_closed_from (in_set_behind in_set b) (b == 92) bs
+is_closed_from in_set false (b ∷ bs) =
+    if is_closing in_set b then true else is_closed_from (in_set_behind in_set b) (b == 92) bs
 
 -- what follows a `[` closes it: without such a `]` it is no bracket
 abbrev pub is_closed : Bytes → Bool
@@ -32,9 +35,11 @@ is_closed bytes = is_closed_from false false bytes
 -- where the bytes after this one stand, where a `]` closes what follows or not; a `{` opens a set
 -- between brackets too
 abbrev pub place_behind : KeyPlace → ℕ → Bool → KeyPlace
-place_behind Open b closed = if b == 123 then InSet else (if b == 91 && closed then InBrackets else Open)
+place_behind Open b closed =
+    if b == 123 then InSet else (if b == 91 && closed then InBrackets else Open)
 place_behind InSet b closed = if b == 125 then Open else InSet
-place_behind InBrackets b closed = if b == 93 then Open else (if b == 123 then InSetInBrackets else InBrackets)
+place_behind InBrackets b closed =
+    if b == 93 then Open else (if b == 123 then InSetInBrackets else InBrackets)
 place_behind InSetInBrackets b closed = if b == 125 then InBrackets else InSetInBrackets
 
 -- ---- the last part
@@ -57,7 +62,8 @@ or_rest None false rest = None
 unfoldable pub last_part_from : KeyPlace → Bool → Bytes → Option Bytes
 last_part_from place escaped [] = None
 last_part_from place true (b ∷ bs) = last_part_from place false bs
-last_part_from place false (b ∷ bs) = or_rest (last_part_from (place_behind place b (is_closed bs)) (b == 92) bs) (is_parting place b) bs
+last_part_from place false (b ∷ bs) = or_rest
+    (last_part_from (place_behind place b (is_closed bs)) (b == 92) bs) (is_parting place b) bs
 
 -- THE LAST PART of a key: what stands after its last dot outside `{}` and `[]` that no `\` stands
 -- before
@@ -69,7 +75,8 @@ last_part key = last_part_from Open false key
 abbrev pub found_behind : KeyPlace → ℕ → Bytes → Option Bytes → Option Bytes → Option Bytes
 found_behind Open b rest found kept = if b == 46 then Some rest else found
 found_behind InSet b rest found kept = found
-found_behind InBrackets b rest found kept = if b == 93 then kept else (if b == 46 then Some rest else found)
+found_behind InBrackets b rest found kept =
+    if b == 93 then kept else (if b == 46 then Some rest else found)
 found_behind InSetInBrackets b rest found kept = found
 
 -- what it keeps at a `[`: what it has found outside brackets
@@ -90,8 +97,10 @@ is_hyphen false b = b == 45
 -- itself
 unfoldable pub has_hyphen_from : Bool → Bool → Bytes → Bool
 has_hyphen_from in_set escaped [] = false
-has_hyphen_from in_set true (b ∷ bs) = if is_hyphen in_set b then true else has_hyphen_from in_set false bs
-has_hyphen_from in_set false (b ∷ bs) = if is_hyphen in_set b then true else has_hyphen_from (in_set_behind in_set b) (b == 92) bs
+has_hyphen_from in_set true (b ∷ bs) =
+    if is_hyphen in_set b then true else has_hyphen_from in_set false bs
+has_hyphen_from in_set false (b ∷ bs) =
+    if is_hyphen in_set b then true else has_hyphen_from (in_set_behind in_set b) (b == 92) bs
 
 -- a `-` stands in a last part, outside `{}`
 abbrev pub has_hyphen : Bytes → Bool
@@ -108,7 +117,8 @@ pub data KeyKind : Type 0 where
   ParameterKey : KeyKind
 
 abbrev pub kind_of_part : Bytes → KeyKind
-kind_of_part part = if has_hyphen part then ObjectKey part else (if bytes_eq part word_typename then TypeKey else ParameterKey)
+kind_of_part part = if has_hyphen part then ObjectKey part
+    else (if bytes_eq part word_typename then TypeKey else ParameterKey)
 
 abbrev pub kind_by : Option Bytes → KeyKind
 kind_by None = OptionKey

@@ -1,6 +1,7 @@
 -- What an entry says, by its key and its value.
 -- OMNeT++ Simulation Manual, "Configuring Simulations".
-use Rattle.std.specs.Prelude.{◌≡◌, ◌≢◌, ℕ, Bool, true, false, ◌&&◌, not, [], ◌∷◌, Option, Some, None, Result, Ok, Err, IsSome, codes, nat_lt}
+use Rattle.std.specs.Prelude.{◌≡◌, ◌≢◌, ℕ, Bool, true, false, ◌&&◌, not, [], ◌∷◌, Option, Some}
+use Rattle.std.specs.Prelude.{None, Result, Ok, Err, IsSome, codes, nat_lt}
 use Rattle.std.specs.List.{list_all}
 use Rattle.std.specs.Str.{chars}
 use Rattle.ini_pattern.specs.PatternOf.{pattern_of}
@@ -15,7 +16,8 @@ use Rattle.ini_entries.specs.declared.reason.Unread.TheVariants as unread
 use Rattle.ini_entries.specs.Constants.{is_constant}
 use Rattle.ini_entries.specs.Keys.{OptionKey, ObjectKey, TypeKey, ParameterKey, kind_of}
 use Rattle.ini_entries.specs.Names.{is_dotted_name, is_config_name}
-use Rattle.ini_entries.specs.Options.{word_network, word_extends, word_time_limit, is_other_option, time_literal, IsObjectOption}
+use Rattle.ini_entries.specs.Options.{word_network, word_extends, word_time_limit, is_other_option}
+use Rattle.ini_entries.specs.Options.{time_literal, IsObjectOption}
 use Rattle.ini_entries.specs.Texts.{Bytes, items_of, is_blank}
 
 abbrev pub word_default : Bytes
@@ -33,27 +35,33 @@ is_key (b ∷ bs) = list_all is_key_byte (b ∷ bs)
 -- constant.
 abbrev pub IsEntryValue : Bytes → EntryValue → Type 0
 IsEntryValue bytes value.Default = bytes ≡ word_default
-IsEntryValue bytes (value.Given e) = (bytes ≢ word_default) × IsExpressionText bytes e × (is_constant e ≡ true)
+IsEntryValue bytes (value.Given e) =
+    (bytes ≢ word_default) × IsExpressionText bytes e × (is_constant e ≡ true)
 
 -- the pattern of a key, and a value
 abbrev pub IsPatternAndValue : Bytes → Bytes → ParameterEntry → Type 0
-IsPatternAndValue key bytes p = (pattern_of (chars key) ≡ Some p.pattern) × IsEntryValue bytes p.value
+IsPatternAndValue key bytes p =
+    (pattern_of (chars key) ≡ Some p.pattern) × IsEntryValue bytes p.value
 
 -- What the value of a key says. Each key is a pattern, whether it is used as one or not.
 abbrev pub IsEntryMeaning : Bytes → Bytes → EntryMeaning → Type 0
 -- Options: the network; the bases of a configuration; the time limit; others have no effect.
-IsEntryMeaning key bytes (meaning.Network name) = (key ≡ word_network) × (name ≡ bytes) × (is_dotted_name bytes ≡ true)
+IsEntryMeaning key bytes (meaning.Network name) =
+    (key ≡ word_network) × (name ≡ bytes) × (is_dotted_name bytes ≡ true)
 IsEntryMeaning key bytes (meaning.Extends names) =
     (key ≡ word_extends) × (names ≡ items_of bytes) × (list_all is_config_name names ≡ true)
-IsEntryMeaning key bytes (meaning.TimeLimit ps) = (key ≡ word_time_limit) × IsExpressionText bytes (time_literal ps)
+IsEntryMeaning key bytes (meaning.TimeLimit ps) =
+    (key ≡ word_time_limit) × IsExpressionText bytes (time_literal ps)
 IsEntryMeaning key bytes meaning.Other =
     (kind_of key ≡ OptionKey) × (is_other_option key bytes ≡ true) × IsSome (pattern_of (chars key))
 -- Per-object options.
 IsEntryMeaning key bytes (meaning.Object o) =
-    (kind_of key ≡ ObjectKey o.option) × (pattern_of (chars key) ≡ Some o.pattern) × IsObjectOption o.option bytes o.says
+    (kind_of key ≡ ObjectKey o.option) × (pattern_of (chars key) ≡ Some o.pattern)
+    × IsObjectOption o.option bytes o.says
 -- Types of submodules, and values of parameters.
 IsEntryMeaning key bytes (meaning.Type p) = (kind_of key ≡ TypeKey) × IsPatternAndValue key bytes p
-IsEntryMeaning key bytes (meaning.Parameter p) = (kind_of key ≡ ParameterKey) × IsPatternAndValue key bytes p
+IsEntryMeaning key bytes (meaning.Parameter p) =
+    (kind_of key ≡ ParameterKey) × IsPatternAndValue key bytes p
 
 -- ---- answers
 

@@ -1,6 +1,7 @@
 -- Options of a configuration, and per-object options.
 -- OMNeT++ Simulation Manual, "List of Configuration Options".
-use Rattle.std.specs.Prelude.{◌≡◌, ℕ, pos, Bool, true, false, not, ◌&&◌, List, [], ◌∷◌, Option, Some, None, ◌==◌, if◌then◌else◌, codes, option_map}
+use Rattle.std.specs.Prelude.{◌≡◌, ℕ, pos, Bool, true, false, not, ◌&&◌, List, [], ◌∷◌, Option}
+use Rattle.std.specs.Prelude.{Some, None, ◌==◌, if◌then◌else◌, codes, option_map}
 use Rattle.std.specs.List.{list_all}
 use Rattle.std.specs.Option.{option_and_then}
 use Rattle.std.specs.Str.{bytes_eq}
@@ -44,7 +45,8 @@ is_only_value key value =
 -- an option without effect may have this value
 unfoldable pub is_other_option : Bytes → Bytes → Bool
 is_other_option key value =
-    not (is_among key words_with_effect) && (not (is_among key words_left_out) && is_only_value key value)
+    not (is_among key words_with_effect)
+    && (not (is_among key words_left_out) && is_only_value key value)
 
 -- all names of a list, where each is one of a section
 abbrev pub config_names : List Bytes → Option (List Bytes)
@@ -61,12 +63,14 @@ word_modes = codes "result-recording-modes"
 
 -- options that say whether something is recorded
 abbrev pub recording_words : List Bytes
-recording_words = codes "scalar-recording" ∷ codes "vector-recording" ∷ codes "statistic-recording" ∷ []
+recording_words = codes "scalar-recording" ∷ codes "vector-recording"
+    ∷ codes "statistic-recording" ∷ []
 
 abbrev pub plain_item : Bytes → Option ModeItem
 plain_item text =
     if bytes_eq text (codes "default") then Some item.Default
-    else (if bytes_eq text (codes "all") then Some item.All else option_map item.Only (mode_named text))
+    else (if bytes_eq text (codes "all") then Some item.All
+    else option_map item.Only (mode_named text))
 
 -- an item of a list of recording modes
 unfoldable pub mode_item : Bytes → Option ModeItem
@@ -78,7 +82,8 @@ mode_item (b ∷ bs) =
 -- all of them, where each is one
 abbrev pub mode_items : List Bytes → Option (List ModeItem)
 mode_items [] = Some []
-mode_items (text ∷ texts) = option_and_then (λ i. option_map (λ more. i ∷ more) (mode_items texts)) (mode_item text)
+mode_items (text ∷ texts) =
+    option_and_then (λ i. option_map (λ more. i ∷ more) (mode_items texts)) (mode_item text)
 
 abbrev pub truth_word : Bool → Bytes
 truth_word true = codes "true"
@@ -87,6 +92,8 @@ truth_word false = codes "false"
 -- what a per-object option of that name says: which modes are recorded; whether something is
 -- recorded; nothing
 abbrev pub IsObjectOption : Bytes → Bytes → ObjectOption → Type 0
-IsObjectOption name bytes (object.Modes items) = (name ≡ word_modes) × (mode_items (items_of bytes) ≡ Some items)
-IsObjectOption name bytes (object.Recording on) = (is_among name recording_words ≡ true) × (bytes ≡ truth_word on)
+IsObjectOption name bytes (object.Modes items) =
+    (name ≡ word_modes) × (mode_items (items_of bytes) ≡ Some items)
+IsObjectOption name bytes (object.Recording on) =
+    (is_among name recording_words ≡ true) × (bytes ≡ truth_word on)
 IsObjectOption name bytes object.Other = is_among name (word_modes ∷ recording_words) ≡ false

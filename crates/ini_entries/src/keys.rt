@@ -44,7 +44,8 @@ fn found_behind<'a>(
     found: Option<&'a [u8]>,
     kept: Option<&'a [u8]>,
 ) -> Option<&'a [u8]>
-    ensures { option_copied result ≡ keys.found_behind place byte after.now (option_copied found.entry) (option_copied kept.entry) }
+    ensures { option_copied result ≡ keys.found_behind place byte after.now
+        (option_copied found.entry) (option_copied kept.entry) }
 {
     match place {
         KeyPlace::Open if byte == b'.' => Some(after),
@@ -61,7 +62,8 @@ fn kept_behind<'a>(
     found: Option<&'a [u8]>,
     kept: Option<&'a [u8]>,
 ) -> Option<&'a [u8]>
-    ensures { option_copied result ≡ keys.kept_behind place byte (option_copied found.entry) (option_copied kept.entry) }
+    ensures { option_copied result
+        ≡ keys.kept_behind place byte (option_copied found.entry) (option_copied kept.entry) }
 {
     match place {
         KeyPlace::Open if byte == b'[' => found,

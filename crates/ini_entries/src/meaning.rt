@@ -3,8 +3,10 @@
 ghost use Rattle.std.specs.Prelude.{◌≡◌, true, false, Some, is_some, IfOk};
 ghost use Rattle.std.specs.Str.{chars};
 ghost use Rattle.ini_pattern.specs.PatternOf.{pattern_of};
-ghost use Rattle.ini_entries.specs.Keys.{ObjectKey, OptionKey, ParameterKey, TypeKey, kind_of, last_part};
-ghost use Rattle.ini_entries.specs.Meaning.{Finds, IsEntryMeaning, IsEntryValue, IsPatternAndValue, Tells, is_key};
+ghost use Rattle.ini_entries.specs.Keys.{ObjectKey, OptionKey, ParameterKey, TypeKey, kind_of};
+ghost use Rattle.ini_entries.specs.Keys.{last_part};
+ghost use Rattle.ini_entries.specs.Meaning.{Finds, IsEntryMeaning, IsEntryValue, IsPatternAndValue};
+ghost use Rattle.ini_entries.specs.Meaning.{Tells, is_key};
 ghost use Rattle.ini_entries.specs.Options as options;
 ghost use Rattle.ini_entries.specs.Texts.{is_among};
 

@@ -56,7 +56,8 @@ pub(crate) fn config_names(alloc: Global, bytes: &[u8]) -> Result<Option<Items<T
 
 /// The picoseconds of an expression that is a time.
 fn time_said(expression: &Expression) -> Option<u64>
-    ensures { MatchOption result ((ps : ℕ) → expression.now ≡ options.time_literal ps → ⊥) (λ ps. expression.now ≡ options.time_literal ps) }
+    ensures { MatchOption result ((ps : ℕ) → expression.now ≡ options.time_literal ps
+        → ⊥) (λ ps. expression.now ≡ options.time_literal ps) }
 {
     match expression {
         Expression::Literal(Value::Quantity(Dimension::Time, amount)) if *amount >= 0 => {
@@ -68,7 +69,8 @@ fn time_said(expression: &Expression) -> Option<u64>
 
 /// The picoseconds of a text that is a time.
 pub(crate) fn time_limit(alloc: Global, bytes: &[u8]) -> Result<Option<u64>, AllocError>
-    ensures { IfOk result (λ found. Tells (λ ps. IsExpressionText bytes.now (options.time_literal ps)) found) }
+    ensures { IfOk result
+        (λ found. Tells (λ ps. IsExpressionText bytes.now (options.time_literal ps)) found) }
 {
     match parse_expression(alloc, bytes) {
         Ok(expression) => Ok(time_said(&expression)),

@@ -1,12 +1,15 @@
 -- Which pattern a text is, if any. A text is the list of its characters.
 -- OMNeT++ Simulation Manual, "Using Wildcard Patterns".
-use Rattle.std.specs.Prelude.{ℕ, zero, suc, ◌==◌, nat_le, Bool, true, false, not, ◌&&◌, List, [], ◌∷◌, ◌++◌, length, drop, Option, Some, None, option_and_then, if◌then◌else◌}
+use Rattle.std.specs.Prelude.{ℕ, zero, suc, ◌==◌, nat_le, Bool, true, false, not, ◌&&◌, List, []}
+use Rattle.std.specs.Prelude.{◌∷◌, ◌++◌, length, drop, Option, Some, None, option_and_then}
+use Rattle.std.specs.Prelude.{if◌then◌else◌}
 use Rattle.std.specs.Char.{is_ascii_digit}
 use Rattle.std.specs.Option.{option_map}
 use Rattle.std.specs.Str.Parse.{digits_value}
 use Rattle.ini_pattern.specs.declared.piece.CharRange.{CharRange}
 use Rattle.ini_pattern.specs.declared.piece.Piece.{Piece}
-use Rattle.ini_pattern.specs.declared.piece.Piece.TheVariants.{AnyPath, AnyName, AnyChar, Char, Set, Number}
+use Rattle.ini_pattern.specs.declared.piece.Piece.TheVariants.{AnyPath, AnyName, AnyChar, Char, Set}
+use Rattle.ini_pattern.specs.declared.piece.Piece.TheVariants.{Number}
 
 -- whether a text begins with this character
 abbrev pub begins_with : ℕ → List ℕ → Bool
@@ -42,7 +45,8 @@ abbrev pub ranges_in : ℕ → List ℕ → Option (List CharRange × List ℕ)
 ranges_in zero text = None
 ranges_in (suc n) text =
     if begins_with 125 text then Some ([], drop 1 text)
-    else option_and_then (λ first. option_map (λ more. (first.0 ∷ more.0, more.1)) (ranges_in n first.1))
+    else option_and_then
+    (λ first. option_map (λ more. (first.0 ∷ more.0, more.1)) (ranges_in n first.1))
     (option_and_then range_from (set_char text))
 
 -- the ranges of a set up to its closing brace, and the rest
@@ -102,12 +106,14 @@ bounds_in close text =
 abbrev pub number_up_to : ℕ → List ℕ → Option Piece
 number_up_to low [] = Some (Number low None)
 number_up_to low (c ∷ cs) =
-    if nat_le low (digits_value 10 (c ∷ cs)) then Some (Number low (Some (digits_value 10 (c ∷ cs)))) else None
+    if nat_le low (digits_value 10 (c ∷ cs))
+    then Some (Number low (Some (digits_value 10 (c ∷ cs)))) else None
 
 -- a number between bounds of up to 18 digits; no digits as the lower bound are 0
 abbrev pub number_between : List ℕ → List ℕ → Option Piece
 number_between low high =
-    if nat_le (length low) 18 && nat_le (length high) 18 then number_up_to (digits_value 10 low) high
+    if nat_le (length low) 18 && nat_le (length high) 18
+    then number_up_to (digits_value 10 low) high
     else None
 
 -- such a number, and the rest after its bounds
@@ -124,14 +130,16 @@ braced text (Some bounds) =
 abbrev pub bracketed : List ℕ → Option Bounds → Option (List Piece × List ℕ)
 bracketed text None = Some (Char 91 ∷ [], text)
 bracketed text (Some bounds) =
-    option_map (λ piece. (Char 91 ∷ piece ∷ Char 93 ∷ [], bounds.rest)) (number_between bounds.low bounds.high)
+    option_map (λ piece. (Char 91 ∷ piece ∷ Char 93 ∷ [], bounds.rest))
+    (number_between bounds.low bounds.high)
 
 -- what a text with this first character begins with, and the rest: a star or two, `?`, a brace, a
 -- bracket, a backslash before a character that stands for itself, or a character that does so
 -- anyway
 abbrev pub piece_in : ℕ → List ℕ → Option (List Piece × List ℕ)
 piece_in c cs =
-    if c == 42 then Some (if begins_with 42 cs then (AnyPath ∷ [], drop 1 cs) else (AnyName ∷ [], cs))
+    if c == 42 then Some (if begins_with 42 cs then (AnyPath ∷ [], drop 1 cs)
+    else (AnyName ∷ [], cs))
     else (if c == 63 then Some (AnyChar ∷ [], cs)
     else (if c == 123 then braced cs (bounds_in 125 cs)
     else (if c == 91 then bracketed cs (bounds_in 93 cs)
@@ -143,7 +151,8 @@ abbrev pub pieces_in : ℕ → List ℕ → Option (List Piece)
 pieces_in zero text = Some []
 pieces_in (suc n) [] = Some []
 pieces_in (suc n) (c ∷ cs) =
-    option_and_then (λ found. option_map (λ more. found.0 ++ more) (pieces_in n found.1)) (piece_in c cs)
+    option_and_then (λ found. option_map (λ more. found.0 ++ more) (pieces_in n found.1))
+    (piece_in c cs)
 
 -- the pattern that a text is
 unfoldable pub pattern_of : List ℕ → Option (List Piece)

@@ -1,9 +1,12 @@
 -- What the steps of reading and matching give.
-use Rattle.std.specs.Prelude.{◌≡◌, ℕ, ◌≤◌, ◌==◌, nat_le, nat_lt, min, Bool, true, false, not, ◌&&◌, List, [], ◌∷◌, ◌++◌, length, Option, Some, None, option_and_then, if◌then◌else◌}
+use Rattle.std.specs.Prelude.{◌≡◌, ℕ, ◌≤◌, ◌==◌, nat_le, nat_lt, min, Bool, true, false, not, ◌&&◌}
+use Rattle.std.specs.Prelude.{List, [], ◌∷◌, ◌++◌, length, Option, Some, None, option_and_then}
+use Rattle.std.specs.Prelude.{if◌then◌else◌}
 use Rattle.std.specs.Str.Parse.{digits_value}
 use Rattle.ini_pattern.specs.declared.reading.Digits.{Digits}
 use Rattle.ini_pattern.specs.declared.piece.Piece.{Piece}
-use Rattle.ini_pattern.specs.declared.piece.Piece.TheVariants.{AnyPath, AnyName, AnyChar, Char, Set, Number}
+use Rattle.ini_pattern.specs.declared.piece.Piece.TheVariants.{AnyPath, AnyName, AnyChar, Char, Set}
+use Rattle.ini_pattern.specs.declared.piece.Piece.TheVariants.{Number}
 use Rattle.ini_pattern.specs.Matches.{has_no_dot, in_ranges, Covers, Matches}
 use Rattle.ini_pattern.specs.PatternOf.{digits_front, after_digits}
 
@@ -50,7 +53,8 @@ is_up_to n (Some high) = nat_le n high
 -- whether digits are a number between bounds
 abbrev pub is_number_in : ℕ → Option ℕ → List ℕ → Bool
 is_number_in low high digits =
-    (nat_lt 0 (length digits) && nat_le (length digits) 18) && (nat_le low (digits_value 10 digits) && is_up_to (digits_value 10 digits) high)
+    (nat_lt 0 (length digits) && nat_le (length digits) 18)
+    && (nat_le low (digits_value 10 digits) && is_up_to (digits_value 10 digits) high)
 
 -- what a piece that is no star leaves of a name
 abbrev pub left_by : Piece → List ℕ → Option (List ℕ)
@@ -58,7 +62,8 @@ left_by AnyPath name = None
 left_by AnyName name = None
 left_by AnyChar name = left_by_char (λ c. not (c == 46)) name
 left_by (Char wanted) name = left_by_char (λ c. c == wanted) name
-left_by (Set negated ranges) name = left_by_char (λ c. if negated then not (in_ranges ranges c) else in_ranges ranges c) name
+left_by (Set negated ranges) name =
+    left_by_char (λ c. if negated then not (in_ranges ranges c) else in_ranges ranges c) name
 left_by (Number low high) name =
     if is_number_in low high (digits_front name) then Some (after_digits name) else None
 
@@ -80,19 +85,22 @@ IsEnd false rest = Unit {0}
 pub record IsLongestRest (pieces : List Piece) (to_end : Bool) (name rest : List ℕ) : Type 0 where
   pub covers : Covers pieces name rest
   pub ends : IsEnd to_end rest
-  pub longest : (other : List ℕ) → Covers pieces name other → IsEnd to_end other → EndsWith rest other
+  pub longest : (other : List ℕ) → Covers pieces name other → IsEnd to_end other
+      → EndsWith rest other
 
 -- the pieces leave no rest of a name
 abbrev pub HasNoRest : List Piece → Bool → List ℕ → Type 0
 HasNoRest pieces to_end name = (rest : List ℕ) → Covers pieces name rest → IsEnd to_end rest → ⊥
 
 -- the longest rest that pieces can leave of an end of a name
-pub record IsLongestAnywhere (pieces : List Piece) (to_end : Bool) (name rest : List ℕ) : Type 0 where
+pub record IsLongestAnywhere (pieces : List Piece) (to_end : Bool)
+    (name rest : List ℕ) : Type 0 where
   pub start : List ℕ
   pub within : EndsWith name start
   pub covers : Covers pieces start rest
   pub ends : IsEnd to_end rest
-  pub longest : (from other : List ℕ) → EndsWith name from → Covers pieces from other → IsEnd to_end other → EndsWith rest other
+  pub longest : (from other : List ℕ) → EndsWith name from → Covers pieces from other
+      → IsEnd to_end other → EndsWith rest other
 
 -- the pieces leave no rest of any end of a name
 abbrev pub HasNoRestAnywhere : List Piece → Bool → List ℕ → Type 0
@@ -111,12 +119,14 @@ pub record Slides (pieces : List Piece) (to_end : Bool) (name rest : List ℕ) :
   pub no_dot : has_no_dot taken ≡ true
   pub covers : Covers pieces start rest
   pub ends : IsEnd to_end rest
-  pub first : (before from other : List ℕ) → name ≡ before ++ from → has_no_dot before ≡ true → Covers pieces from other → IsEnd to_end other → EndsWith start from
+  pub first : (before from other : List ℕ) → name ≡ before ++ from → has_no_dot before ≡ true
+      → Covers pieces from other → IsEnd to_end other → EndsWith start from
 
 -- the pieces leave no rest after a star
 abbrev pub CannotSlide : List Piece → Bool → List ℕ → Type 0
 CannotSlide pieces to_end name =
-    (before from other : List ℕ) → name ≡ before ++ from → has_no_dot before ≡ true → Covers pieces from other → IsEnd to_end other → ⊥
+    (before from other : List ℕ) → name ≡ before ++ from → has_no_dot before ≡ true
+    → Covers pieces from other → IsEnd to_end other → ⊥
 
 -- what follows the first dot of a name
 abbrev pub IsPastDot : List ℕ → List ℕ → Type 0

@@ -2,7 +2,8 @@
 
 ghost use Rattle.std.specs.Prelude.{◌⊎◌};
 ghost use Rattle.std.specs.Str.{chars};
-ghost use Rattle.ini_pattern.specs.Laws.{PlainMatchesItself, TwoStarsMatchAll, StarStopsAtDot, MatchesBeforeDot};
+ghost use Rattle.ini_pattern.specs.Laws.{PlainMatchesItself, TwoStarsMatchAll, StarStopsAtDot};
+ghost use Rattle.ini_pattern.specs.Laws.{MatchesBeforeDot};
 ghost use Rattle.ini_pattern.specs.Matches.{Matches};
 
 use crate::pattern::Pattern;

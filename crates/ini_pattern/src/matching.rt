@@ -1,12 +1,17 @@
 //! Names against the pieces of a pattern; nothing is allocated.
 
-ghost use Rattle.std.specs.Prelude.{◌≡◌, ◌↔◌, [], ◌∷◌, ◌++◌, IsTrue, MatchOption, position, true, Some, None, option_and_then};
+ghost use Rattle.std.specs.Prelude.{◌≡◌, ◌↔◌, [], ◌∷◌, ◌++◌, IsTrue, MatchOption, position, true};
+ghost use Rattle.std.specs.Prelude.{Some, None, option_and_then};
 ghost use Rattle.std.specs.List.{list_all};
 ghost use Rattle.std.specs.Option.{option_map};
 ghost use Rattle.std.specs.Str.{chars};
 ghost use Rattle.ini_pattern.specs.Matches.{has_no_dot, in_ranges, Covers, Matches};
 ghost use Rattle.ini_pattern.specs.Places.{is_no_path};
-ghost use Rattle.ini_pattern.specs.Reading.{is_number_in, is_any_path, is_any_name, is_fixed, left_by, left_by_all, IsLongestRest, HasNoRest, IsLongestAnywhere, HasNoRestAnywhere, MatchesEnd, IsEnd, is_no_name, is_steady, Slides, CannotSlide, IsPastDot};
+ghost use Rattle.ini_pattern.specs.Reading.{is_number_in, is_any_path, is_any_name, is_fixed};
+ghost use Rattle.ini_pattern.specs.Reading.{left_by, left_by_all, IsLongestRest, HasNoRest};
+ghost use Rattle.ini_pattern.specs.Reading.{IsLongestAnywhere, HasNoRestAnywhere, MatchesEnd};
+ghost use Rattle.ini_pattern.specs.Reading.{IsEnd, is_no_name, is_steady, Slides, CannotSlide};
+ghost use Rattle.ini_pattern.specs.Reading.{IsPastDot};
 
 use crate::piece::{CharRange, Piece};
 use crate::places::{placed_anywhere, placed_start};
@@ -23,7 +28,8 @@ fn in_ranges(ranges: &[CharRange], c: char) -> bool
 
 /// What is left of a name that begins with a number between bounds.
 fn left_by_number(name: &str, low: u64, high: Option<u64>) -> Option<&str>
-    ensures { option_map (λ rest. chars rest.now) result ≡ left_by (Piece.Number low high) (chars name.now) }
+    ensures { option_map (λ rest. chars rest.now) result
+        ≡ left_by (Piece.Number low high) (chars name.now) }
 {
     if is_long_run(name) {
         return None;
@@ -137,7 +143,8 @@ fn around_name(pieces: &[Piece]) -> Option<(&[Piece], &[Piece])>
 pub(crate) fn fixed_rest<'a>(pieces: &[Piece], name: &'a str, to_end: bool) -> Option<&'a str>
     requires { IsTrue (list_all is_fixed pieces.now) }
     ensures { MatchOption result (HasNoRest pieces.now to_end (chars name.now))
-        (λ rest. Covers pieces.now (chars name.now) (chars rest.now) × IsEnd to_end (chars rest.now)) }
+        (λ rest. Covers pieces.now (chars name.now) (chars rest.now)
+        × IsEnd to_end (chars rest.now)) }
 {
     let Some(rest) = left_by_all(pieces, name) else {
         return None;
@@ -177,7 +184,8 @@ fn slide<'a>(pieces: &[Piece], name: &'a str, to_end: bool) -> Option<&'a str>
 fn star_rest<'a>(pieces: &[Piece], name: &'a str, to_end: bool) -> Option<&'a str>
     requires { IsTrue (list_all is_steady pieces.now) }
     ensures { MatchOption result (HasNoRest (Piece.AnyName ∷ pieces.now) to_end (chars name.now))
-        (λ rest. IsLongestRest (Piece.AnyName ∷ pieces.now) to_end (chars name.now) (chars rest.now)) }
+        (λ rest. IsLongestRest (Piece.AnyName ∷ pieces.now) to_end (chars name.now)
+        (chars rest.now)) }
 {
     let mut left = pieces;
     let mut here = name;

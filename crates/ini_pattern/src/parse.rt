@@ -1,10 +1,13 @@
 //! Texts as patterns.
 
-ghost use Rattle.std.specs.Prelude.{◌≡◌, ◌++◌, ℕ, List, Option, Some, None, MatchResult, option_and_then};
+ghost use Rattle.std.specs.Prelude.{◌≡◌, ◌++◌, ℕ, List, Option, Some, None, MatchResult};
+ghost use Rattle.std.specs.Prelude.{option_and_then};
 ghost use Rattle.std.specs.Option.{option_map};
 ghost use Rattle.std.specs.Str.{chars};
 ghost use Rattle.ini_pattern.specs.Fault.{OnBadPattern};
-ghost use Rattle.ini_pattern.specs.PatternOf.{set_char, range_from, ranges_of, set_and_rest, set_in, bounds_in, number_between, number_and_rest, braced, bracketed, piece_in, pattern_of};
+ghost use Rattle.ini_pattern.specs.PatternOf.{set_char, range_from, ranges_of, set_and_rest};
+ghost use Rattle.ini_pattern.specs.PatternOf.{set_in, bounds_in, number_between, number_and_rest};
+ghost use Rattle.ini_pattern.specs.PatternOf.{braced, bracketed, piece_in, pattern_of};
 ghost use Rattle.ini_pattern.specs.Reading.{IsReadingOf};
 ghost use Rattle.ini_pattern.specs.declared.piece.Piece.{Piece};
 
@@ -16,7 +19,8 @@ use std::alloc::Global;
 
 /// One character of a set, and the rest.
 fn set_char(text: &str) -> Option<(char, &str)>
-    ensures { option_map (λ found. (found.0, chars found.1.now)) result ≡ set_char (chars text.now) }
+    ensures { option_map (λ found. (found.0, chars found.1.now)) result
+        ≡ set_char (chars text.now) }
 {
     let (first, rest) = first_char(text)?;
     if first == '\\' {
@@ -71,7 +75,8 @@ fn set_from(alloc: Global, negated: bool, text: &str) -> Result<(Piece, &str), P
     ensures { MatchResult result
         (λ found. option_and_then (set_and_rest negated) (ranges_of (chars text.now))
         ≡ Some (found.0, chars found.1.now))
-        (OnBadPattern (option_and_then (set_and_rest negated) (ranges_of (chars text.now)) ≡ None)) }
+        (OnBadPattern
+        (option_and_then (set_and_rest negated) (ranges_of (chars text.now)) ≡ None)) }
 {
     let (ranges, rest) = ranges_of(alloc, text)?;
     if ranges.is_empty() {
@@ -155,7 +160,8 @@ fn push_braced<'a>(
 fn push_bracketed<'a>(pieces: &mut Items<Piece>, text: &'a str) -> Result<&'a str, PatternFault>
     ensures { MatchResult result
         (λ rest. (more : List Piece) × (pieces.new ≡ pieces.old ++ more)
-        × (bracketed (chars text.now) (bounds_in 93 (chars text.now)) ≡ Some (more, chars rest.now)))
+        × (bracketed (chars text.now) (bounds_in 93 (chars text.now))
+        ≡ Some (more, chars rest.now)))
         (OnBadPattern (bracketed (chars text.now) (bounds_in 93 (chars text.now)) ≡ None)) }
 {
     pieces.push(Piece::Char('['))?;

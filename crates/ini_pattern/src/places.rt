@@ -3,8 +3,10 @@
 ghost use Rattle.std.specs.Prelude.{◌≡◌, ◌<◌, ◌+◌, ◌++◌, ◌∷◌, IsTrue, MatchOption, nat_le};
 ghost use Rattle.std.specs.List.{list_all};
 ghost use Rattle.std.specs.Str.{chars};
-ghost use Rattle.ini_pattern.specs.Places.{opening, is_no_path, stars, size, IsTried, IsLongestWithin, HasNoneWithin};
-ghost use Rattle.ini_pattern.specs.Reading.{is_fixed, HasNoRest, IsLongestRest, HasNoRestAnywhere, IsLongestAnywhere};
+ghost use Rattle.ini_pattern.specs.Places.{opening, is_no_path, stars, size, IsTried};
+ghost use Rattle.ini_pattern.specs.Places.{IsLongestWithin, HasNoneWithin};
+ghost use Rattle.ini_pattern.specs.Reading.{is_fixed, HasNoRest, IsLongestRest, HasNoRestAnywhere};
+ghost use Rattle.ini_pattern.specs.Reading.{IsLongestAnywhere};
 
 use crate::matching::{fixed_rest, is_any_name};
 use crate::piece::Piece;
@@ -52,8 +54,10 @@ fn is_within(rest: &str, floor: &str) -> bool
 /// What pieces that are no stars leave of a name, where it may be left.
 fn fixed_within<'a>(pieces: &[Piece], name: &'a str, floor: &str, to_end: bool) -> Option<&'a str>
     requires { IsTrue (list_all is_fixed pieces.now) }
-    ensures { MatchOption result (HasNoneWithin pieces.now to_end (chars floor.now) (chars name.now))
-        (λ rest. IsLongestWithin pieces.now to_end (chars floor.now) (chars name.now) (chars rest.now)) }
+    ensures { MatchOption result
+        (HasNoneWithin pieces.now to_end (chars floor.now) (chars name.now))
+        (λ rest. IsLongestWithin pieces.now to_end (chars floor.now) (chars name.now)
+        (chars rest.now)) }
 {
     let Some(rest) = fixed_rest(pieces, name, to_end) else {
         return None;
@@ -69,8 +73,10 @@ fn fixed_within<'a>(pieces: &[Piece], name: &'a str, floor: &str, to_end: bool) 
 #[cycle(places)]
 fn block_rest<'a>(pieces: &[Piece], name: &'a str, floor: &str, to_end: bool) -> Option<&'a str>
     requires { IsTrue (list_all is_no_path pieces.now) }
-    ensures { MatchOption result (HasNoneWithin pieces.now to_end (chars floor.now) (chars name.now))
-        (λ rest. IsLongestWithin pieces.now to_end (chars floor.now) (chars name.now) (chars rest.now)) }
+    ensures { MatchOption result
+        (HasNoneWithin pieces.now to_end (chars floor.now) (chars name.now))
+        (λ rest. IsLongestWithin pieces.now to_end (chars floor.now) (chars name.now)
+        (chars rest.now)) }
 {
     if count_stars(pieces) == 0 {
         fixed_within(pieces, name, floor, to_end)
@@ -103,7 +109,8 @@ fn try_block<'p, 'a>(
 ) -> Tried<'p, 'a>
     requires some { 0 < number }
     requires plain { IsTrue (list_all is_no_path left.now) }
-    ensures { IsTried number left.now to_end (chars here.now) (chars next.now) (chars floor.now) result }
+    ensures { IsTried number left.now to_end (chars here.now) (chars next.now)
+        (chars floor.now) result }
 {
     let Some((front, back)) = around_star(left, number) else {
         return match block_rest(left, here, floor, to_end) {
@@ -133,7 +140,8 @@ fn placed_rest<'a>(
     requires { IsTrue (list_all is_no_path pieces.now) }
     ensures { MatchOption result
         (HasNoneWithin (opening anywhere ++ pieces.now) to_end (chars floor.now) (chars name.now))
-        (λ rest. IsLongestWithin (opening anywhere ++ pieces.now) to_end (chars floor.now) (chars name.now) (chars rest.now)) }
+        (λ rest. IsLongestWithin (opening anywhere ++ pieces.now) to_end (chars floor.now)
+        (chars name.now) (chars rest.now)) }
 {
     let number = count_stars(pieces) / 64 + 1;
     let mut lefts = [pieces; 65];

@@ -1,5 +1,6 @@
 -- What the entries of a configuration say.
-use Rattle.std.specs.Prelude.{ℕ, ◌==◌, Bool, false, not, ◌&&◌, List, Option, Some, None, is_some, if◌then◌else◌}
+use Rattle.std.specs.Prelude.{ℕ, ◌==◌, Bool, false, not, ◌&&◌, List, Option, Some, None, is_some}
+use Rattle.std.specs.Prelude.{if◌then◌else◌}
 use Rattle.std.specs.List.{after_last, find, list_any}
 use Rattle.std.specs.Option.{option_and_then}
 use Rattle.std.specs.Str.{bytes_eq, chars, is_utf8}
@@ -23,7 +24,8 @@ names_network e = is_some (network_said e.meaning)
 
 -- the network that the first entry of the option `network` names
 abbrev pub network_entry : List IniEntry → Option Bytes
-network_entry entries = option_and_then (λ (e : IniEntry). network_said e.meaning) (find names_network entries)
+network_entry entries =
+    option_and_then (λ (e : IniEntry). network_said e.meaning) (find names_network entries)
 
 abbrev pub limit_said : EntryMeaning → Option ℕ
 limit_said (meaning.TimeLimit ps) = Some ps
@@ -34,7 +36,8 @@ names_limit e = is_some (limit_said e.meaning)
 
 -- the time of the first entry of the option `sim-time-limit`, in picoseconds
 abbrev pub time_limit_entry : List IniEntry → Option ℕ
-time_limit_entry entries = option_and_then (λ (e : IniEntry). limit_said e.meaning) (find names_limit entries)
+time_limit_entry entries =
+    option_and_then (λ (e : IniEntry). limit_said e.meaning) (find names_limit entries)
 
 -- ---- the first match
 
@@ -50,9 +53,12 @@ is_parameter_name name = not (bytes_eq name word_typename) && not (list_any (λ 
 -- for one with a `-` the per-object options of that very name, for any other the entries of
 -- parameters; and its whole key matches the path.
 abbrev pub speaks : Bytes → EntryMeaning → Bool
-speaks path (meaning.Parameter p) = is_parameter_name (last_name path) && is_matched p.pattern (chars path)
-speaks path (meaning.Type p) = bytes_eq (last_name path) word_typename && is_matched p.pattern (chars path)
-speaks path (meaning.Object o) = bytes_eq o.option (last_name path) && is_matched o.pattern (chars path)
+speaks path (meaning.Parameter p) =
+    is_parameter_name (last_name path) && is_matched p.pattern (chars path)
+speaks path (meaning.Type p) =
+    bytes_eq (last_name path) word_typename && is_matched p.pattern (chars path)
+speaks path (meaning.Object o) =
+    bytes_eq o.option (last_name path) && is_matched o.pattern (chars path)
 speaks path _ = false
 
 abbrev pub speaks_of : Bytes → IniEntry → Bool
@@ -72,7 +78,8 @@ value_said _ = None
 -- the value of the first match, where the path is a text
 abbrev pub value_for : Bytes → List IniEntry → Option EntryValue
 value_for path entries =
-    if is_utf8 path then option_and_then (λ (e : IniEntry). value_said e.meaning) (first_match path entries) else None
+    if is_utf8 path then option_and_then (λ (e : IniEntry). value_said e.meaning)
+    (first_match path entries) else None
 
 -- what an entry of a per-object option says
 abbrev pub object_said : EntryMeaning → Option ObjectOption
@@ -83,4 +90,5 @@ object_said _ = None
 -- text
 abbrev pub object_for : Bytes → List IniEntry → Option ObjectOption
 object_for path entries =
-    if is_utf8 path then option_and_then (λ (e : IniEntry). object_said e.meaning) (first_match path entries) else None
+    if is_utf8 path then option_and_then (λ (e : IniEntry). object_said e.meaning)
+    (first_match path entries) else None

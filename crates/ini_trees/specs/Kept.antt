@@ -18,4 +18,5 @@ KeepsOrder lines name =
     (line : List Bytes)
     → IsLine lines name line
     → IsKept (bases_named name lines) line
-    × ((base : Bytes) (other : List Bytes) → Contains (bases_named name lines) base → IsLine lines base other → IsKept other line)
+    × ((base : Bytes) (other : List Bytes) → Contains (bases_named name lines) base
+    → IsLine lines base other → IsKept other line)

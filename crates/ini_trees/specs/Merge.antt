@@ -21,7 +21,8 @@ stands_behind same x ls = list_any (λ l. stands_in same x (tail l)) ls
 abbrev pub first_free : {X : Type 0} → (X → X → Bool) → List (List X) → List (List X) → Option X
 first_free same all [] = None
 first_free same all ([] ∷ ls) = first_free same all ls
-first_free same all ((x ∷ xs) ∷ ls) = if stands_behind same x all then first_free same all ls else Some x
+first_free same all ((x ∷ xs) ∷ ls) =
+    if stands_behind same x all then first_free same all ls else Some x
 
 -- the list without that head
 abbrev pub without_head : {X : Type 0} → (X → X → Bool) → X → List X → List X
@@ -36,4 +37,5 @@ without same x ls = map (λ l. without_head same x l) ls
 -- the lists. Where there is no such head and something is left, there is no merge.
 abbrev pub IsMerge : {X : Type 0} → (X → X → Bool) → List (List X) → List X → Type 0
 IsMerge same ls [] = All (λ l. l ≡ []) ls
-IsMerge same ls (x ∷ more) = (first_free same ls ls ≡ Some x) × IsMerge same (without same x ls) more
+IsMerge same ls (x ∷ more) =
+    (first_free same ls ls ≡ Some x) × IsMerge same (without same x ls) more

@@ -1,5 +1,7 @@
 -- Sections by numbers, and what each extends.
-use Rattle.std.specs.Prelude.{◌≡◌, ◌⊎◌, ℕ, zero, suc, ◌+◌, ◌-◌, ◌<◌, ◌≤◌, Bool, true, false, not, List, [], ◌∷◌, ◌++◌, length, map, slice_index_or, take, Option, Some, None, Result, Ok, Err, if◌then◌else◌}
+use Rattle.std.specs.Prelude.{◌≡◌, ◌⊎◌, ℕ, zero, suc, ◌+◌, ◌-◌, ◌<◌, ◌≤◌, Bool, true, false, not}
+use Rattle.std.specs.Prelude.{List, [], ◌∷◌, ◌++◌, length, map, slice_index_or, take, Option, Some}
+use Rattle.std.specs.Prelude.{None, Result, Ok, Err, if◌then◌else◌}
 use Rattle.std.specs.List.{Contains, filter, list_any}
 use Rattle.std.specs.Str.{bytes_eq}
 use Rattle.ini_trees.specs.declared.order.Walk.{Walk}
@@ -52,7 +54,8 @@ AreNumbers names bases None = (base : Bytes) × Contains bases base × (holds na
 abbrev pub FitRows : List IniLine → List Bytes → List (Option (List ℕ)) → Type 0
 FitRows lines names rows =
     (length rows ≡ length names)
-    × ((k : ℕ) → k < length names → AreNumbers names (bases_named (name_at names k) lines) (slice_index_or rows k None))
+    × ((k : ℕ) → k < length names
+    → AreNumbers names (bases_named (name_at names k) lines) (slice_index_or rows k None))
 
 -- ---- what sections extend, by their numbers
 
@@ -68,12 +71,14 @@ bases_at rows k = row_list (slice_index_or rows k None)
 abbrev pub IsWithin : ℕ → List (Option (List ℕ)) → ℕ → Type 0
 IsWithin zero rows k = ⊥
 IsWithin (suc depth) rows k =
-    (row : List ℕ) × (slice_index_or rows k None ≡ Some row) × ((base : ℕ) → Contains (bases_at rows k) base → IsWithin depth rows base)
+    (row : List ℕ) × (slice_index_or rows k None ≡ Some row)
+    × ((base : ℕ) → Contains (bases_at rows k) base → IsWithin depth rows base)
 
 -- the section is the root, or is extended by it in so many steps
 abbrev pub ReachedIn : ℕ → List (Option (List ℕ)) → ℕ → ℕ → Type 0
 ReachedIn zero rows root k = k ≡ root
-ReachedIn (suc steps) rows root k = (above : ℕ) × ReachedIn steps rows root above × Contains (bases_at rows above) k
+ReachedIn (suc steps) rows root k =
+    (above : ℕ) × ReachedIn steps rows root above × Contains (bases_at rows above) k
 
 abbrev pub IsReached : List (Option (List ℕ)) → ℕ → ℕ → Type 0
 IsReached rows root k = (k < length rows) × (steps : ℕ) × ReachedIn steps rows root k
@@ -81,12 +86,14 @@ IsReached rows root k = (k < length rows) × (steps : ℕ) × ReachedIn steps ro
 -- each section stands after those that it extends
 abbrev pub IsOrdered : List (Option (List ℕ)) → List ℕ → Type 0
 IsOrdered rows order =
-    (i : ℕ) → i < length order → (base : ℕ) → Contains (bases_at rows (slice_index_or order i 0)) base → Contains (take i order) base
+    (i : ℕ) → i < length order → (base : ℕ)
+    → Contains (bases_at rows (slice_index_or order i 0)) base → Contains (take i order) base
 
 -- for each section a place of an order after which no section stands that extends it
 abbrev pub AreLast : List (Option (List ℕ)) → List ℕ → List ℕ → Type 0
 AreLast rows order last =
-    (j : ℕ) → j < length order → (b : ℕ) → Contains (bases_at rows (slice_index_or order j 0)) b → j ≤ slice_index_or last b 0
+    (j : ℕ) → j < length order → (b : ℕ) → Contains (bases_at rows (slice_index_or order j 0)) b
+    → j ≤ slice_index_or last b 0
 
 -- ---- a walk
 
@@ -103,11 +110,13 @@ left_to_pass (p ∷ ps) [] = 0
 left_to_pass (p ∷ ps) (row ∷ rows) = (length (row_list row) + 1 - p) + left_to_pass ps rows
 
 -- where a walk is
-pub record IsWalk (rows : List (Option (List ℕ))) (root : ℕ) (path passed : List ℕ) (done : List Bool) (order : List ℕ) : Type 0 where
+pub record IsWalk (rows : List (Option (List ℕ))) (root : ℕ) (path passed : List ℕ)
+    (done : List Bool) (order : List ℕ) : Type 0 where
   pub passed_size : length passed ≡ length rows
   pub done_size : length done ≡ length rows
   pub open_held : (k : ℕ) → 0 < passed_at passed k → is_done_at done k ≡ false → Contains path k
-  pub extends : (i : ℕ) → i + 1 < length path → Contains (bases_at rows (slice_index_or path i 0)) (slice_index_or path (i + 1) 0)
+  pub extends : (i : ℕ) → i + 1 < length path
+      → Contains (bases_at rows (slice_index_or path i 0)) (slice_index_or path (i + 1) 0)
   pub path_reached : (k : ℕ) → Contains path k → IsReached rows root k
   pub order_reached : (k : ℕ) → Contains order k → IsReached rows root k
   pub ordered : IsOrdered rows order
@@ -121,12 +130,16 @@ IsWaiting row done None = (base : ℕ) → Contains row base → is_done_at done
 
 -- what a walk does next where it is
 abbrev pub IsNext : List (Option (List ℕ)) → List ℕ → List Bool → ℕ → Next → Type 0
-IsNext rows passed done top (next.Begin base) = Contains (bases_at rows top) base × (passed_at passed base ≡ 0)
-IsNext rows passed done top (next.Pass place) = (place ≡ passed_at passed top + 1) × (passed_at passed top < length (bases_at rows top))
-IsNext rows passed done top next.Finish = (base : ℕ) → Contains (bases_at rows top) base → is_done_at done base ≡ true
+IsNext rows passed done top (next.Begin base) =
+    Contains (bases_at rows top) base × (passed_at passed base ≡ 0)
+IsNext rows passed done top (next.Pass place) =
+    (place ≡ passed_at passed top + 1) × (passed_at passed top < length (bases_at rows top))
+IsNext rows passed done top next.Finish = (base : ℕ) → Contains (bases_at rows top) base
+    → is_done_at done base ≡ true
 IsNext rows passed done top next.Fault =
     (slice_index_or rows top None ≡ None)
-    ⊎ ((base : ℕ) × Contains (bases_at rows top) base × (is_done_at done base ≡ false) × (0 < passed_at passed base))
+    ⊎ ((base : ℕ) × Contains (bases_at rows top) base × (is_done_at done base ≡ false)
+    × (0 < passed_at passed base))
 
 -- the numbers of what each section extends are below how many there are
 abbrev pub AreRows : List (Option (List ℕ)) → Type 0
@@ -137,16 +150,20 @@ abbrev pub steps_left : List (Option (List ℕ)) → Walk → ℕ
 steps_left rows w = left_to_pass w.passed rows + left_to_pass w.passed rows + length w.path
 
 -- the walk goes on, or the root goes to no depth
-abbrev pub SettlesStep : {E : Type 0} → List (Option (List ℕ)) → ℕ → Walk → Walk → Result Bool E → Type 0
+abbrev pub SettlesStep : {E : Type 0} → List (Option (List ℕ)) → ℕ → Walk → Walk
+    → Result Bool E → Type 0
 SettlesStep rows root old new (Ok true) =
-    IsWalk rows root new.path new.passed new.done new.order × (steps_left rows new < steps_left rows old)
+    IsWalk rows root new.path new.passed new.done new.order
+    × (steps_left rows new < steps_left rows old)
 SettlesStep rows root old new (Ok false) = (depth : ℕ) → IsWithin depth rows root → ⊥
 SettlesStep rows root old new (Err e) = Unit {0}
 
 -- an order of all that the root extends, and so on, or that it goes to no depth
-abbrev pub SettlesOrder : {E : Type 0} → List (Option (List ℕ)) → ℕ → Result (Option (List ℕ)) E → Type 0
+abbrev pub SettlesOrder : {E : Type 0} → List (Option (List ℕ)) → ℕ
+    → Result (Option (List ℕ)) E → Type 0
 SettlesOrder rows root (Ok (Some order)) =
-    IsOrdered rows order × Contains order root × ((k : ℕ) → Contains order k → IsReached rows root k)
+    IsOrdered rows order × Contains order root
+    × ((k : ℕ) → Contains order k → IsReached rows root k)
 SettlesOrder rows root (Ok None) = (depth : ℕ) → IsWithin depth rows root → ⊥
 SettlesOrder rows root (Err e) = Unit {0}
 
@@ -161,5 +178,7 @@ IsAtBase passed base place next.Fault = ⊥
 abbrev pub IsBehindBases : List ℕ → List ℕ → List Bool → Next → Type 0
 IsBehindBases row passed done (next.Begin base) = Contains row base × (passed_at passed base ≡ 0)
 IsBehindBases row passed done (next.Pass place) = ⊥
-IsBehindBases row passed done next.Finish = (base : ℕ) → Contains row base → is_done_at done base ≡ true
-IsBehindBases row passed done next.Fault = (base : ℕ) × Contains row base × (is_done_at done base ≡ false) × (0 < passed_at passed base)
+IsBehindBases row passed done next.Finish = (base : ℕ) → Contains row base
+    → is_done_at done base ≡ true
+IsBehindBases row passed done next.Fault =
+    (base : ℕ) × Contains row base × (is_done_at done base ≡ false) × (0 < passed_at passed base)

@@ -8,7 +8,8 @@ use Rattle.ini_trees.specs.Words.{Bytes}
 
 -- in different places of a chain stand different names
 abbrev pub NamesOnce : List IniLine → Bytes → Type 0
-NamesOnce lines config = (chain : List Bytes) → IsChain lines config chain → AreApart (name_at chain) (length chain)
+NamesOnce lines config = (chain : List Bytes) → IsChain lines config chain
+    → AreApart (name_at chain) (length chain)
 
 -- each configuration of a chain but General stands before those that it extends
 abbrev pub StandsBefore : List IniLine → Bytes → Type 0

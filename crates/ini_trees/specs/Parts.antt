@@ -1,5 +1,6 @@
 -- Lists that stand in another one, in its order.
-use Rattle.std.specs.Prelude.{◌≡◌, ℕ, ◌<◌, ◌==◌, ◌&&◌, Bool, true, false, List, [], ◌∷◌, length, slice_index}
+use Rattle.std.specs.Prelude.{◌≡◌, ℕ, ◌<◌, ◌==◌, ◌&&◌, Bool, true, false, List, [], ◌∷◌, length}
+use Rattle.std.specs.Prelude.{slice_index}
 use Rattle.ini_trees.specs.Counts.{same_number}
 use Rattle.ini_trees.specs.Merge.{stands_in, without_head}
 use Rattle.ini_trees.specs.Numbered.{line_at}
@@ -30,4 +31,5 @@ is_alone number (x ∷ xs) = (x == number) && is_nil xs
 
 -- what does not stand in the list is not counted
 abbrev pub CountsOnly : List ℕ → List ℕ → Type 0
-CountsOnly waiting row = (k : ℕ) → k < length waiting → stands_in same_number k row ≡ false → slice_index waiting k ≡ 0
+CountsOnly waiting row = (k : ℕ) → k < length waiting → stands_in same_number k row ≡ false
+    → slice_index waiting k ≡ 0

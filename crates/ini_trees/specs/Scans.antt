@@ -1,5 +1,6 @@
 -- Which entries are looked for.
-use Rattle.std.specs.Prelude.{◌≡◌, ◌≢◌, ℕ, ◌<◌, Bool, true, [], Option, Some, None, is_some, length, slice_index_or, List, if◌then◌else◌}
+use Rattle.std.specs.Prelude.{◌≡◌, ◌≢◌, ℕ, ◌<◌, Bool, true, [], Option, Some, None, is_some, length}
+use Rattle.std.specs.Prelude.{slice_index_or, List, if◌then◌else◌}
 use Rattle.std.specs.Borrow.{Bor}
 use Rattle.std.specs.List.{find, flat_map}
 use Rattle.std.specs.Option.{option_and_then}
@@ -34,18 +35,23 @@ first_wanted wanted entries = find (λ (e : IniEntry). is_wanted wanted e.meanin
 -- the place of the first of these names that is that one, or that none is
 abbrev pub IsPlace : List Bytes → Bytes → Option ℕ → Type 0
 IsPlace names name (Some at) =
-    (at < length names) × (slice_index_or names at [] ≡ name) × ((k : ℕ) → k < at → slice_index_or names k [] ≢ name)
+    (at < length names) × (slice_index_or names at [] ≡ name)
+    × ((k : ℕ) → k < at → slice_index_or names k [] ≢ name)
 IsPlace names name None = (k : ℕ) → k < length names → slice_index_or names k [] ≢ name
 
 -- the entry of the line in that section is looked for, and the section is the first of these that
 -- has its name; or it is not looked for, or stands in none of these
-abbrev pub IsWantedAmong : Wanted → List Bytes → Option Bytes → LineMeaning → Option (ℕ × Bor IniEntry) → Type 0
+abbrev pub IsWantedAmong : Wanted → List Bytes → Option Bytes → LineMeaning
+    → Option (ℕ × Bor IniEntry) → Type 0
 IsWantedAmong wanted names section m (Some (at, entry)) =
-    (name : Bytes) × IsPlace names name (Some at) × (section ≡ Some name) × (m ≡ line.Entry entry.now) × (is_wanted wanted entry.now.meaning ≡ true)
+    (name : Bytes) × IsPlace names name (Some at) × (section ≡ Some name)
+    × (m ≡ line.Entry entry.now) × (is_wanted wanted entry.now.meaning ≡ true)
 IsWantedAmong wanted names section m None =
-    (k : ℕ) → k < length names → option_and_then (wanted_of wanted) (entry_here (is_in (slice_index_or names k []) section) m) ≡ None
+    (k : ℕ) → k < length names → option_and_then (wanted_of wanted)
+    (entry_here (is_in (slice_index_or names k []) section) m) ≡ None
 
 -- the first that is looked for in these sections, of lines of which the first stands in this
 -- section
 abbrev pub first_among : Wanted → List Bytes → Option Bytes → List IniLine → Option IniEntry
-first_among wanted names section lines = first_wanted wanted (flat_map (λ name. entries_from name section lines) names)
+first_among wanted names section lines =
+    first_wanted wanted (flat_map (λ name. entries_from name section lines) names)

@@ -1,6 +1,7 @@
 -- Sections, and which of them make a configuration.
 -- OMNeT++ Simulation Manual, "Sections", "Section Inheritance".
-use Rattle.std.specs.Prelude.{◌≡◌, ◌≢◌, ◌⊎◌, ℕ, zero, suc, Bool, true, false, not, ◌||◌, List, [], ◌∷◌, ◌++◌, Option, Some, None, is_some, codes, Result, Ok, Err}
+use Rattle.std.specs.Prelude.{◌≡◌, ◌≢◌, ◌⊎◌, ℕ, zero, suc, Bool, true, false, not, ◌||◌, List, []}
+use Rattle.std.specs.Prelude.{◌∷◌, ◌++◌, Option, Some, None, is_some, codes, Result, Ok, Err}
 use Rattle.std.specs.List.{AllZip, cons_option, filter, find, flat_map, list_any}
 use Rattle.std.specs.Option.{option_and_then}
 use Rattle.std.specs.Str.{bytes_eq}
@@ -41,7 +42,8 @@ entry_here false _ = None
 abbrev pub entries_from : Bytes → Option Bytes → List IniLine → List IniEntry
 entries_from name section [] = []
 entries_from name section (l ∷ ls) =
-    cons_option (entry_here (is_in name section) l.meaning) (entries_from name (section_behind section l.meaning) ls)
+    cons_option (entry_here (is_in name section) l.meaning)
+    (entries_from name (section_behind section l.meaning) ls)
 
 -- the entries of the section of that name, in the order of lines: all sections of one name are one
 abbrev pub entries_under : Bytes → List IniLine → List IniEntry
@@ -53,7 +55,8 @@ is_section_line name _ = false
 
 -- there is a section of that name; General is always there
 abbrev pub is_section : Bytes → List IniLine → Bool
-is_section name lines = bytes_eq name general || list_any (λ (l : IniLine). is_section_line name l.meaning) lines
+is_section name lines =
+    bytes_eq name general || list_any (λ (l : IniLine). is_section_line name l.meaning) lines
 
 -- ---- what a configuration extends
 
@@ -76,7 +79,8 @@ names_bases e = is_some (bases_said e.meaning)
 
 -- the bases that the first entry of the option `extends` names, none where there is no such entry
 abbrev pub first_bases : List IniEntry → List Bytes
-first_bases entries = or_bases (option_and_then (λ (e : IniEntry). bases_said e.meaning) (find names_bases entries)) []
+first_bases entries = or_bases
+    (option_and_then (λ (e : IniEntry). bases_said e.meaning) (find names_bases entries)) []
 
 -- the bases of a section
 abbrev pub bases_of : Bytes → List IniLine → List Bytes
@@ -96,7 +100,8 @@ IsLineWithin (suc depth) lines name [] = ⊥
 IsLineWithin (suc depth) lines name (first ∷ behind) =
     (first ≡ name)
     × (ls : List (List Bytes))
-    × AllZip (λ base line. (is_section base lines ≡ true) × IsLineWithin depth lines base line) (bases_named name lines) ls
+    × AllZip (λ base line. (is_section base lines ≡ true) × IsLineWithin depth lines base line)
+    (bases_named name lines) ls
     × IsMerge bytes_eq (ls ++ bases_named name lines ∷ []) behind
 
 -- THE LINE of a configuration: itself, and then the merge of the lines of its bases and the list of
@@ -108,11 +113,13 @@ IsLine lines name line = (depth : ℕ) × IsLineWithin depth lines name line
 abbrev pub IsChain : List IniLine → Bytes → List Bytes → Type 0
 IsChain lines config chain =
     ((config ≡ general) × (chain ≡ general ∷ []))
-    ⊎ ((config ≢ general) × (line : List Bytes) × (chain ≡ line ++ general ∷ []) × IsLine lines config line)
+    ⊎ ((config ≢ general) × (line : List Bytes) × (chain ≡ line ++ general ∷ [])
+    × IsLine lines config line)
 
 -- a configuration has at most one chain
 abbrev pub HasOneChain : List IniLine → Bytes → Type 0
-HasOneChain lines config = (first second : List Bytes) → IsChain lines config first → IsChain lines config second → first ≡ second
+HasOneChain lines config = (first second : List Bytes) → IsChain lines config first
+    → IsChain lines config second → first ≡ second
 
 -- the entries of a configuration: section by section along its chain, each in the order of lines
 abbrev pub entries_along : List Bytes → List IniLine → List IniEntry

@@ -114,7 +114,8 @@ fn row_of(
     names: &SectionNames<'_>,
     said: Option<&[Text]>,
 ) -> Result<Option<Items<usize>>, AllocError>
-    ensures { IfOk result (λ row. AreNumbers names.now (others (or_bases (option_copied said.entry) [])) row) }
+    ensures { IfOk result
+        (λ row. AreNumbers names.now (others (or_bases (option_copied said.entry) [])) row) }
 {
     match said {
         Some(bases) => numbers_of(alloc, names, bases),

@@ -2,16 +2,20 @@
 //!
 //! OMNeT++ Simulation Manual, "Section Inheritance".
 
-ghost use Rattle.std.specs.Prelude.{◌≡◌, ◌≢◌, ◌⊎◌, ℕ, ◌<◌, [], ◌∷◌, ◌++◌, true, false, List, None, Err, map, length, slice_index_or, IfOk, IfErr, OnOk};
+ghost use Rattle.std.specs.Prelude.{◌≡◌, ◌≢◌, ◌⊎◌, ℕ, ◌<◌, [], ◌∷◌, ◌++◌, true, false, List, None};
+ghost use Rattle.std.specs.Prelude.{Err, map, length, slice_index_or, IfOk, IfErr, OnOk};
 ghost use Rattle.std.specs.List.{Contains, list_any};
 ghost use Rattle.std.specs.Str.{bytes_eq};
 ghost use Rattle.ini_trees.specs.declared.error.ChainError.TheVariants as errors;
 ghost use Rattle.ini_trees.specs.declared.lines.IniLine.{IniLine as LineSaid};
 ghost use Rattle.ini_trees.specs.Counts.{AreBelow, AreAllBelow, HoldsZeros, ZerosBehind};
-ghost use Rattle.ini_trees.specs.Numbers.{name_at, names_behind, bases_at, AreLast, AreRows, FitRows, IsOrdered, IsReached};
-ghost use Rattle.ini_trees.specs.Numbered.{line_at, SettlesLine, SettlesRow, SettlesNumbered, SettlesChain};
+ghost use Rattle.ini_trees.specs.Numbers.{name_at, names_behind, bases_at, AreLast, AreRows};
+ghost use Rattle.ini_trees.specs.Numbers.{FitRows, IsOrdered, IsReached};
+ghost use Rattle.ini_trees.specs.Numbered.{line_at, SettlesLine, SettlesRow, SettlesNumbered};
+ghost use Rattle.ini_trees.specs.Numbered.{SettlesChain};
 ghost use Rattle.ini_trees.specs.Parts.{IsFirstOnce};
-ghost use Rattle.ini_trees.specs.Sections.{general, is_section_line, is_section, IsChain, RefusesChain, AnswersChain};
+ghost use Rattle.ini_trees.specs.Sections.{general, is_section_line, is_section, IsChain};
+ghost use Rattle.ini_trees.specs.Sections.{RefusesChain, AnswersChain};
 ghost use Rattle.ini_trees.specs.Words.{Bytes};
 
 use crate::bases::{base_rows, is_general};
@@ -102,7 +106,8 @@ fn line_of(
     number: usize,
     waiting: &mut [u128],
 ) -> Result<Option<Items<usize>>, AllocError>
-    requires below { AreAllBelow (length waiting.old) (map (line_at lines.now) row.now ++ row.now ∷ []) }
+    requires below { AreAllBelow (length waiting.old)
+        (map (line_at lines.now) row.now ++ row.now ∷ []) }
     requires zeros { HoldsZeros waiting.old }
     requires once { IsFirstOnce lines.now row.now }
     ensures line { SettlesLine number (map (line_at lines.now) row.now ++ row.now ∷ []) result }
@@ -126,7 +131,8 @@ fn line_in(
     number: usize,
     waiting: &mut [u128],
 ) -> Result<Option<Items<usize>>, AllocError>
-    requires below { AreAllBelow (length waiting.old) (map (line_at lines.now) (bases_at rows.now number) ++ bases_at rows.now number ∷ []) }
+    requires below { AreAllBelow (length waiting.old)
+        (map (line_at lines.now) (bases_at rows.now number) ++ bases_at rows.now number ∷ []) }
     requires zeros { HoldsZeros waiting.old }
     requires once { IsFirstOnce lines.now (bases_at rows.now number) }
     ensures line { SettlesRow (slice_index_or rows.now number None) number lines.now result }
@@ -171,7 +177,8 @@ fn row_at(rows: &[Option<Items<usize>>], number: usize) -> &[usize]
 fn use_bases(last: &mut [usize], row: &[usize], place: usize)
     requires { AreBelow (length last.old) row.now }
     ensures used { (k : ℕ) → Contains row.now k → slice_index_or last.new k 0 ≡ place }
-    ensures others { (k : ℕ) → (slice_index_or last.new k 0 ≡ place) ⊎ (slice_index_or last.new k 0 ≡ slice_index_or last.old k 0) }
+    ensures others { (k : ℕ) → (slice_index_or last.new k 0 ≡ place)
+        ⊎ (slice_index_or last.new k 0 ≡ slice_index_or last.old k 0) }
 {
     for base in row {
         last[*base] = place;
@@ -215,7 +222,8 @@ fn give_up(
 )
     requires { AreBelow (length lines.old) row.now }
     ensures size { length lines.new ≡ length lines.old }
-    ensures kept { (k : ℕ) → (k ≡ root) ⊎ (slice_index_or last.now k 0 ≢ place) → line_at lines.new k ≡ line_at lines.old k }
+    ensures kept { (k : ℕ) → (k ≡ root) ⊎ (slice_index_or last.now k 0 ≢ place)
+        → line_at lines.new k ≡ line_at lines.old k }
 {
     for base in row {
         if *base != root && used_last(last, *base) == place {
@@ -384,10 +392,13 @@ impl IniText {
     /// [`ChainError::NoSuchConfig`] where there is no such section, [`ChainError::ChainFault`]
     /// where it has no chain, and [`ChainError::NoMemory`] where memory ran out.
     pub fn chain(&self, alloc: Global, config: &[u8]) -> Result<Items<Text>, ChainError>
-        ensures accepted { IfOk result (λ chain. IsChain self.now config.now chain × (is_section config.now self.now ≡ true)) }
-        ensures complete { (chain : List Bytes) → IsChain self.now config.now chain → is_section config.now self.now ≡ true → AnswersChain chain result }
+        ensures accepted { IfOk result
+            (λ chain. IsChain self.now config.now chain × (is_section config.now self.now ≡ true)) }
+        ensures complete { (chain : List Bytes) → IsChain self.now config.now chain
+            → is_section config.now self.now ≡ true → AnswersChain chain result }
         ensures refused { IfErr result (λ e. RefusesChain self.now config.now e) }
-        ensures missing { is_section config.now self.now ≡ false → result ≡ Err errors.NoSuchConfig }
+        ensures missing { is_section config.now self.now ≡ false
+            → result ≡ Err errors.NoSuchConfig }
     {
         if !is_section(self.lines(), config) {
             return Err(ChainError::NoSuchConfig);

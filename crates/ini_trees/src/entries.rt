@@ -3,7 +3,9 @@
 ghost use Rattle.std.specs.Prelude.{◌≡◌};
 ghost use Rattle.std.specs.Option.{option_copied, option_and_then};
 ghost use Rattle.ini_trees.specs.declared.lines.IniEntry.{IniEntry as EntrySaid};
-ghost use Rattle.ini_trees.specs.Entries.{network_entry, network_said, time_limit_entry, limit_said, first_match, value_said, value_for, object_said, object_for};
+ghost use Rattle.ini_trees.specs.Entries.{network_entry, network_said, time_limit_entry};
+ghost use Rattle.ini_trees.specs.Entries.{limit_said, first_match, value_said, value_for};
+ghost use Rattle.ini_trees.specs.Entries.{object_said, object_for};
 ghost use Rattle.ini_trees.specs.Sections.{entries_along};
 
 use crate::entry::{EntryMeaning, EntryValue, ObjectOption};
@@ -74,7 +76,8 @@ fn value_said(meaning: &EntryMeaning) -> Option<&EntryValue>
 
 /// The value of the first match for a path along a chain.
 fn matched_value<'a>(lines: &'a [IniLine], chain: &[Text], path: &str) -> Option<&'a EntryValue>
-    ensures { option_copied result ≡ option_and_then (λ (e : EntrySaid). value_said e.meaning) (first_match path.now (entries_along chain.now lines.now)) }
+    ensures { option_copied result ≡ option_and_then (λ (e : EntrySaid). value_said e.meaning)
+        (first_match path.now (entries_along chain.now lines.now)) }
 {
     match first_match(lines, chain, path) {
         Some(entry) => value_said(&entry.meaning),
@@ -104,7 +107,8 @@ fn object_said(meaning: &EntryMeaning) -> Option<&ObjectOption>
 
 /// What the first match for a path along a chain says of a per-object option.
 fn matched_option<'a>(lines: &'a [IniLine], chain: &[Text], path: &str) -> Option<&'a ObjectOption>
-    ensures { option_copied result ≡ option_and_then (λ (e : EntrySaid). object_said e.meaning) (first_match path.now (entries_along chain.now lines.now)) }
+    ensures { option_copied result ≡ option_and_then (λ (e : EntrySaid). object_said e.meaning)
+        (first_match path.now (entries_along chain.now lines.now)) }
 {
     match first_match(lines, chain, path) {
         Some(entry) => object_said(&entry.meaning),

@@ -4,9 +4,11 @@
 //! How often each number stands in the tails is counted once, and then kept up to date. So a merge
 //! takes a step for each number of each list, and for each number of the merge one for each list.
 
-ghost use Rattle.std.specs.Prelude.{◌≡◌, ◌↔◌, ℕ, ◌+◌, ◌<◌, ◌≤◌, ◌^◌, [], IsTrue, length, slice_get, slice_index, IfOk};
+ghost use Rattle.std.specs.Prelude.{◌≡◌, ◌↔◌, ℕ, ◌+◌, ◌<◌, ◌≤◌, ◌^◌, [], IsTrue, length, slice_get};
+ghost use Rattle.std.specs.Prelude.{slice_index, IfOk};
 ghost use Rattle.std.specs.List.{All};
-ghost use Rattle.ini_trees.specs.Counts.{same_number, held, behind, AreBelow, AreAllBelow, Counts, HoldsZeros, ZerosBehind, SettlesMerge};
+ghost use Rattle.ini_trees.specs.Counts.{same_number, held, behind, AreBelow, AreAllBelow, Counts};
+ghost use Rattle.ini_trees.specs.Counts.{HoldsZeros, ZerosBehind, SettlesMerge};
 ghost use Rattle.ini_trees.specs.Merge.{tail, first_free, without_head, without};
 
 use sqlite_items::Items;
@@ -80,8 +82,10 @@ impl Rest {
 /// Counts the numbers of a list once more.
 fn count(waiting: &mut [u128], numbers: &[usize])
     requires below { AreBelow (length waiting.old) numbers.now }
-    requires room { (k : ℕ) → k < length waiting.old → slice_index waiting.old k + length numbers.now < 2 ^ 128 }
-    ensures { (k : ℕ) → k < length waiting.old → slice_index waiting.new k ≡ slice_index waiting.old k + held k numbers.now }
+    requires room { (k : ℕ) → k < length waiting.old
+        → slice_index waiting.old k + length numbers.now < 2 ^ 128 }
+    ensures { (k : ℕ) → k < length waiting.old
+        → slice_index waiting.new k ≡ slice_index waiting.old k + held k numbers.now }
 {
     for number in numbers {
         waiting[*number] += 1;
@@ -91,9 +95,12 @@ fn count(waiting: &mut [u128], numbers: &[usize])
 /// Counts the numbers after the head of a list once more.
 fn count_tail(waiting: &mut [u128], numbers: &[usize])
     requires below { AreBelow (length waiting.old) numbers.now }
-    requires room { (k : ℕ) → k < length waiting.old → slice_index waiting.old k + 2 ^ 64 ≤ 2 ^ 128 }
-    ensures counts { (k : ℕ) → k < length waiting.old → slice_index waiting.new k ≡ slice_index waiting.old k + held k (tail numbers.now) }
-    ensures few { (k : ℕ) → k < length waiting.old → slice_index waiting.new k < slice_index waiting.old k + 2 ^ 64 }
+    requires room { (k : ℕ) → k < length waiting.old
+        → slice_index waiting.old k + 2 ^ 64 ≤ 2 ^ 128 }
+    ensures counts { (k : ℕ) → k < length waiting.old
+        → slice_index waiting.new k ≡ slice_index waiting.old k + held k (tail numbers.now) }
+    ensures few { (k : ℕ) → k < length waiting.old
+        → slice_index waiting.new k < slice_index waiting.old k + 2 ^ 64 }
 {
     if let [_, behind @ ..] = numbers {
         count(waiting, behind);
@@ -130,9 +137,11 @@ fn first_free(rests: &[Rest], waiting: &[u128]) -> Option<usize>
 /// Takes a number from a list where it is the head. The new head stands in the list's tail no more.
 fn take_head(rest: &mut Rest, waiting: &mut [u128], number: usize)
     requires below { AreBelow (length waiting.old) rest.old }
-    requires counted { (k : ℕ) → k < length waiting.old → held k (tail rest.old) ≤ slice_index waiting.old k }
+    requires counted { (k : ℕ) → k < length waiting.old
+        → held k (tail rest.old) ≤ slice_index waiting.old k }
     ensures rest { rest.new ≡ without_head same_number number rest.old }
-    ensures counts { (k : ℕ) → k < length waiting.old → slice_index waiting.new k + held k (tail rest.old) ≡ slice_index waiting.old k + held k (tail rest.new) }
+    ensures counts { (k : ℕ) → k < length waiting.old → slice_index waiting.new k
+        + held k (tail rest.old) ≡ slice_index waiting.old k + held k (tail rest.new) }
 {
     if rest.head() == Some(number) {
         rest.advance();

@@ -1,9 +1,12 @@
 //! An order in which each section stands after those that it extends.
 
-ghost use Rattle.std.specs.Prelude.{◌≡◌, ◌<◌, ◌∷◌, ◌++◌, [], ℕ, List, None, true, false, replicate, IfOk, MatchOption, OnOk, length, slice_index_or, slice_set};
+ghost use Rattle.std.specs.Prelude.{◌≡◌, ◌<◌, ◌∷◌, ◌++◌, [], ℕ, List, None, true, false, replicate};
+ghost use Rattle.std.specs.Prelude.{IfOk, MatchOption, OnOk, length, slice_index_or, slice_set};
 ghost use Rattle.std.specs.List.{Contains};
 ghost use Rattle.std.specs.Option.{option_copied};
-ghost use Rattle.ini_trees.specs.Numbers.{bases_at, passed_at, is_done_at, AreRows, IsWalk, IsWaiting, IsAtBase, IsBehindBases, IsNext, SettlesStep, SettlesOrder};
+ghost use Rattle.ini_trees.specs.Numbers.{bases_at, passed_at, is_done_at, AreRows, IsWalk};
+ghost use Rattle.ini_trees.specs.Numbers.{IsWaiting, IsAtBase, IsBehindBases, IsNext, SettlesStep};
+ghost use Rattle.ini_trees.specs.Numbers.{SettlesOrder};
 
 use sqlite_items::Items;
 use std::alloc::{AllocError, Global};
@@ -115,7 +118,8 @@ fn next_at(rows: &[Option<Items<usize>>], passed: &[usize], done: &[bool], top: 
 
 /// The last of these.
 fn last_of(path: &[usize]) -> Option<usize>
-    ensures { MatchOption result (path.now ≡ []) (λ last. (front : List ℕ) × (path.now ≡ front ++ last ∷ [])) }
+    ensures { MatchOption result (path.now ≡ [])
+        (λ last. (front : List ℕ) × (path.now ≡ front ++ last ∷ [])) }
 {
     match path {
         [.., last] => Some(*last),
@@ -141,7 +145,13 @@ impl Walk {
     /// A walk that begins at the root.
     fn at_root(alloc: Global, count: usize, root: usize) -> Result<Walk, AllocError>
         requires { root < count }
-        ensures { IfOk result (λ walk. walk ≡ record { path = root ∷ []; passed = slice_set (replicate count 0) root 1; done = replicate count false; order = [] }) }
+        ensures { IfOk result (λ walk. walk ≡ record {
+          path = root ∷ [];
+          passed =
+              slice_set (replicate count 0) root 1;
+          done = replicate count false;
+          order = [];
+        }) }
     {
         let mut path = Items::new(alloc);
         path.push(root)?;
@@ -158,7 +168,10 @@ impl Walk {
     /// Goes to a section that was not begun.
     fn begin(&mut self, number: usize) -> Result<(), AllocError>
         requires { number < length self.old.passed }
-        ensures { OnOk result (self.new ≡ record self.old { path = self.old.path ++ number ∷ []; passed = slice_set self.old.passed number 1 }) }
+        ensures { OnOk result (self.new ≡ record self.old {
+          path = self.old.path ++ number ∷ [];
+          passed = slice_set self.old.passed number 1;
+        }) }
     {
         self.path.push(number)?;
         self.passed.set(number, 1);
@@ -176,8 +189,10 @@ impl Walk {
     /// Goes back from a section that is done.
     fn finish(&mut self, number: usize) -> Result<(), AllocError>
         requires within { number < length self.old.done }
-        ensures path { OnOk result ((front : List ℕ) (top : ℕ) → self.old.path ≡ front ++ top ∷ [] → self.new.path ≡ front) }
-        ensures rest { OnOk result ((self.new.passed ≡ self.old.passed) × (self.new.done ≡ slice_set self.old.done number true) × (self.new.order ≡ self.old.order ++ number ∷ [])) }
+        ensures path { OnOk result ((front : List ℕ) (top : ℕ) → self.old.path ≡ front ++ top ∷ []
+            → self.new.path ≡ front) }
+        ensures rest { OnOk result ((self.new.passed ≡ self.old.passed) × (self.new.done ≡ slice_set
+            self.old.done number true) × (self.new.order ≡ self.old.order ++ number ∷ [])) }
     {
         self.order.push(number)?;
         self.done.set(number, true);
@@ -192,7 +207,9 @@ impl Walk {
         requires within { top < length rows.now }
         requires passed { length self.old.passed ≡ length rows.now }
         requires done { length self.old.done ≡ length rows.now }
-        ensures { (root : ℕ) (front : List ℕ) → IsWalk rows.now root self.old.path self.old.passed self.old.done self.old.order → self.old.path ≡ front ++ top ∷ [] → SettlesStep rows.now root self.old self.new result }
+        ensures { (root : ℕ) (front : List ℕ) → IsWalk rows.now root self.old.path
+            self.old.passed self.old.done self.old.order → self.old.path ≡ front ++ top ∷ []
+            → SettlesStep rows.now root self.old self.new result }
     {
         match next_at(rows, self.passed.as_slice(), self.done.as_slice(), top) {
             Next::Begin(base) => {

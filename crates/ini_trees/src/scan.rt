@@ -3,7 +3,8 @@
 ghost use Rattle.std.specs.Prelude.{◌≡◌};
 ghost use Rattle.std.specs.Option.{option_and_then, option_copied};
 ghost use Rattle.ini_trees.specs.Scans.{is_wanted, wanted_of, first_wanted, IsPlace, IsWantedAmong};
-ghost use Rattle.ini_trees.specs.Sections.{is_in, entry_here, section_behind, entries_under, entries_along};
+ghost use Rattle.ini_trees.specs.Sections.{is_in, entry_here, section_behind, entries_under};
+ghost use Rattle.ini_trees.specs.Sections.{entries_along};
 
 use crate::entry::EntryMeaning;
 use crate::lines::{IniEntry, IniLine, LineMeaning};
@@ -34,7 +35,8 @@ fn is_in(name: &[u8], section: Option<&[u8]>) -> bool
 
 /// The entry of a line that stands in `section`, where this is the section of that name.
 pub fn entry_in<'a>(name: &[u8], section: Option<&[u8]>, line: &'a IniLine) -> Option<&'a IniEntry>
-    ensures { option_copied result ≡ entry_here (is_in name.now (option_copied section.entry)) line.now.meaning }
+    ensures { option_copied result
+        ≡ entry_here (is_in name.now (option_copied section.entry)) line.now.meaning }
 {
     if !is_in(name, section) {
         return None;
@@ -84,7 +86,8 @@ fn wanted_in<'a>(
     line: &'a IniLine,
     wanted: Wanted<'_>,
 ) -> Option<&'a IniEntry>
-    ensures { option_copied result ≡ option_and_then (wanted_of wanted.entry) (entry_here (is_in name.now (option_copied section.entry)) line.now.meaning) }
+    ensures { option_copied result ≡ option_and_then (wanted_of wanted.entry)
+        (entry_here (is_in name.now (option_copied section.entry)) line.now.meaning) }
 {
     match entry_in(name, section, line) {
         Some(entry) if is_wanted(wanted, &entry.meaning) => Some(entry),
@@ -149,7 +152,8 @@ fn wanted_among<'a>(
     line: &'a IniLine,
     wanted: Wanted<'_>,
 ) -> Option<(usize, &'a IniEntry)>
-    ensures { IsWantedAmong wanted.entry names.now (option_copied section.entry) line.now.meaning result }
+    ensures { IsWantedAmong wanted.entry names.now (option_copied section.entry)
+        line.now.meaning result }
 {
     let LineMeaning::Entry(entry) = &line.meaning else {
         return None;

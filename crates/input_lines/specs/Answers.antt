@@ -31,7 +31,8 @@ pub record IsUntold (all : List ℕ) (before after : Waiting) : Type 0 where
   pub thrown : (after.thrown ≡ before.thrown) ⊎ IsLongFront after
 
 -- the first line of these bytes is told, and the rest of them waits
-pub record IsTold (all : List ℕ) (ends count : ℕ) (answer : NextLine) (ends' : ℕ) (after : Waiting) : Type 0 where
+pub record IsTold (all : List ℕ) (ends count : ℕ) (answer : NextLine) (ends' : ℕ)
+    (after : Waiting) : Type 0 where
   pub line : List ℕ
   pub is_line : IsLine all ends line after.bytes ends'
   pub told : Tells answer line
@@ -47,27 +48,32 @@ pub record IsEnd (all : List ℕ) (ends count ends' : ℕ) (after : Waiting) : T
   pub thrown : after.thrown ≡ 0
 
 -- as many lines are counted as are told
-pub record IsOver (all : List ℕ) (ends : ℕ) (before : Waiting) (ends' : ℕ) (after : Waiting) : Type 0 where
+pub record IsOver (all : List ℕ) (ends : ℕ) (before : Waiting) (ends' : ℕ)
+    (after : Waiting) : Type 0 where
   pub untold : IsUntold all before after
   pub spent : IsSpent after
   pub goes_on : ends' ≡ ends
 
 -- what an answer says of the bytes that waited and those that the source gave
 abbrev pub Answers : NextLine → List ℕ → ℕ → Waiting → ℕ → Waiting → Type 0
-Answers (answers.Line text) all ends before ends' after = IsTold all ends before.counted (answers.Line text) ends' after
-Answers answers.TooLong all ends before ends' after = IsTold all ends before.counted answers.TooLong ends' after
+Answers (answers.Line text) all ends before ends' after =
+    IsTold all ends before.counted (answers.Line text) ends' after
+Answers answers.TooLong all ends before ends' after =
+    IsTold all ends before.counted answers.TooLong ends' after
 Answers answers.End all ends before ends' after = IsEnd all ends before.counted ends' after
 Answers answers.Spent all ends before ends' after = IsOver all ends before ends' after
 
 -- THE ANSWER of a reader of lines, in words of the bytes that its source gave in the call.
-pub record IsNext (given : List ℕ) (ends : ℕ) (before : Waiting) (answer : NextLine) (given' : List ℕ) (ends' : ℕ) (after : Waiting) : Type 0 where
+pub record IsNext (given : List ℕ) (ends : ℕ) (before : Waiting) (answer : NextLine)
+    (given' : List ℕ) (ends' : ℕ) (after : Waiting) : Type 0 where
   pub more : List ℕ
   pub gives : Gives given before.bytes given' more
   pub answers : Answers answer (before.bytes ++ more) ends before ends' after
 
 -- WHERE THERE IS NO ANSWER, all that the source gave waits; the source may have said that it is at
 -- its end.
-pub record IsLeft (given : List ℕ) (ends : ℕ) (before : Waiting) (given' : List ℕ) (ends' : ℕ) (after : Waiting) : Type 0 where
+pub record IsLeft (given : List ℕ) (ends : ℕ) (before : Waiting) (given' : List ℕ) (ends' : ℕ)
+    (after : Waiting) : Type 0 where
   pub more : List ℕ
   pub gives : Gives given before.bytes given' more
   pub untold : IsUntold (before.bytes ++ more) before after

@@ -1,5 +1,6 @@
 -- Lines, and how they are told.
-use Rattle.std.specs.Prelude.{◌≡◌, ◌⊎◌, ℕ, ◌+◌, ◌/◌, ◌≤◌, ◌<◌, nat_lt, false, List, [], ◌∷◌, ◌++◌, length, if◌then◌else◌}
+use Rattle.std.specs.Prelude.{◌≡◌, ◌⊎◌, ℕ, ◌+◌, ◌/◌, ◌≤◌, ◌<◌, nat_lt, false, List, [], ◌∷◌, ◌++◌}
+use Rattle.std.specs.Prelude.{length, if◌then◌else◌}
 use Rattle.sim_values.specs.Counts.{next_count}
 use Rattle.input_lines.specs.Feeds.{has_feed}
 use Rattle.input_lines.specs.Limits.{longest}
@@ -11,7 +12,8 @@ use Rattle.input_lines.specs.declared.line.NextLine.TheVariants as answers
 -- no line feed stands among them.
 pub record IsLine (all : List ℕ) (ends : ℕ) (line rest : List ℕ) (ends' : ℕ) : Type 0 where
   pub one : has_feed line ≡ false
-  pub ended : ((all ≡ line ++ 10 ∷ rest) × (ends' ≡ ends)) ⊎ ((all ≡ line) × (0 < length line) × (rest ≡ []) × (ends' ≡ next_count ends))
+  pub ended : ((all ≡ line ++ 10 ∷ rest) × (ends' ≡ ends))
+      ⊎ ((all ≡ line) × (0 < length line) × (rest ≡ []) × (ends' ≡ next_count ends))
 
 -- the answer to a line: the line itself, or that it is too long
 abbrev pub Tells : NextLine → List ℕ → Type 0

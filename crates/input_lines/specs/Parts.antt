@@ -5,7 +5,8 @@ use Rattle.input_lines.specs.Limits.{chunk}
 
 -- The source gave so many bytes more, which stand after those that are held now. Where it gave none
 -- it was at its end.
-pub record IsPart (given : List ℕ) (ends : ℕ) (held : List ℕ) (given' : List ℕ) (ends' : ℕ) (held' : List ℕ) (n : ℕ) : Type 0 where
+pub record IsPart (given : List ℕ) (ends : ℕ) (held : List ℕ) (given' : List ℕ) (ends' : ℕ)
+    (held' : List ℕ) (n : ℕ) : Type 0 where
   pub bytes : List ℕ
   pub gave : given' ≡ given ++ bytes
   pub kept : held' ≡ held ++ bytes

@@ -1,5 +1,6 @@
 -- What waits in a reader of lines.
-use Rattle.std.specs.Prelude.{◌≡◌, ℕ, ◌+◌, ◌*◌, ◌/◌, ◌≤◌, ◌<◌, nat_lt, false, List, [], length, if◌then◌else◌}
+use Rattle.std.specs.Prelude.{◌≡◌, ℕ, ◌+◌, ◌*◌, ◌/◌, ◌≤◌, ◌<◌, nat_lt, false, List, [], length}
+use Rattle.std.specs.Prelude.{if◌then◌else◌}
 use Rattle.input_lines.specs.Feeds.{has_feed}
 use Rattle.input_lines.specs.Limits.{longest, most_lines, chunk}
 

@@ -1,6 +1,7 @@
 //! The bytes that wait in a reader of lines.
 
-ghost use Rattle.std.specs.Prelude.{◌≡◌, ◌↔◌, ℕ, ◌+◌, ◌<◌, ◌≤◌, IsTrue, false, length, take, drop, IfOk, IfErr, OnOk, OnErr, MatchOption};
+ghost use Rattle.std.specs.Prelude.{◌≡◌, ◌↔◌, ℕ, ◌+◌, ◌<◌, ◌≤◌, IsTrue, false, length, take, drop};
+ghost use Rattle.std.specs.Prelude.{IfOk, IfErr, OnOk, OnErr, MatchOption};
 ghost use Rattle.sim_values.specs.Memory.{no_memory};
 ghost use Rattle.input_lines.specs.Feeds.{has_feed, IsFirstFeed};
 ghost use Rattle.input_lines.specs.Limits.{longest};
@@ -34,7 +35,11 @@ impl Model for LineBuffer {
 
     ghost Value = { Waiting };
 
-    ghost view = { λ b. record { bytes = b.thrown.bytes ++ b.held.items; thrown = b.thrown_length; counted = b.counted } };
+    ghost view = { λ b. record {
+      bytes = b.thrown.bytes ++ b.held.items;
+      thrown = b.thrown_length;
+      counted = b.counted;
+    } };
 
     ghost invariant = { λ b. IsKept b.thrown.bytes b.thrown_length b.held.items b.counted };
 }
@@ -71,7 +76,8 @@ impl LineBuffer {
     pub(crate) fn find(&self, searched: usize) -> Option<usize>
         requires within { searched ≤ length self.now.bytes }
         requires clear { has_feed (take searched self.now.bytes) ≡ false }
-        ensures { MatchOption result (has_feed self.now.bytes ≡ false) (λ place. IsFirstFeed self.now.bytes place × (self.now.thrown ≤ place)) }
+        ensures { MatchOption result (has_feed self.now.bytes ≡ false)
+            (λ place. IsFirstFeed self.now.bytes place × (self.now.thrown ≤ place)) }
     {
         let from = searched.saturating_sub(self.thrown_length);
         match first_feed(&self.held[from..]) {
@@ -100,13 +106,16 @@ impl LineBuffer {
     /// Reads once, and adds what the source gives at the end. Answers how many bytes that was.
     pub(crate) fn read_from<S: Source>(&mut self, source: &mut S) -> Result<usize, ReadFault>
         requires { length self.old.bytes ≤ self.old.thrown + longest }
-        ensures part { IfOk result (λ n. IsPart (S.given source.old) (S.ends source.old) self.old.bytes
+        ensures part { IfOk result
+            (λ n. IsPart (S.given source.old) (S.ends source.old) self.old.bytes
             (S.given source.new) (S.ends source.new) self.new.bytes n) }
         ensures healthy { OnOk result (S.failures source.new ≡ S.failures source.old) }
         ensures same { (self.new.thrown ≡ self.old.thrown) × (self.new.counted ≡ self.old.counted) }
-        ensures kept { OnErr result ((S.given source.new ≡ S.given source.old) × (S.ends source.new ≡ S.ends source.old)
+        ensures kept { OnErr result ((S.given source.new ≡ S.given source.old)
+            × (S.ends source.new ≡ S.ends source.old)
             × (self.new.bytes ≡ self.old.bytes)) }
-        ensures refused { IfErr result (λ fault. Explains (S.failures source.old) (S.failures source.new) fault) }
+        ensures refused { IfErr result
+            (λ fault. Explains (S.failures source.old) (S.failures source.new) fault) }
     {
         read_part(source, &mut self.held)
     }
@@ -117,7 +126,8 @@ impl LineBuffer {
         requires front { self.now.thrown ≤ end }
         requires within { end ≤ length self.now.bytes }
         ensures tells { IfOk result (λ answer. Tells answer (take end self.now.bytes)) }
-        ensures refused { IfErr result (λ fault. (fault ≡ ReadFault.NoMemory no_memory) × (self.now.thrown ≡ 0)) }
+        ensures refused { IfErr result
+            (λ fault. (fault ≡ ReadFault.NoMemory no_memory) × (self.now.thrown ≡ 0)) }
     {
         if end > LONGEST {
             return Ok(NextLine::TooLong);

@@ -20,9 +20,11 @@ pub(crate) fn read_part<S: Source>(source: &mut S, held: &mut Vec<u8>) -> Result
     ensures part { IfOk result (λ n. IsPart (S.given source.old) (S.ends source.old) held.old.items
         (S.given source.new) (S.ends source.new) held.new.items n) }
     ensures healthy { OnOk result (S.failures source.new ≡ S.failures source.old) }
-    ensures kept { OnErr result ((S.given source.new ≡ S.given source.old) × (S.ends source.new ≡ S.ends source.old)
+    ensures kept { OnErr result ((S.given source.new ≡ S.given source.old)
+        × (S.ends source.new ≡ S.ends source.old)
         × (held.new.items ≡ held.old.items)) }
-    ensures refused { IfErr result (λ fault. Explains (S.failures source.old) (S.failures source.new) fault) }
+    ensures refused { IfErr result
+        (λ fault. Explains (S.failures source.old) (S.failures source.new) fault) }
 {
     // There is room before anything is read, so that nothing that was given is lost.
     if let Err(error) = held.reserve(CHUNK) {

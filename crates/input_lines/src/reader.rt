@@ -35,12 +35,15 @@ impl<S: Source> LineReader<S> {
     fn read_line(&mut self) -> Result<NextLine, ReadFault>
         requires unspent { IsSpent self.old.buffer → ⊥ }
         requires clear { has_feed self.old.buffer.bytes ≡ false }
-        ensures answers { IfOk result (λ answer. IsNext (S.given self.old.source) (S.ends self.old.source) self.old.buffer answer
+        ensures answers { IfOk result (λ answer.
+            IsNext (S.given self.old.source) (S.ends self.old.source) self.old.buffer answer
             (S.given self.new.source) (S.ends self.new.source) self.new.buffer) }
         ensures healthy { OnOk result (S.failures self.new.source ≡ S.failures self.old.source) }
-        ensures left { OnErr result (IsLeft (S.given self.old.source) (S.ends self.old.source) self.old.buffer
+        ensures left { OnErr result
+            (IsLeft (S.given self.old.source) (S.ends self.old.source) self.old.buffer
             (S.given self.new.source) (S.ends self.new.source) self.new.buffer) }
-        ensures refused { IfErr result (λ fault. Explains (S.failures self.old.source) (S.failures self.new.source) fault) }
+        ensures refused { IfErr result
+            (λ fault. Explains (S.failures self.old.source) (S.failures self.new.source) fault) }
     {
         self.buffer.shorten();
         while !self.buffer.is_spent() {
@@ -62,19 +65,24 @@ impl<S: Source> LineReader<S> {
     /// The next line.
     pub fn next(&mut self) -> Result<NextLine, ReadFault>
         // The line that is handed out is the next one of the bytes that the source gave.
-        ensures answers { IfOk result (λ answer. IsNext (S.given self.old.source) (S.ends self.old.source) self.old.buffer answer
+        ensures answers { IfOk result (λ answer.
+            IsNext (S.given self.old.source) (S.ends self.old.source) self.old.buffer answer
             (S.given self.new.source) (S.ends self.new.source) self.new.buffer) }
         ensures healthy { OnOk result (S.failures self.new.source ≡ S.failures self.old.source) }
 
         // A fault is explained, and takes nothing of what was given.
-        ensures left { OnErr result (IsLeft (S.given self.old.source) (S.ends self.old.source) self.old.buffer
+        ensures left { OnErr result
+            (IsLeft (S.given self.old.source) (S.ends self.old.source) self.old.buffer
             (S.given self.new.source) (S.ends self.new.source) self.new.buffer) }
-        ensures refused { IfErr result (λ fault. Explains (S.failures self.old.source) (S.failures self.new.source) fault) }
+        ensures refused { IfErr result
+            (λ fault. Explains (S.failures self.old.source) (S.failures self.new.source) fault) }
 
         // The source is not asked where a whole line waits, nor once as many lines are counted as
         // are told.
-        ensures unasked { has_feed self.old.buffer.bytes ≡ true → self.new.source ≡ self.old.source }
-        ensures spent { IsSpent self.old.buffer → (result ≡ Ok NextLine.Spent) × (self.new ≡ self.old) }
+        ensures unasked { has_feed self.old.buffer.bytes ≡ true
+            → self.new.source ≡ self.old.source }
+        ensures spent { IsSpent self.old.buffer
+            → (result ≡ Ok NextLine.Spent) × (self.new ≡ self.old) }
     {
         if self.buffer.is_spent() {
             return Ok(NextLine::Spent);

@@ -33,7 +33,8 @@ fn read_part<S: Source>(source: &mut S, text: &mut Vec<u8>) -> Result<usize, Rea
     ensures more { IfOk result (λ n. IsMore (S.given source.old) (S.ends source.old) text.old.items
         (S.given source.new) (S.ends source.new) text.new.items n) }
     ensures healthy { OnOk result (S.failures source.new ≡ S.failures source.old) }
-    ensures refused { IfErr result (λ fault. Explains (S.failures source.old) (S.failures source.new) fault) }
+    ensures refused { IfErr result
+        (λ fault. Explains (S.failures source.old) (S.failures source.new) fault) }
 {
     let mut chunk = [0u8; CHUNK];
     let wanted = CHUNK.min(MOST - text.len());
@@ -52,7 +53,8 @@ pub fn read_text<S: Source>(alloc: Global, source: &mut S) -> Result<Vec<u8>, Re
     ensures whole { IfOk result (λ text. IsWhole (S.given source.old) (S.ends source.old)
         (S.given source.new) (S.ends source.new) text.items) }
     ensures healthy { OnOk result (S.failures source.new ≡ S.failures source.old) }
-    ensures refused { IfErr result (λ fault. Explains (S.failures source.old) (S.failures source.new) fault) }
+    ensures refused { IfErr result
+        (λ fault. Explains (S.failures source.old) (S.failures source.new) fault) }
 {
     let mut text = Vec::new(alloc);
     while text.len() < MOST {

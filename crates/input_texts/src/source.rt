@@ -22,8 +22,10 @@ pub trait Source {
     fn read(&mut self, buffer: &mut [u8]) -> io::Result<usize>
         ensures within { IfOk result (λ n. n ≤ length buffer.new) }
         ensures given { IfOk result (λ n. given self.new ≡ given self.old ++ take n buffer.new) }
-        ensures ended { IfOk result (λ n. ends self.new ≡ count_behind n buffer.old (ends self.old)) }
+        ensures ended { IfOk result
+            (λ n. ends self.new ≡ count_behind n buffer.old (ends self.old)) }
         ensures healthy { OnOk result (failures self.new ≡ failures self.old) }
-        ensures unchanged { OnErr result ((given self.new ≡ given self.old) × (ends self.new ≡ ends self.old)) }
+        ensures unchanged { OnErr result ((given self.new ≡ given self.old)
+            × (ends self.new ≡ ends self.old)) }
         ensures failed { OnErr result (failures self.new ≡ next_count (failures self.old)) };
 }

@@ -1,10 +1,12 @@
 -- Askings for keys, with what is done next.
-use Rattle.std.specs.Prelude.{ℕ, ℤ, pos, negsuc, true, false, Option, Some, None, Result, Ok, Err, nat_lt, if◌then◌else◌}
+use Rattle.std.specs.Prelude.{ℕ, ℤ, pos, negsuc, true, false, Option, Some, None, Result, Ok, Err}
+use Rattle.std.specs.Prelude.{nat_lt, if◌then◌else◌}
 use Rattle.param_following.specs.Asking.{Asking, Done, Ask}
 use Rattle.sim_values.specs.declared.value.Value.{Value}
 use Rattle.sim_values.specs.declared.value.Value.TheVariants as value
 use Rattle.inside_parts.specs.declared.fault.InsideFault.{InsideFault}
-use Rattle.inside_parts.specs.declared.fault.InsideFault.TheVariants.{UnknownType, Unassigned, Mismatch, GateSize}
+use Rattle.inside_parts.specs.declared.fault.InsideFault.TheVariants.{UnknownType, Unassigned}
+use Rattle.inside_parts.specs.declared.fault.InsideFault.TheVariants.{Mismatch, GateSize}
 use Rattle.inside_parts.specs.Faults.{of_value}
 use Rattle.inside_wiring.specs.declared.wiring.Carrier.{Carrier}
 use Rattle.param_eval.specs.References.{Reference}

@@ -1,5 +1,6 @@
 -- The path with which the fault of an inside is told.
-use Rattle.std.specs.Prelude.{ℕ, ◌==◌, ◌++◌, ◌||◌, ◌&&◌, not, Bool, true, false, List, ◌∷◌, Option, Some, None, Result, Ok, Err, bytes_eq}
+use Rattle.std.specs.Prelude.{ℕ, ◌==◌, ◌++◌, ◌||◌, ◌&&◌, not, Bool, true, false, List, ◌∷◌, Option}
+use Rattle.std.specs.Prelude.{Some, None, Result, Ok, Err, bytes_eq}
 use Rattle.param_following.specs.Asking.{Done, Ask}
 use Rattle.inside_parts.specs.declared.fault.InsideFault.{InsideFault}
 use Rattle.inside_keys.specs.declared.found.Found.{Found}
@@ -34,14 +35,18 @@ blamed_by m false k = k.site.path
 -- a parameter that is asked for one by one is a submodule's; those that expressions name are the
 -- module's own and its parent's
 abbrev pub blamed : Module → Option Module → Key → List ℕ
-blamed m around k = blamed_by m (not (is_param k.what) || (is_at (Some m) k.site || is_at around k.site)) k
+blamed m around k =
+    blamed_by m (not (is_param k.what) || (is_at (Some m) k.site || is_at around k.site)) k
 
-abbrev pub placed_by : List ℕ → Result Found InsideFault → (Found → Result Found (List ℕ × InsideFault)) → Result Found (List ℕ × InsideFault)
+abbrev pub placed_by : List ℕ → Result Found InsideFault
+    → (Found → Result Found (List ℕ × InsideFault)) → Result Found (List ℕ × InsideFault)
 placed_by path (Ok v) next = next v
 placed_by path (Err f) next = Err (path, f)
 
 -- WHAT COMES OF AN INSIDE where keys have these values, or the first fault with its path
-abbrev pub placed : (Key → Result Found InsideFault) → Module → Option Module → KeyAsking → Result Found (List ℕ × InsideFault)
+abbrev pub placed : (Key → Result Found InsideFault) → Module → Option Module → KeyAsking
+    → Result Found (List ℕ × InsideFault)
 placed values m around (Done (Ok f)) = Ok f
 placed values m around (Done (Err f)) = Err (m.path, f)
-placed values m around (Ask k rest) = placed_by (blamed m around k) (values k) (λ v. placed values m around (rest v))
+placed values m around (Ask k rest) =
+    placed_by (blamed m around k) (values k) (λ v. placed values m around (rest v))

@@ -1,6 +1,8 @@
 -- Channels of connections: their paths, their lines, and what they do (OMNeT++ Simulation Manual,
 -- "Channels").
-use Rattle.std.specs.Prelude.{ℕ, ℤ, pos, negsuc, ◌-◌, Bool, true, false, ◌&&◌, List, [], ◌∷◌, ◌++◌, Option, Some, None, bytes_eq, codes, decimal, if◌then◌else◌, slice_get}
+use Rattle.std.specs.Prelude.{ℕ, ℤ, pos, negsuc, ◌-◌, Bool, true, false, ◌&&◌, List, [], ◌∷◌, ◌++◌}
+use Rattle.std.specs.Prelude.{Option, Some, None, bytes_eq, codes, decimal, if◌then◌else◌}
+use Rattle.std.specs.Prelude.{slice_get}
 use Rattle.std.specs.Option.{option_and_then}
 use Rattle.sim_values.specs.declared.value.Dimension.TheVariants.{Time, Rate}
 use Rattle.sim_values.specs.declared.value.Value.{Value}
@@ -48,7 +50,8 @@ index_mark true k = 91 ∷ (decimal k ++ 93 ∷ [])
 -- the name of a gate that messages leave by
 abbrev pub leaving_name : Bool → ℕ → Option TypeGate → List ℕ
 leaving_name own k None = []
-leaving_name own k (Some g) = g.name ++ (leaving_mark own g.kind.direction ++ index_mark g.kind.is_vector k)
+leaving_name own k (Some g) =
+    g.name ++ (leaving_mark own g.kind.direction ++ index_mark g.kind.is_vector k)
 
 abbrev pub gate_in : ℕ → Option TypeGates → Option TypeGate
 gate_in k None = None
@@ -64,7 +67,8 @@ abbrev pub owner_of : List (List ℕ) → Part → List ℕ
 owner_of names p = if p.is_own then [] else owner_name (slice_get names p.line) p.index
 
 abbrev pub leaving_gate : List TypeGates → GateId → Part → List ℕ
-leaving_gate gates id p = leaving_name p.is_own id.index (gate_in (id.vector - p.first) (slice_get gates p.of_type))
+leaving_gate gates id p =
+    leaving_name p.is_own id.index (gate_in (id.vector - p.first) (slice_get gates p.of_type))
 
 abbrev pub leaving_path : List (List ℕ) → List TypeGates → GateId → Option Part → List ℕ
 leaving_path names gates id None = []
@@ -73,7 +77,8 @@ leaving_path names gates id (Some p) = owner_of names p ++ leaving_gate gates id
 -- THE PATH of the channel of a connection from that gate, in a module whose submodules have these
 -- names: the gate's, and `.channel`
 abbrev pub channel_path : Module → List (List ℕ) → List TypeGates → Parts → GateId → List ℕ
-channel_path m names gates ps id = (m.path ++ 46 ∷ leaving_path names gates id (slice_get ps.parts id.part)) ++ codes ".channel"
+channel_path m names gates ps id =
+    (m.path ++ 46 ∷ leaving_path names gates id (slice_get ps.parts id.part)) ++ codes ".channel"
 
 -- ---- lines
 
@@ -83,7 +88,8 @@ type_at names types name = option_and_then (slice_get types) (position_of name n
 
 -- the lines of the channel type of that name: a built-in one, or one of these types
 abbrev pub lines_named : List (List ℕ) → List TypeDeclaration → List ℕ → Option (List SectionLine)
-lines_named names types name = if is_built_in name then Some (built_in_lines name) else lines_of_channel (type_at names types name)
+lines_named names types name = if is_built_in name then Some (built_in_lines name)
+    else lines_of_channel (type_at names types name)
 
 -- the lines of the type of a connection's channel
 abbrev pub lines_of : List (List ℕ) → List TypeDeclaration → Channel → Option (List SectionLine)
@@ -116,10 +122,12 @@ abbrev pub kind_named : List SectionLine → List ℕ → Option Kind
 kind_named lines name = kind_in (declaration_named name lines)
 
 abbrev pub has_delay : List SectionLine → Bool
-has_delay lines = is_time (kind_named lines (codes "delay")) && is_flag (kind_named lines (codes "disabled"))
+has_delay lines = is_time (kind_named lines (codes "delay"))
+    && is_flag (kind_named lines (codes "disabled"))
 
 abbrev pub has_rate : List SectionLine → Bool
-has_rate lines = is_rate (kind_named lines (codes "datarate")) && (is_count (kind_named lines (codes "ber")) && is_count (kind_named lines (codes "per")))
+has_rate lines = is_rate (kind_named lines (codes "datarate"))
+    && (is_count (kind_named lines (codes "ber")) && is_count (kind_named lines (codes "per")))
 
 -- WHICH OF THE THREE KINDS a channel is whose type has these lines: that whose parameters it has
 abbrev pub kind_by : Bool → Bool → ChannelKind
@@ -156,10 +164,12 @@ truth_or b _ = b
 abbrev pub with_delays : List ℕ → Value → Carrier → Carrier
 with_delays x v c =
     if bytes_eq x (codes "delay") then record c { delay = amount_or c.delay v }
-    else (if bytes_eq x (codes "disabled") then record c { disabled = truth_or c.disabled v } else c)
+    else (if bytes_eq x (codes "disabled")
+    then record c { disabled = truth_or c.disabled v } else c)
 
 abbrev pub with_rates : List ℕ → Value → Carrier → Carrier
-with_rates x v c = if bytes_eq x (codes "datarate") then record c { datarate = amount_or c.datarate v } else with_delays x v c
+with_rates x v c = if bytes_eq x (codes "datarate")
+    then record c { datarate = amount_or c.datarate v } else with_delays x v c
 
 abbrev pub with_value : List ℕ → Value → Carrier → ChannelKind → Carrier
 with_value x v c channel.Ideal = c
@@ -174,7 +184,8 @@ delay_check x k = if bytes_eq x (codes "delay") then check.Amount k else check.P
 abbrev pub rate_check : List ℕ → Kind → Check
 rate_check x k =
     if bytes_eq x (codes "datarate") then check.Amount k
-    else (if bytes_eq x (codes "ber") then check.Zero else (if bytes_eq x (codes "per") then check.Zero else delay_check x k))
+    else (if bytes_eq x (codes "ber") then check.Zero
+    else (if bytes_eq x (codes "per") then check.Zero else delay_check x k))
 
 -- of a channel of that kind: no delay and no rate is negative, and no bits and packets are lost
 abbrev pub channel_check : ChannelKind → List ℕ → Kind → Check

@@ -3,7 +3,8 @@ use Rattle.std.specs.Prelude.{zero, nat_lt, ℤ, pos, negsuc, Result, Ok, Err, i
 use Rattle.sim_values.specs.declared.value.Value.{Value}
 use Rattle.sim_values.specs.declared.value.Value.TheVariants as value
 use Rattle.inside_parts.specs.declared.fault.InsideFault.{InsideFault}
-use Rattle.inside_parts.specs.declared.fault.InsideFault.TheVariants.{Mismatch, TooManyModules, GateSize}
+use Rattle.inside_parts.specs.declared.fault.InsideFault.TheVariants.{Mismatch, TooManyModules}
+use Rattle.inside_parts.specs.declared.fault.InsideFault.TheVariants.{GateSize}
 use Rattle.inside_parts.specs.Faults.{of_value}
 use Rattle.param_eval.specs.Operators.{Evaluated}
 use Rattle.param_values.specs.declared.kind.Kind.{Kind}

@@ -1,5 +1,6 @@
 -- Small networks, worked by hand.
-use Rattle.std.specs.Prelude.{◌≡◌, ℕ, true, false, List, [], ◌∷◌, map, Option, Some, None, Result, Ok, Err, codes}
+use Rattle.std.specs.Prelude.{◌≡◌, ℕ, true, false, List, [], ◌∷◌, map, Option, Some, None, Result}
+use Rattle.std.specs.Prelude.{Ok, Err, codes}
 use Rattle.param_following.specs.Following.{followed}
 use Rattle.ned_trees.specs.declared.connections.Arrow.{Arrow}
 use Rattle.ned_trees.specs.declared.connections.Arrow.TheVariants as arrow
@@ -36,7 +37,12 @@ router = record {
   base = None;
   interfaces = [];
   lines = [];
-  gates = gate.Declaration (record { name = codes "port"; direction = Inout; size = size.Open; loose = false }) ∷ [];
+  gates = gate.Declaration (record {
+    name = codes "port";
+    direction = Inout;
+    size = size.Open;
+    loose = false;
+  }) ∷ [];
   submodules = [];
   connections = record { allow_unconnected = false; items = [] };
 }
@@ -49,18 +55,32 @@ plug = record {
   base = None;
   interfaces = [];
   lines = [];
-  gates = gate.Declaration (record { name = codes "port"; direction = Inout; size = size.Single; loose = false }) ∷ [];
+  gates = gate.Declaration (record {
+    name = codes "port";
+    direction = Inout;
+    size = size.Single;
+    loose = false;
+  }) ∷ [];
   submodules = [];
   connections = record { allow_unconnected = false; items = [] };
 }
 
 -- `NAME: TYPE;`
 abbrev pub named : List ℕ → List ℕ → Submodule
-named name type = record { name = name; size = None; submodule_type = Named type; condition = None; body = record { lines = []; gates = [] } }
+named name type = record {
+  name = name;
+  size = None;
+  submodule_type = Named type;
+  condition = None;
+  body = record { lines = []; gates = [] };
+}
 
 -- `NAME.port`, with a half and an index where these are there
 abbrev pub port : List ℕ → Option Half → Option GateIndex → End
-port name half index = record { owner = Some (record { name = name; index = None }); gate = record { name = codes "port"; half = half; index = index } }
+port name half index = record {
+  owner = Some (record { name = name; index = None });
+  gate = record { name = codes "port"; half = half; index = index };
+}
 
 -- `NAME.port++`
 abbrev pub next_of : List ℕ → End
@@ -72,7 +92,15 @@ half_of name half = port name (Some half) (Some gate_index.Next)
 
 -- `LEFT ARROW RIGHT;`
 abbrev pub line : End → Arrow → End → ConnectionItem
-line l way r = item.Line (record { connection = record { left = l; arrow = way; channel = None; right = r }; clauses = [] })
+line l way r = item.Line (record {
+  connection = record {
+    left = l;
+    arrow = way;
+    channel = None;
+    right = r;
+  };
+  clauses = [];
+})
 
 -- `LEFT.port++ <--> RIGHT.port++;`
 abbrev pub joined : List ℕ → List ℕ → ConnectionItem
@@ -100,7 +128,8 @@ the_network = record { created = 0; path = codes "R" }
 
 -- the network stands alone, and all else is in it
 abbrev pub standing : List ℕ → Whereabouts
-standing (c ∷ dot ∷ name) = record { around = Some the_network; name = name; index = None; is_declared = true }
+standing (c ∷ dot ∷ name) =
+    record { around = Some the_network; name = name; index = None; is_declared = true }
 standing _ = record { around = None; name = codes "R"; index = None; is_declared = false }
 
 abbrev pub setting : List ℕ → List ConnectionItem → ModuleRules
@@ -145,7 +174,8 @@ links items = links_in (found_in (codes "Router") items)
 
 -- a ring
 abbrev pub ring : List ConnectionItem
-ring = joined (codes "a") (codes "b") ∷ joined (codes "b") (codes "c") ∷ joined (codes "c") (codes "a") ∷ []
+ring = joined (codes "a") (codes "b") ∷ joined (codes "b") (codes "c")
+    ∷ joined (codes "c") (codes "a") ∷ []
 
 -- `LEFT.port <--> RIGHT.port;`
 abbrev pub plug_in : List ℕ → List ℕ → ConnectionItem
@@ -158,22 +188,29 @@ pub record AreWorked : Type 0 where
   -- in a ring each has two
   pub ring_sizes : sizes ring ≡ Some (Ok (2 ∷ 2 ∷ 2 ∷ []))
   -- a.port[0] and b.port[0] are joined, b.port[1] and c.port[0], c.port[1] and a.port[1]
-  pub ring_links : links ring ≡ ((0, 1), (2, 1)) ∷ ((2, 1), (0, 1)) ∷ ((2, 0), (1, 1)) ∷ ((1, 1), (2, 0)) ∷ ((1, 0), (0, 0)) ∷ ((0, 0), (1, 0)) ∷ []
+  pub ring_links : links ring ≡ ((0, 1), (2, 1)) ∷ ((2, 1), (0, 1)) ∷ ((2, 0), (1, 1)) ∷ (
+    (1, 1),
+    (2, 0),
+  ) ∷ ((1, 0), (0, 0)) ∷ ((0, 0), (1, 0)) ∷ []
   -- one more connection between the first and the last of them, in front
   pub one_more : sizes (joined (codes "a") (codes "c") ∷ ring) ≡ Some (Ok (3 ∷ 2 ∷ 3 ∷ []))
   -- b is joined with itself, by two of its ports
   pub itself : sizes (joined (codes "b") (codes "b") ∷ []) ≡ Some (Ok (0 ∷ 2 ∷ 0 ∷ []))
   -- what comes back takes the other halves of the same ports
-  pub back : links (one_way (codes "a") (codes "b") ∷ one_way (codes "b") (codes "a") ∷ []) ≡ ((1, 0), (0, 0)) ∷ ((0, 0), (1, 0)) ∷ []
+  pub back : links (one_way (codes "a") (codes "b") ∷ one_way (codes "b") (codes "a") ∷ [])
+      ≡ ((1, 0), (0, 0)) ∷ ((0, 0), (1, 0)) ∷ []
   -- a port of which one half is taken isn't free in both
-  pub half_taken : sizes (one_way (codes "a") (codes "b") ∷ joined (codes "a") (codes "b") ∷ []) ≡ Some (Ok (2 ∷ 2 ∷ 0 ∷ []))
+  pub half_taken : sizes (one_way (codes "a") (codes "b") ∷ joined (codes "a") (codes "b") ∷ [])
+      ≡ Some (Ok (2 ∷ 2 ∷ 0 ∷ []))
   -- there is no d; a vector is no single gate, and a single gate is no vector; a whole inout gate
   -- goes both ways
   pub no_submodule : sizes (joined (codes "a") (codes "d") ∷ []) ≡ Some (Err fault.NoGate)
   pub no_single : sizes (plug_in (codes "a") (codes "b") ∷ []) ≡ Some (Err fault.NoGate)
   pub no_vector : plugged (joined (codes "a") (codes "b") ∷ []) ≡ Some (Err fault.NoGate)
-  pub no_direction : sizes (line (next_of (codes "a")) arrow.Right (next_of (codes "b")) ∷ []) ≡ Some (Err fault.NoGate)
+  pub no_direction : sizes (line (next_of (codes "a")) arrow.Right (next_of (codes "b")) ∷ [])
+      ≡ Some (Err fault.NoGate)
   -- single gates are taken once
   pub single : plugged (plug_in (codes "a") (codes "b") ∷ []) ≡ Some (Ok (1 ∷ 1 ∷ 1 ∷ []))
-  pub taken : plugged (plug_in (codes "a") (codes "b") ∷ plug_in (codes "b") (codes "c") ∷ []) ≡ Some (Err fault.AlreadyConnected)
+  pub taken : plugged (plug_in (codes "a") (codes "b") ∷ plug_in (codes "b") (codes "c") ∷ [])
+      ≡ Some (Err fault.AlreadyConnected)
   pub both_ends : plugged (plug_in (codes "c") (codes "c") ∷ []) ≡ Some (Err fault.AlreadyConnected)

@@ -1,6 +1,8 @@
 -- The expressions that give keys their values (OMNeT++ Simulation Manual, "Assigning Parameters",
 -- "Gates", "Submodules").
-use Rattle.std.specs.Prelude.{ℕ, ◌==◌, ℤ, Bool, false, List, [], ◌∷◌, ◌++◌, ◌&&◌, length, not, reverse, Option, Some, None, bytes_eq, if◌then◌else◌, is_some, slice_get}
+use Rattle.std.specs.Prelude.{ℕ, ◌==◌, ℤ, Bool, false, List, [], ◌∷◌, ◌++◌, ◌&&◌, length, not}
+use Rattle.std.specs.Prelude.{reverse, Option, Some, None, bytes_eq, if◌then◌else◌, is_some}
+use Rattle.std.specs.Prelude.{slice_get}
 use Rattle.std.specs.Option.{option_and_then}
 use Rattle.ned_trees.specs.declared.connections.Channel.{Channel}
 use Rattle.ned_trees.specs.declared.connections.Clause.{Clause}
@@ -51,7 +53,8 @@ given_in s (Some (value.Default e)) = Some (Default (record { section = s; expre
 
 -- what the NED text gives a parameter: the body of the submodule goes before the lines of its type
 abbrev pub given_to : TypeDeclaration → SubmoduleBody → List ℕ → Option Given
-given_to t body x = or_else (given_in written.OfBody (last_value x body.lines)) (given_in written.OfType (last_value x t.lines))
+given_to t body x = or_else (given_in written.OfBody (last_value x body.lines))
+    (given_in written.OfType (last_value x t.lines))
 
 -- an entry of the ini text stands where a type's own parameter section does
 abbrev pub section_of : written_section.Section → Section
@@ -75,9 +78,11 @@ module _ (s : ModuleRules) (m : Module) where
   posed_as c None = None
   posed_as c (Some w) = Some (posed_in (section_of w.section) c w.expression)
 
-  abbrev pub parameter_by : TypeDeclaration → SubmoduleBody → List ℕ → Option Declaration → Option Posed
+  abbrev pub parameter_by : TypeDeclaration → SubmoduleBody → List ℕ → Option Declaration
+      → Option Posed
   parameter_by t body x None = None
-  parameter_by t body x (Some d) = posed_as (check.Parameter (kind_of d)) (first_given (given_to t body x) (s.entry (parameter_path m x)))
+  parameter_by t body x (Some d) = posed_as (check.Parameter (kind_of d))
+      (first_given (given_to t body x) (s.entry (parameter_path m x)))
 
   -- WHAT GIVES A PARAMETER ITS VALUE, the first that exists of: the fixed value; the first entry of
   -- the ini text that matches its path; the default
@@ -116,7 +121,8 @@ pub record FoundLine : Type 0 where
 
 abbrev pub found_line : List Clause → Option ConnectionLine → Option FoundLine
 found_line clauses None = None
-found_line clauses (Some l) = Some (record { connection = l.connection; clauses = clauses ++ l.clauses })
+found_line clauses (Some l) =
+    Some (record { connection = l.connection; clauses = clauses ++ l.clauses })
 
 abbrev pub found_in_item : ℕ → Option ConnectionItem → Option FoundLine
 found_in_item n None = None
@@ -152,7 +158,8 @@ channel_section written.OfBody = section.OfBlock
 
 -- what the NED text gives a parameter of a channel: its block goes before the lines of its type
 abbrev pub given_to_channel : List SectionLine → List SectionLine → List ℕ → Option Given
-given_to_channel lines block x = or_else (given_in written.OfBody (last_value x block)) (given_in written.OfType (last_value x lines))
+given_to_channel lines block x = or_else (given_in written.OfBody (last_value x block))
+    (given_in written.OfType (last_value x lines))
 
 -- the full path of a parameter of a channel
 abbrev pub channel_parameter_path : ChannelAt → List ℕ → List ℕ
@@ -168,18 +175,23 @@ module _ (s : ModuleRules) (m : Module) (c : ChannelAt) where
     check = k;
   })
 
-  abbrev pub channel_posed_by : List SectionLine → List SectionLine → Scope → List ℕ → Option Declaration → Option Posed
+  abbrev pub channel_posed_by : List SectionLine → List SectionLine → Scope → List ℕ
+      → Option Declaration → Option Posed
   channel_posed_by lines block scope x None = None
   channel_posed_by lines block scope x (Some d) =
-      channel_posed_as (channel_check (channel_kind lines) x (kind_of d)) scope (first_given (given_to_channel lines block x) (s.entry (channel_parameter_path c x)))
+      channel_posed_as (channel_check (channel_kind lines) x (kind_of d)) scope
+      (first_given (given_to_channel lines block x) (s.entry (channel_parameter_path c x)))
 
-  abbrev pub channel_posed_over : Option (List SectionLine) → List SectionLine → Scope → List ℕ → Option Posed
+  abbrev pub channel_posed_over : Option (List SectionLine) → List SectionLine → Scope → List ℕ
+      → Option Posed
   channel_posed_over None block scope x = None
-  channel_posed_over (Some lines) block scope x = channel_posed_by lines block scope x (declaration_named x lines)
+  channel_posed_over (Some lines) block scope x =
+      channel_posed_by lines block scope x (declaration_named x lines)
 
   abbrev pub channel_posed_in : Option Channel → Scope → List ℕ → Option Posed
   channel_posed_in None scope x = None
-  channel_posed_in (Some channel) scope x = channel_posed_over (lines_of (type_names s) s.types channel) channel.lines scope x
+  channel_posed_in (Some channel) scope x =
+      channel_posed_over (lines_of (type_names s) s.types channel) channel.lines scope x
 
   abbrev pub channel_posed_at : Option FoundLine → List ℕ → Option Posed
   channel_posed_at None x = None
@@ -216,9 +228,11 @@ last_size name [] = None
 last_size name (l ∷ ls) = or_else (last_size name ls) (size_given name l)
 
 -- what gives a gate vector its size: the body of the submodule goes before the lines of its type
-abbrev pub gate_size_posed : ModuleRules → Module → TypeDeclaration → SubmoduleBody → List ℕ → Option Posed
+abbrev pub gate_size_posed : ModuleRules → Module → TypeDeclaration → SubmoduleBody → List ℕ
+    → Option Posed
 gate_size_posed s m t body g =
-    or_else (maybe_posed s m section.OfBody check.GateSize (last_size g body.gates)) (maybe_posed s m section.OfInside check.GateSize (last_size g t.gates))
+    or_else (maybe_posed s m section.OfBody check.GateSize (last_size g body.gates))
+    (maybe_posed s m section.OfInside check.GateSize (last_size g t.gates))
 
 abbrev pub is_vector_at : Option TypeGate → Bool
 is_vector_at None = false
@@ -226,7 +240,8 @@ is_vector_at (Some g) = g.kind.is_vector
 
 -- whether one of these gates is a vector of that name
 abbrev pub has_vector : TypeGates → List ℕ → Bool
-has_vector gates g = is_vector_at (option_and_then (slice_get gates.gates) (position_of g gates.names))
+has_vector gates g =
+    is_vector_at (option_and_then (slice_get gates.gates) (position_of g gates.names))
 
 abbrev pub is_misplaced : TypeGates → GateLine → Bool
 is_misplaced gates (gate.Declaration d) = false

@@ -1,5 +1,6 @@
 -- Keys.
-use Rattle.std.specs.Prelude.{ℕ, ◌==◌, Bool, true, false, ◌&&◌, bytes_eq, List, [], ◌∷◌, ◌++◌, Option, Some, None, decimal}
+use Rattle.std.specs.Prelude.{ℕ, ◌==◌, Bool, true, false, ◌&&◌, bytes_eq, List, [], ◌∷◌, ◌++◌}
+use Rattle.std.specs.Prelude.{Option, Some, None, decimal}
 use Rattle.std.specs.Cmp.Lexicographic.{pointwise}
 use Rattle.std.specs.Ordering.{int_eq}
 use Rattle.inside_keys.specs.declared.key.ChannelAt.{ChannelAt}
@@ -30,7 +31,8 @@ abbrev pub same_written : WrittenAt → WrittenAt → Bool
 same_written a b = (a.items == b.items) && (a.lines == b.lines)
 
 abbrev pub same_channel : ChannelAt → ChannelAt → Bool
-same_channel a b = bytes_eq a.path b.path && (same_written a.written b.written && pointwise int_eq a.turn b.turn)
+same_channel a b = bytes_eq a.path b.path
+    && (same_written a.written b.written && pointwise int_eq a.turn b.turn)
 
 abbrev pub same_what : What → What → Bool
 same_what what.Type what.Type = true

@@ -2,7 +2,8 @@
 use Rattle.std.specs.Prelude.{ℕ, ℤ, List, [], ◌∷◌, Option, Some, None, bytes_eq, if◌then◌else◌}
 use Rattle.sim_values.specs.declared.value.Value.TheVariants as value
 use Rattle.ned_trees.specs.declared.expressions.Scope.TheVariants as scope
-use Rattle.param_eval.specs.References.{Reference, Own, Scoped, Member, Element, Index, ParentIndex, Sizeof, Exists, ExistsAt}
+use Rattle.param_eval.specs.References.{Reference, Own, Scoped, Member, Element, Index, ParentIndex}
+use Rattle.param_eval.specs.References.{Sizeof, Exists, ExistsAt}
 use Rattle.inside_keys.specs.declared.key.ChannelAt.{ChannelAt}
 use Rattle.inside_keys.specs.declared.key.Module.{Module}
 use Rattle.inside_keys.specs.declared.key.What.{What}

@@ -1,5 +1,6 @@
 -- Gates that have to be connected (OMNeT++ Simulation Manual, "Connections").
-use Rattle.std.specs.Prelude.{ℕ, suc, ◌+◌, Bool, true, false, ◌||◌, List, [], ◌∷◌, Option, Some, None, is_none, is_some, nat_lt, if◌then◌else◌, slice_get, slice_index}
+use Rattle.std.specs.Prelude.{ℕ, suc, ◌+◌, Bool, true, false, ◌||◌, List, [], ◌∷◌, Option, Some}
+use Rattle.std.specs.Prelude.{None, is_none, is_some, nat_lt, if◌then◌else◌, slice_get, slice_index}
 use Rattle.ned_trees.specs.declared.declarations.GateDirection.{GateDirection}
 use Rattle.ned_trees.specs.declared.declarations.GateDirection.TheVariants.{Input, Output, Inout}
 use Rattle.ned_trees.specs.declared.declarations.Submodule.{Submodule}
@@ -45,12 +46,14 @@ may_stay_free loose g = g.kind.is_loose || is_some (position_of g.name loose)
 -- whether a gate lacks a connection, which has that vector, where the gates of these names may stay
 -- free
 abbrev pub gate_lacks : Wired → Bool → List (List ℕ) → ℕ → TypeGate → Bool
-gate_lacks w own loose v g = if may_stay_free loose g then false else lacks_one w (needed own g.kind.direction) v
+gate_lacks w own loose v g =
+    if may_stay_free loose g then false else lacks_one w (needed own g.kind.direction) v
 
 -- whether one of these gates does, whose vectors follow one another from that one on
 abbrev pub one_lacks : Wired → Bool → List (List ℕ) → ℕ → List TypeGate → Bool
 one_lacks w own loose v [] = false
-one_lacks w own loose v (g ∷ gs) = if gate_lacks w own loose v g then true else one_lacks w own loose (v + 1) gs
+one_lacks w own loose v (g ∷ gs) =
+    if gate_lacks w own loose v g then true else one_lacks w own loose (v + 1) gs
 
 abbrev pub loosened_in : Option Submodule → List (List ℕ)
 loosened_in None = []
@@ -62,12 +65,14 @@ loosened_of submodules p = if p.is_own then [] else loosened_in (slice_get submo
 
 -- whether a gate of a part lacks a connection
 abbrev pub part_lacks : TypeDeclaration → List TypeGates → Wired → Part → Bool
-part_lacks t gates w p = one_lacks w p.is_own (loosened_of t.submodules p) p.first (gates_in (slice_get gates p.of_type))
+part_lacks t gates w p =
+    one_lacks w p.is_own (loosened_of t.submodules p) p.first (gates_in (slice_get gates p.of_type))
 
 -- the number of the first of these parts that does, where the first of all has that number
 abbrev pub lacking_from : TypeDeclaration → List TypeGates → Wired → ℕ → List Part → Option ℕ
 lacking_from t gates w n [] = None
-lacking_from t gates w n (p ∷ ps) = if part_lacks t gates w p then Some n else lacking_from t gates w (suc n) ps
+lacking_from t gates w n (p ∷ ps) =
+    if part_lacks t gates w p then Some n else lacking_from t gates w (suc n) ps
 
 abbrev pub own_lacking : TypeDeclaration → List TypeGates → Wired → Part → Option ℕ
 own_lacking t gates w p = if part_lacks t gates w p then Some 0 else None
@@ -81,4 +86,5 @@ lacking_in t gates w (p ∷ ps) = or_else (lacking_from t gates w 1 ps) (own_lac
 -- side, the module's own on its inner side, unless the connections of the type, or of what it
 -- extends, allow it, or the gate is loose
 abbrev pub unconnected : TypeDeclaration → List TypeGates → Inside → Option ℕ
-unconnected t gates i = if t.connections.allow_unconnected then None else lacking_in t gates i.wiring i.parts.parts
+unconnected t gates i =
+    if t.connections.allow_unconnected then None else lacking_in t gates i.wiring i.parts.parts

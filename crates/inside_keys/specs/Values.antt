@@ -1,5 +1,7 @@
 -- What each key asks.
-use Rattle.std.specs.Prelude.{ℕ, zero, suc, nat_lt, ℤ, pos, Bool, true, false, not, ◌&&◌, List, [], ◌∷◌, ◌++◌, codes, Option, Some, None, Result, Ok, Err, if◌then◌else◌, length, slice_get, slice_index}
+use Rattle.std.specs.Prelude.{ℕ, zero, suc, nat_lt, ℤ, pos, Bool, true, false, not, ◌&&◌, List, []}
+use Rattle.std.specs.Prelude.{◌∷◌, ◌++◌, codes, Option, Some, None, Result, Ok, Err, if◌then◌else◌}
+use Rattle.std.specs.Prelude.{length, slice_get, slice_index}
 use Rattle.std.specs.List.{list_any}
 use Rattle.std.specs.Option.{option_and_then}
 use Rattle.param_following.specs.Asking.{Done, Ask}
@@ -22,7 +24,9 @@ use Rattle.sim_values.specs.declared.value.Value.{Value}
 use Rattle.sim_values.specs.declared.value.Value.TheVariants as value
 use Rattle.param_eval.specs.Values.{valued}
 use Rattle.inside_parts.specs.declared.fault.InsideFault.{InsideFault}
-use Rattle.inside_parts.specs.declared.fault.InsideFault.TheVariants.{UnknownType, Interface, Unassigned, Mismatch, Circle, NoGate, TooDeep}
+use Rattle.inside_parts.specs.declared.fault.InsideFault.TheVariants.{UnknownType, Interface}
+use Rattle.inside_parts.specs.declared.fault.InsideFault.TheVariants.{Unassigned, Mismatch, Circle}
+use Rattle.inside_parts.specs.declared.fault.InsideFault.TheVariants.{NoGate, TooDeep}
 use Rattle.inside_parts.specs.Gates as type_gates
 use Rattle.inside_parts.specs.Names.{is_one, position_of}
 use Rattle.inside_wiring.specs.declared.wiring.Carrier.{Carrier}
@@ -36,14 +40,17 @@ use Rattle.inside_keys.specs.declared.key.Module.{Module}
 use Rattle.inside_keys.specs.declared.key.What.{What}
 use Rattle.inside_keys.specs.declared.key.What.TheVariants as what
 use Rattle.inside_keys.specs.declared.place.Section.TheVariants as section
-use Rattle.inside_keys.specs.Asked.{KeyAsking, ask_then, known_then, number_then, result_then, valued_then}
+use Rattle.inside_keys.specs.Asked.{KeyAsking, ask_then, known_then, number_then, result_then}
+use Rattle.inside_keys.specs.Asked.{valued_then}
 use Rattle.inside_keys.specs.Channels.{carrier_begun, channel_kind, with_value}
 use Rattle.inside_keys.specs.Checks.{checked}
-use Rattle.inside_keys.specs.Given.{channel_lines, channel_posed, given_in, parameter_posed, condition_posed, vector_size_posed, gate_size_posed, has_vector}
+use Rattle.inside_keys.specs.Given.{channel_lines, channel_posed, given_in, parameter_posed}
+use Rattle.inside_keys.specs.Given.{condition_posed, vector_size_posed, gate_size_posed, has_vector}
 use Rattle.inside_keys.specs.Inside.{conditioned, inside, is_vector, sized, submodule_names}
 use Rattle.inside_keys.specs.Keys.{child, key, same_key}
 use Rattle.inside_keys.specs.Places.{meant_under}
-use Rattle.inside_keys.specs.Settings.{ModuleRules, Whereabouts, Posed, declarer, place_in, type_gates, type_names}
+use Rattle.inside_keys.specs.Settings.{ModuleRules, Whereabouts, Posed, declarer, place_in}
+use Rattle.inside_keys.specs.Settings.{type_gates, type_names}
 
 -- done with this value
 abbrev pub is : Value → KeyAsking
@@ -56,7 +63,8 @@ kept (Err f) = Done (Err f)
 -- an expression that gives a value: what it asks, and what its value has to be
 abbrev pub posed_asking : Option Posed → KeyAsking
 posed_asking None = Done (Err Unassigned)
-posed_asking (Some p) = valued_then (meant_under p.variables p.place) (valued p.expression) (λ v. kept (checked p.check v))
+posed_asking (Some p) = valued_then (meant_under p.variables p.place) (valued p.expression)
+    (λ v. kept (checked p.check v))
 
 -- ---- submodules
 
@@ -68,7 +76,8 @@ module _ (m : Module) where
   -- `sub.x`: of no vector
   abbrev pub member : List ℕ → Option Submodule → KeyAsking
   member x None = Done (Err Unassigned)
-  member x (Some l) = if is_vector l then Done (Err Unassigned) else conditioned m l (of_child l.name None x) (Done (Err Unassigned))
+  member x (Some l) = if is_vector l then Done (Err Unassigned)
+      else conditioned m l (of_child l.name None x) (Done (Err Unassigned))
 
   -- the index, where it is one of so many
   abbrev pub among : ℕ → Option ℕ → Option ℕ
@@ -83,12 +92,14 @@ module _ (m : Module) where
   abbrev pub element_of : ℤ → List ℕ → Option Submodule → KeyAsking
   element_of k x None = Done (Err Unassigned)
   element_of k x (Some l) =
-      if is_vector l then conditioned m l (sized m l (λ n. at_index l.name x (among n (natural k)))) (Done (Err Unassigned)) else Done (Err Unassigned)
+      if is_vector l then conditioned m l (sized m l (λ n. at_index l.name x (among n (natural k))))
+      (Done (Err Unassigned)) else Done (Err Unassigned)
 
   -- `exists(sub)`
   abbrev pub exists : Option Submodule → KeyAsking
   exists None = is (value.Truth false)
-  exists (Some l) = if is_vector l then is (value.Truth false) else conditioned m l (is (value.Truth true)) (is (value.Truth false))
+  exists (Some l) = if is_vector l then is (value.Truth false)
+      else conditioned m l (is (value.Truth true)) (is (value.Truth false))
 
   abbrev pub is_there : Option ℕ → Bool
   is_there None = false
@@ -98,12 +109,16 @@ module _ (m : Module) where
   abbrev pub exists_at : ℤ → Option Submodule → KeyAsking
   exists_at k None = is (value.Truth false)
   exists_at k (Some l) =
-      if is_vector l then conditioned m l (sized m l (λ n. is (value.Truth (is_there (among n (natural k)))))) (is (value.Truth false)) else is (value.Truth false)
+      if is_vector l
+      then conditioned m l (sized m l (λ n. is (value.Truth (is_there (among n (natural k))))))
+      (is (value.Truth false)) else is (value.Truth false)
 
   -- `sizeof(sub)`: a vector whose condition doesn't hold has no elements
   abbrev pub vector_size : Option Submodule → KeyAsking
   vector_size None = Done (Err Unassigned)
-  vector_size (Some l) = if is_vector l then conditioned m l (sized m l (λ n. is (value.Whole (pos n)))) (is (value.Whole (pos 0))) else Done (Err Unassigned)
+  vector_size (Some l) = if is_vector l
+      then conditioned m l (sized m l (λ n. is (value.Whole (pos n)))) (is (value.Whole (pos 0)))
+      else Done (Err Unassigned)
 
 -- a body that says nothing
 abbrev pub no_body : SubmoduleBody
@@ -118,7 +133,8 @@ body_by (Some l) = l.body
 -- what a channel does, by the values of the parameters that these lines declare, in their order
 abbrev pub carrier : Module → ChannelAt → List SectionLine → Carrier → KeyAsking
 carrier m c [] k = Done (Ok (found.Carrier k))
-carrier m c (line.Declaration d ∷ ls) k = ask_then (key m (what.Channel c d.name)) (λ v. carrier m c ls (with_value d.name v k k.kind))
+carrier m c (line.Declaration d ∷ ls) k =
+    ask_then (key m (what.Channel c d.name)) (λ v. carrier m c ls (with_value d.name v k k.kind))
 carrier m c (_ ∷ ls) k = carrier m c ls k
 
 abbrev pub carrier_by : Module → ChannelAt → List SectionLine → KeyAsking
@@ -129,11 +145,13 @@ carrier_by m c lines = carrier m c lines (carrier_begun (channel_kind lines))
 -- the size of an own gate vector of a part, as the inside of the module around has it
 abbrev pub size_of_gate : ModuleRules → Whereabouts → List ℕ → Inside → ℕ → KeyAsking
 size_of_gate s t g i part =
-    result_then (gate_named (type_gates s) i.parts (length i.wiring.sizes) part g) (λ gate. is (value.Whole (pos (slice_index i.wiring.sizes gate.vector))))
+    result_then (gate_named (type_gates s) i.parts (length i.wiring.sizes) part g)
+    (λ gate. is (value.Whole (pos (slice_index i.wiring.sizes gate.vector))))
 
 -- the same of the submodule of that name and index, where the module around is of that type
 abbrev pub size_in : ModuleRules → TypeDeclaration → Whereabouts → List ℕ → Inside → KeyAsking
-size_in s around t g i = result_then (part_named (submodule_names around) i.parts t.name t.index) (size_of_gate s t g i)
+size_in s around t g i =
+    result_then (part_named (submodule_names around) i.parts t.name t.index) (size_of_gate s t g i)
 
 abbrev pub size_read : ModuleRules → TypeDeclaration → Whereabouts → List ℕ → Found → KeyAsking
 size_read s around t g (found.Inside i) = size_in s around t g i
@@ -159,13 +177,15 @@ module _ (s : ModuleRules) where
   abbrev pub inner_along : ℕ → Option TypeDeclaration → List ℕ → Option ℕ
   inner_along n None name = None
   inner_along zero (Some t) name = None
-  inner_along (suc n) (Some t) name = or_else (position_of (t.name ++ 46 ∷ name) (type_names s)) (inner_along n (option_and_then type_named t.base) name)
+  inner_along (suc n) (Some t) name = or_else (position_of (t.name ++ 46 ∷ name) (type_names s))
+      (inner_along n (option_and_then type_named t.base) name)
 
   -- WHICH TYPE A NAME MEANS in the text of a type: one that stands in that, or in the nearest type
   -- that it extends, or a global one. Of a name with its package the last part counts. No line of
   -- types without a circle is longer than there are types
   abbrev pub type_meant : TypeDeclaration → List ℕ → Option ℕ
-  type_meant t name = or_else (inner_along (length s.types) (Some t) (last_name name)) (position_of (last_name name) (type_names s))
+  type_meant t name = or_else (inner_along (length s.types) (Some t) (last_name name))
+      (position_of (last_name name) (type_names s))
 
   -- whether the body of a submodule gives a value to a parameter that has a fixed one in these
   -- lines
@@ -175,11 +195,13 @@ module _ (s : ModuleRules) where
   -- whether a type may stand after `like`: one of modules that says that it keeps the interface,
   -- and fixes nothing that the body sets
   abbrev pub keeps : ParametricType → SubmoduleBody → TypeDeclaration → Bool
-  keeps p body u = is_kind_of_modules u.kind && (is_one p.interface u.interfaces && not (sets_fixed u.lines body))
+  keeps p body u = is_kind_of_modules u.kind
+      && (is_one p.interface u.interfaces && not (sets_fixed u.lines body))
 
   abbrev pub kept_type : ParametricType → SubmoduleBody → ℕ → Option TypeDeclaration → KeyAsking
   kept_type p body n None = Done (Err UnknownType)
-  kept_type p body n (Some u) = if keeps p body u then is (value.Whole (pos n)) else Done (Err Interface)
+  kept_type p body n (Some u) =
+      if keeps p body u then is (value.Whole (pos n)) else Done (Err Interface)
 
   -- a built-in channel is no type of modules
   abbrev pub no_type : List ℕ → InsideFault
@@ -199,16 +221,19 @@ module _ (s : ModuleRules) where
   type_path m = m.path ++ codes ".typename"
 
   -- an expression that stands in the type of the module around
-  abbrev pub type_asking_by : Module → TypeDeclaration → ParametricType → SubmoduleBody → Option Written → KeyAsking
+  abbrev pub type_asking_by : Module → TypeDeclaration → ParametricType → SubmoduleBody
+      → Option Written → KeyAsking
   type_asking_by around t p body None = Done (Err Unassigned)
-  type_asking_by around t p body (Some w) = valued_then (meant_under [] (place_in s around section.OfInside)) (valued w.expression) (type_told t p body)
+  type_asking_by around t p body (Some w) = valued_then (meant_under []
+      (place_in s around section.OfInside)) (valued w.expression) (type_told t p body)
 
   -- WHAT CHOOSES THE TYPE OF A SUBMODULE: `<e>`; or the first entry of the ini text that matches
   -- its path and `typename`; or `<default(e)>`
   abbrev pub type_written : Module → ParametricType → Option Written
   type_written m p = first_given (given_in written.OfType p.given) (s.entry (type_path m))
 
-  abbrev pub type_chosen : Module → Module → TypeDeclaration → ParametricType → SubmoduleBody → KeyAsking
+  abbrev pub type_chosen : Module → Module → TypeDeclaration → ParametricType
+      → SubmoduleBody → KeyAsking
   type_chosen m around t p body = type_asking_by around t p body (type_written m p)
 
   -- the type of a declared submodule, in a module of that type
@@ -222,19 +247,22 @@ module _ (s : ModuleRules) where
 
   -- with the type of a module, and its number
   abbrev pub typed_then : Module → (ℕ → TypeDeclaration → KeyAsking) → KeyAsking
-  typed_then m next = ask_then (key m what.Type) (λ v. number_then v (λ n. known_then (slice_get s.types n) (next n)))
+  typed_then m next = ask_then (key m what.Type)
+      (λ v. number_then v (λ n. known_then (slice_get s.types n) (next n)))
 
   -- with the body of what declares a module
   abbrev pub body_of_declarer : Module → Option Module → (SubmoduleBody → KeyAsking) → KeyAsking
   body_of_declarer m None next = next no_body
-  body_of_declarer m (Some around) next = typed_then around (λ n t. next (body_by (submodule_named (s.stands m).name t.submodules)))
+  body_of_declarer m (Some around) next =
+      typed_then around (λ n t. next (body_by (submodule_named (s.stands m).name t.submodules)))
 
   abbrev pub body_then : Module → (SubmoduleBody → KeyAsking) → KeyAsking
   body_then m next = body_of_declarer m (declarer s m) next
 
   abbrev pub type_declared : Module → Option Module → KeyAsking
   type_declared m None = numbered (s.root m)
-  type_declared m (Some around) = if s.is_too_deep m then Done (Err TooDeep) else typed_then around (λ n t. type_in m around t (submodule_named (s.stands m).name t.submodules))
+  type_declared m (Some around) = if s.is_too_deep m then Done (Err TooDeep) else typed_then around
+      (λ n t. type_in m around t (submodule_named (s.stands m).name t.submodules))
 
   -- THE TYPE OF A MODULE: its nesting comes first
   abbrev pub type_asking : Module → KeyAsking
@@ -248,21 +276,25 @@ module _ (s : ModuleRules) where
 
   -- A DECLARED SIZE: a vector whose size is given nowhere has none
   abbrev pub declared_asking : Module → TypeDeclaration → List ℕ → SubmoduleBody → KeyAsking
-  declared_asking m t g body = if has_vector (type_gates.gates_of t.gates) g then sized_or_open (gate_size_posed s m t body g) else Done (Err NoGate)
+  declared_asking m t g body = if has_vector (type_gates.gates_of t.gates) g
+      then sized_or_open (gate_size_posed s m t body g) else Done (Err NoGate)
 
   -- A FINISHED SIZE is read off the inside of the module around; nothing is connected around the
   -- network and around what was created
   abbrev pub gate_size : Module → List ℕ → Option Module → KeyAsking
   gate_size m g None = ask_then (key m (what.Declared g)) is
-  gate_size m g (Some around) = typed_then around (λ n t. Ask (key around what.Joined) (size_read s t (s.stands m) g))
+  gate_size m g (Some around) =
+      typed_then around (λ n t. Ask (key around what.Joined) (size_read s t (s.stands m) g))
 
   -- `sizeof(g)`: a gate vector of the module goes before a submodule vector
   abbrev pub size_of : Module → List ℕ → TypeDeclaration → KeyAsking
   size_of m g t =
-      if has_vector (type_gates.gates_of t.gates) g then ask_then (key m (what.GateSize g)) is else vector_size m (submodule_named g t.submodules)
+      if has_vector (type_gates.gates_of t.gates) g then ask_then (key m (what.GateSize g)) is
+      else vector_size m (submodule_named g t.submodules)
 
   abbrev pub inside_of : Module → Bool → ℕ → TypeDeclaration → KeyAsking
-  inside_of m is_whole n t = inside m s.types (type_gates s) is_whole (place_in s m section.OfInside) n t
+  inside_of m is_whole n t =
+      inside m s.types (type_gates s) is_whole (place_in s m section.OfInside) n t
 
   -- what a key asks of a module of that type
   abbrev pub asking_in : Module → What → ℕ → TypeDeclaration → KeyAsking

@@ -59,7 +59,8 @@ fn push_gate(
     index: u32,
     gate: Option<&TypeGate>,
 ) -> Result<(), AllocError>
-    ensures { OnOk result (path.new.items ≡ path.old.items ++ channels.leaving_name is_own index (option_copied gate.entry)) }
+    ensures { OnOk result (path.new.items
+        ≡ path.old.items ++ channels.leaving_name is_own index (option_copied gate.entry)) }
 {
     let Some(gate) = gate else {
         return Ok(());
@@ -79,7 +80,8 @@ fn gate_in(number: usize, gates: Option<&TypeGates>) -> Option<&TypeGate>
 
 /// Adds the name of a submodule, and a dot.
 fn push_owner(path: &mut Vec<u8>, name: Option<&Text>, index: Option<u32>) -> Result<(), AllocError>
-    ensures { OnOk result (path.new.items ≡ path.old.items ++ channels.owner_name (option_copied name.entry) index) }
+    ensures { OnOk result (path.new.items
+        ≡ path.old.items ++ channels.owner_name (option_copied name.entry) index) }
 {
     let Some(name) = name else {
         return Ok(());
@@ -112,7 +114,8 @@ fn push_gate_of(
     id: GateId,
     part: Part,
 ) -> Result<(), AllocError>
-    ensures { OnOk result (path.new.items ≡ path.old.items ++ channels.leaving_gate gates.now id part) }
+    ensures { OnOk result (path.new.items
+        ≡ path.old.items ++ channels.leaving_gate gates.now id part) }
 {
     let number = id.vector.saturating_sub(part.first);
     let gate = gate_in(number, gates_at(gates, part.of_type));
@@ -127,7 +130,8 @@ fn push_leaving(
     id: GateId,
     part: Option<Part>,
 ) -> Result<(), AllocError>
-    ensures { OnOk result (path.new.items ≡ path.old.items ++ channels.leaving_path names.now gates.now id part) }
+    ensures { OnOk result (path.new.items
+        ≡ path.old.items ++ channels.leaving_path names.now gates.now id part) }
 {
     let Some(part) = part else {
         return Ok(());
@@ -146,7 +150,8 @@ pub fn channel_path(
     parts: &Parts,
     id: GateId,
 ) -> Result<Text, NoMemory>
-    ensures { IfOk result (λ path. path ≡ channels.channel_path site.now names.now gates.now parts.now id) }
+    ensures { IfOk result
+        (λ path. path ≡ channels.channel_path site.now names.now gates.now parts.now id) }
 {
     let mut path = Vec::from_slice(alloc, site.path.as_bytes())?;
     path.push(b'.')?;
@@ -183,7 +188,8 @@ pub fn lines_of<'m>(
     types: &'m [TypeDeclaration],
     channel: &Channel,
 ) -> Result<Option<&'m [SectionLine]>, NoMemory>
-    ensures { IfOk result (λ lines. option_copied lines ≡ channels.lines_of names.now types.now channel.now) }
+    ensures { IfOk result
+        (λ lines. option_copied lines ≡ channels.lines_of names.now types.now channel.now) }
 {
     let name = channel_name(channel);
     if is_built_in(name) {

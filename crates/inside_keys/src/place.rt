@@ -202,7 +202,8 @@ impl ExpressionPlace {
         scope: &[Binding],
         name: Name<'_>,
     ) -> Result<Meaning, NoMemory>
-        ensures { IfOk result (λ m. m ≡ places.meant_under scope.now self.now (reference_of name.entry)) }
+        ensures { IfOk result
+            (λ m. m ≡ places.meant_under scope.now self.now (reference_of name.entry)) }
     {
         if let Name::Own(x) = name {
             if let Some(number) = variable_in(scope, x) {

@@ -61,7 +61,8 @@ pub fn misplaced_in<'m>(
     declared: &'m TypeDeclaration,
     body: &'m SubmoduleBody,
 ) -> Option<&'m Text>
-    ensures { option_copied result ≡ given.misplaced_in (option_copied gates.entry) declared.now body.now }
+    ensures { option_copied result
+        ≡ given.misplaced_in (option_copied gates.entry) declared.now body.now }
 {
     let Some(gates) = gates else {
         return None;

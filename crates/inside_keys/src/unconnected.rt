@@ -106,7 +106,8 @@ fn line_at(submodules: &[Submodule], line: usize) -> Option<&Submodule>
 
 /// The gates that the body of a submodule lets stay free.
 fn loosened_in(alloc: Global, submodule: Option<&Submodule>) -> Result<Names, NoMemory>
-    ensures { IfOk result (λ names. names ≡ unconnected.loosened_in (option_copied submodule.entry)) }
+    ensures { IfOk result
+        (λ names. names ≡ unconnected.loosened_in (option_copied submodule.entry)) }
 {
     match submodule {
         Some(submodule) => loosened(alloc, submodule.body.gates.as_slice()),
@@ -132,7 +133,8 @@ fn part_lacks(
     wiring: &Wiring,
     part: Part,
 ) -> Result<bool, NoMemory>
-    ensures { IfOk result (λ lacks. lacks ≡ unconnected.part_lacks declared.now gates.now wiring.now part) }
+    ensures { IfOk result
+        (λ lacks. lacks ≡ unconnected.part_lacks declared.now gates.now wiring.now part) }
 {
     let loose = loosened_of(alloc, declared.submodules.as_slice(), part)?;
     let gates = gates_of(gates, part.of_type);
@@ -165,7 +167,8 @@ fn lacking_from(
     wiring: &Wiring,
     parts: &[Part],
 ) -> Result<Option<usize>, NoMemory>
-    ensures { IfOk result (λ found. found ≡ unconnected.lacking_from declared.now gates.now wiring.now 1 parts.now) }
+    ensures { IfOk result
+        (λ found. found ≡ unconnected.lacking_from declared.now gates.now wiring.now 1 parts.now) }
 {
     for (place, part) in parts.iter().enumerate() {
         if part_lacks(alloc, declared, gates, wiring, *part)? {
@@ -183,7 +186,8 @@ fn lacking_in(
     wiring: &Wiring,
     parts: &[Part],
 ) -> Result<Option<usize>, NoMemory>
-    ensures { IfOk result (λ found. found ≡ unconnected.lacking_in declared.now gates.now wiring.now parts.now) }
+    ensures { IfOk result
+        (λ found. found ≡ unconnected.lacking_in declared.now gates.now wiring.now parts.now) }
 {
     let Some((own, rest)) = parts.split_first() else {
         return Ok(None);
@@ -205,7 +209,8 @@ pub fn unconnected(
     gates: &[TypeGates],
     inside: &Inside,
 ) -> Result<Option<usize>, NoMemory>
-    ensures { IfOk result (λ found. found ≡ unconnected.unconnected declared.now gates.now inside.now) }
+    ensures { IfOk result
+        (λ found. found ≡ unconnected.unconnected declared.now gates.now inside.now) }
 {
     if declared.connections.allow_unconnected {
         return Ok(None);

@@ -27,6 +27,7 @@ Tells (Err (stop.Fault f)) given = given ≡ Err f
 Tells (Err (stop.Memory e)) given = Unit {0}
 
 -- the first fault, or what follows from the value
-abbrev pub thence : {A B : Type 0} → Result A InsideFault → (A → Result B InsideFault) → Result B InsideFault
+abbrev pub thence : {A B : Type 0} → Result A InsideFault → (A → Result B InsideFault)
+    → Result B InsideFault
 thence (Ok x) next = next x
 thence (Err f) next = Err f

@@ -23,11 +23,19 @@ loosened lines = loosened_from lines []
 
 -- a gate that is declared so, where the gates of these names may stay unconnected
 abbrev pub gate_by : List (List ℕ) → GateDeclaration → TypeGate
-gate_by loose d = record { name = d.name; kind = record { direction = d.direction; is_vector = is_vector d.size; is_loose = is_some (position_of d.name loose) } }
+gate_by loose d = record {
+  name = d.name;
+  kind = record {
+    direction = d.direction;
+    is_vector = is_vector d.size;
+    is_loose = is_some (position_of d.name loose);
+  };
+}
 
 -- one more, unless there is one of its name
 abbrev pub with_gate : List (List ℕ) → GateDeclaration → TypeGates → TypeGates
-with_gate loose d g = if is_one d.name g.names then g else record { names = g.names ++ d.name ∷ []; gates = g.gates ++ gate_by loose d ∷ [] }
+with_gate loose d g = if is_one d.name g.names then g
+    else record { names = g.names ++ d.name ∷ []; gates = g.gates ++ gate_by loose d ∷ [] }
 
 abbrev pub with_line : List (List ℕ) → GateLine → TypeGates → TypeGates
 with_line loose (line.Declaration d) g = with_gate loose d g

@@ -1,7 +1,8 @@
 //! The gates of a flat type.
 
 ghost use Rattle.std.specs.Prelude.{◌≡◌, IfOk, OnOk};
-ghost use Rattle.inside_parts.specs.Gates.{gate_by, gates_from, gates_of, loosened, loosened_by, loosened_from, no_gates, with_gate, with_line};
+ghost use Rattle.inside_parts.specs.Gates.{gate_by, gates_from, gates_of, loosened, loosened_by};
+ghost use Rattle.inside_parts.specs.Gates.{loosened_from, no_gates, with_gate, with_line};
 ghost use Rattle.ned_types.specs.Types.{is_vector};
 
 use crate::names::Names;

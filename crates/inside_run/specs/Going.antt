@@ -1,5 +1,6 @@
 -- Keys that are being evaluated.
-use Rattle.std.specs.Prelude.{◌≡◌, ℕ, pos, Bool, true, false, not, List, [], Option, Some, None, Result, Ok, Err, if◌then◌else◌, slice_get}
+use Rattle.std.specs.Prelude.{◌≡◌, ℕ, pos, Bool, true, false, not, List, [], Option, Some, None}
+use Rattle.std.specs.Prelude.{Result, Ok, Err, if◌then◌else◌, slice_get}
 use Rattle.std.proofs.Common.{Bor}
 use Rattle.param_following.specs.Asking.{Done, Ask}
 use Rattle.ned_trees.specs.declared.declarations.Submodule.{Submodule}
@@ -18,14 +19,17 @@ use Rattle.inside_keys.specs.declared.found.Found.TheVariants as found
 use Rattle.inside_keys.specs.declared.key.Module.{Module}
 use Rattle.inside_keys.specs.declared.key.What.{What}
 use Rattle.inside_keys.specs.declared.key.What.TheVariants as what
-use Rattle.inside_keys.specs.Asked.{KeyAsking, ask_then, known_then, number_then, result_then, size_then, truth_then, value_then, valued_then}
+use Rattle.inside_keys.specs.Asked.{KeyAsking, ask_then, known_then, number_then, result_then}
+use Rattle.inside_keys.specs.Asked.{size_then, truth_then, value_then, valued_then}
 use Rattle.inside_keys.specs.Checks.{checked}
 use Rattle.inside_keys.specs.Given.{parameter_posed}
 use Rattle.inside_keys.specs.Inside.{conditioned, is_vector}
 use Rattle.inside_keys.specs.Keys.{key}
 use Rattle.inside_keys.specs.Places.{meant_under}
 use Rattle.inside_keys.specs.Settings.{ModuleRules, Whereabouts}
-use Rattle.inside_keys.specs.Values.{among, asking_in, at_index, body_by, declared_asking, is, is_there, kept, of_child, carrier, posed_asking, size_of_gate, size_read, type_in, type_told}
+use Rattle.inside_keys.specs.Values.{among, asking_in, at_index, body_by, declared_asking, is}
+use Rattle.inside_keys.specs.Values.{is_there, kept, of_child, carrier, posed_asking, size_of_gate}
+use Rattle.inside_keys.specs.Values.{size_read, type_in, type_told}
 use Rattle.inside_keys.specs.Channels.{with_value}
 use Rattle.inside_run.specs.declared.progress.Moved.{Moved}
 use Rattle.inside_run.specs.declared.progress.Moved.TheVariants as moved
@@ -83,7 +87,8 @@ fits reading.Size vector = vector
 
 abbrev pub read : Module → Reading → Option Submodule → KeyAsking
 read m r None = unread r
-read m r (Some l) = if fits r (is_vector l) then conditioned m l (there m l.name r) (absent r) else unread r
+read m r (Some l) = if fits r (is_vector l) then conditioned m l (there m l.name r) (absent r)
+    else unread r
 
 -- ---- keys
 
@@ -110,28 +115,35 @@ module _ (s : ModuleRules) where
 
   abbrev pub Finds : Result (ℕ × Bor TypeDeclaration) InsideError → Value → Type 0
   Finds (Ok p) v = IsFound v p.0 p.1.now
-  Finds (Err (stop.Fault f)) v = (next : ℕ → TypeDeclaration → KeyAsking) → typed next (found.Value v) ≡ Done (Err f)
+  Finds (Err (stop.Fault f)) v = (next : ℕ → TypeDeclaration → KeyAsking)
+      → typed next (found.Value v) ≡ Done (Err f)
   Finds (Err (stop.Memory e)) v = Unit {0}
 
   -- the size of a gate, by the inside of the module around, whose submodules have these names
   abbrev pub size_from : List (List ℕ) → Whereabouts → List ℕ → Found → KeyAsking
-  size_from names t g (found.Inside i) = result_then (part_named names i.parts t.name t.index) (size_of_gate s t g i)
+  size_from names t g (found.Inside i) =
+      result_then (part_named names i.parts t.name t.index) (size_of_gate s t g i)
   size_from names t g (found.Value v) = Done (Err NoGate)
   size_from names t g (found.Carrier c) = Done (Err NoGate)
 
   -- HOW A KEY GOES ON with the value that it waits for
   abbrev pub goes_on : KeyProgress → Found → KeyAsking
   goes_on (progress.OwnType m w) = typed (asking_in s m w)
-  goes_on (progress.TypeAround m around name) = typed (λ n u. type_in s m around u (submodule_named name u.submodules))
+  goes_on (progress.TypeAround m around name) =
+      typed (λ n u. type_in s m around u (submodule_named name u.submodules))
   goes_on (progress.BodyAround m w t name) = typed (body_in m w t.now name)
-  goes_on (progress.InsideAround m t g) = typed (λ n u. Ask (key m what.Joined) (size_read s u (standing_by t) g))
+  goes_on (progress.InsideAround m t g) =
+      typed (λ n u. Ask (key m what.Joined) (size_read s u (standing_by t) g))
   goes_on (progress.Joined names t g) = size_from names.now (standing_by t) g
   goes_on (progress.Condition m name r) = value_then (λ v. truth_then v (there m name r) (absent r))
   goes_on (progress.VectorSize m name r) = value_then (λ v. size_then v (counted m name r))
   goes_on progress.Same = value_then is
-  goes_on (progress.Posed p) = value_then (λ v. valued_then (meant_under p.variables p.place) (resumed p.evaluation v) (λ u. kept (checked p.check u)))
-  goes_on (progress.Chosen c) = value_then (λ v. valued_then (meant_under [] c.place) (resumed c.evaluation v) (type_told s c.declared.now c.parametric.now c.body.now))
-  goes_on (progress.Carried c) = value_then (λ v. carrier c.site c.channel c.lines.now (with_value c.name.now v c.carrier c.carrier.kind))
+  goes_on (progress.Posed p) = value_then (λ v. valued_then (meant_under p.variables p.place)
+      (resumed p.evaluation v) (λ u. kept (checked p.check u)))
+  goes_on (progress.Chosen c) = value_then (λ v. valued_then (meant_under [] c.place)
+      (resumed c.evaluation v) (type_told s c.declared.now c.parametric.now c.body.now))
+  goes_on (progress.Carried c) = value_then
+      (λ v. carrier c.site c.channel c.lines.now (with_value c.name.now v c.carrier c.carrier.kind))
   goes_on (progress.Inside w) = done_with w.ground w.doing w.tasks w.state
   goes_on progress.Over = value_then is
 

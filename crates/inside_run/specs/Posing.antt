@@ -4,7 +4,12 @@ use Rattle.inside_keys.specs.Settings.{Posed}
 use Rattle.inside_run.specs.declared.posed.Posable.{Posable}
 
 abbrev pub posed_by : Posable → Posed
-posed_by p = record { expression = p.expression.now; place = p.place; variables = p.variables; check = p.check }
+posed_by p = record {
+  expression = p.expression.now;
+  place = p.place;
+  variables = p.variables;
+  check = p.check;
+}
 
 abbrev pub maybe_posed : Option Posable → Option Posed
 maybe_posed None = None

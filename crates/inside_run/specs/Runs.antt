@@ -1,5 +1,6 @@
 -- An inside that is built until a value is needed.
-use Rattle.std.specs.Prelude.{◌≡◌, ℕ, ◌+◌, ◌*◌, ◌<◌, ◌≤◌, max, List, Option, Some, None, Result, Ok, Err}
+use Rattle.std.specs.Prelude.{◌≡◌, ℕ, ◌+◌, ◌*◌, ◌<◌, ◌≤◌, max, List, Option, Some, None, Result, Ok}
+use Rattle.std.specs.Prelude.{Err}
 use Rattle.param_following.specs.Asking.{Done}
 use Rattle.inside_keys.specs.declared.found.State.{State}
 use Rattle.inside_keys.specs.declared.place.Meaning.{Meaning}
@@ -23,7 +24,9 @@ use Rattle.inside_walk.specs.declared.task.Halt.TheVariants as halt
 use Rattle.inside_walk.specs.declared.task.Next.{Next}
 use Rattle.inside_walk.specs.declared.task.Task.{Task}
 use Rattle.inside_walk.specs.Tasks.{halted, next_of}
-use Rattle.inside_walk.specs.Weights.{of_items, of_submodules, of_type_gates, of_next, of_tasks, of_doing, turns_of, cost_of_next, cost_of_tasks, cost_of_doing}
+use Rattle.inside_walk.specs.Weights.{of_items, of_submodules, of_type_gates, of_next, of_tasks}
+use Rattle.inside_walk.specs.Weights.{of_doing, turns_of, cost_of_next, cost_of_tasks}
+use Rattle.inside_walk.specs.Weights.{cost_of_doing}
 
 -- the one, or else the other
 abbrev pub or_else : {A : Type 0} → Option A → Option A → Option A
@@ -31,13 +34,17 @@ or_else (Some x) other = Some x
 or_else None other = other
 
 -- an expression has come to its value, or needs one
-abbrev pub reached_of : (Reference → Meaning) → Reached → Evaluation → (Value → KeyAsking) → KeyAsking
+abbrev pub reached_of : (Reference → Meaning) → Reached → Evaluation
+    → (Value → KeyAsking) → KeyAsking
 reached_of means (reached.Value v) e next = next v
 reached_of means (reached.Key k) e next = ask_then k (λ v. valued_then means (resumed e v) next)
 
-abbrev pub Reaches : (Reference → Meaning) → Result Reached InsideError → Evaluation → Valued → Type 0
-Reaches means (Ok r) e t = (next : Value → KeyAsking) → reached_of means r e next ≡ valued_then means t next
-Reaches means (Err (stop.Fault f)) e t = (next : Value → KeyAsking) → valued_then means t next ≡ Done (Err f)
+abbrev pub Reaches : (Reference → Meaning) → Result Reached InsideError → Evaluation
+    → Valued → Type 0
+Reaches means (Ok r) e t = (next : Value → KeyAsking)
+    → reached_of means r e next ≡ valued_then means t next
+Reaches means (Err (stop.Fault f)) e t = (next : Value → KeyAsking)
+    → valued_then means t next ≡ Done (Err f)
 Reaches means (Err (stop.Memory m)) e t = Unit {0}
 
 -- one where it needs a value
@@ -75,4 +82,5 @@ module _ (g : Ground) where
 
   -- of an inside of that type that has begun
   abbrev pub begun_load : TypeDeclaration → ℕ
-  begun_load t = of_type_gates g.gates.now + of_submodules g t.submodules + of_items t.connections.items + 1000000 * of_items t.connections.items
+  begun_load t = of_type_gates g.gates.now + of_submodules g t.submodules
+      + of_items t.connections.items + 1000000 * of_items t.connections.items

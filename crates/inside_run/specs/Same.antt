@@ -30,23 +30,29 @@ numbers k l h = (Decides-int_eq k l).0 h
 modules : (a b : Module) → same_module a b ≡ true → a ≡ b
 modules a b h =
     let e = both (a.created == b.created) (bytes_eq a.path b.path) h in
-    ap (λ (c : ℕ). record { created = c; path = a.path }) (eqb-true a.created b.created e.0) ∙ ap (λ (p : List ℕ). record { created = b.created; path = p }) (bytes a.path b.path e.1)
+    ap (λ (c : ℕ). record { created = c; path = a.path }) (eqb-true a.created b.created e.0)
+    ∙ ap (λ (p : List ℕ). record { created = b.created; path = p }) (bytes a.path b.path e.1)
 
 written_at : (a b : WrittenAt) → same_written a b ≡ true → a ≡ b
 written_at a b h =
     let e = both (a.items == b.items) (a.lines == b.lines) h in
-    ap (λ (n : ℕ). record { items = n; lines = a.lines }) (eqb-true a.items b.items e.0) ∙ ap (λ (n : ℕ). record { items = b.items; lines = n }) (eqb-true a.lines b.lines e.1)
+    ap (λ (n : ℕ). record { items = n; lines = a.lines }) (eqb-true a.items b.items e.0)
+    ∙ ap (λ (n : ℕ). record { items = b.items; lines = n }) (eqb-true a.lines b.lines e.1)
 
 turns : (x y : List ℤ) → pointwise int_eq x y ≡ true → x ≡ y
 turns x y h = (slice_eq-Decides Decides-int_eq x y (pointwise int_eq x y) refl).0 h
 
 channels : (a b : ChannelAt) → same_channel a b ≡ true → a ≡ b
 channels a b h =
-    let e = both (bytes_eq a.path b.path) (same_written a.written b.written && pointwise int_eq a.turn b.turn) h in
+    let e = both (bytes_eq a.path b.path) (same_written a.written b.written
+    && pointwise int_eq a.turn b.turn) h in
     let f = both (same_written a.written b.written) (pointwise int_eq a.turn b.turn) e.1 in
-    ap (λ (p : List ℕ). record { path = p; written = a.written; turn = a.turn }) (bytes a.path b.path e.0)
-    ∙ ap (λ (w : WrittenAt). record { path = b.path; written = w; turn = a.turn }) (written_at a.written b.written f.0)
-    ∙ ap (λ (zs : List ℤ). record { path = b.path; written = b.written; turn = zs }) (turns a.turn b.turn f.1)
+    ap (λ (p : List ℕ). record { path = p; written = a.written; turn = a.turn })
+    (bytes a.path b.path e.0)
+    ∙ ap (λ (w : WrittenAt). record { path = b.path; written = w; turn = a.turn })
+    (written_at a.written b.written f.0)
+    ∙ ap (λ (zs : List ℤ). record { path = b.path; written = b.written; turn = zs })
+    (turns a.turn b.turn f.1)
 
 whats : (a b : What) → same_what a b ≡ true → a ≡ b
 whats what.Type what.Type h = refl
@@ -67,20 +73,24 @@ whats (what.Exists x) (what.Exists y) h = ap what.Exists (bytes x y h)
 whats (what.Exists x) _ h = absurd (true≢false (sym h))
 whats (what.ExistsAt x k) (what.ExistsAt y l) h =
     let e = both (bytes_eq x y) (int_eq k l) h in
-    ap (λ (z : List ℕ). what.ExistsAt z k) (bytes x y e.0) ∙ ap (λ (z : ℤ). what.ExistsAt y z) (numbers k l e.1)
+    ap (λ (z : List ℕ). what.ExistsAt z k) (bytes x y e.0)
+    ∙ ap (λ (z : ℤ). what.ExistsAt y z) (numbers k l e.1)
 whats (what.ExistsAt x k) _ h = absurd (true≢false (sym h))
 whats (what.Member s x) (what.Member t y) h =
     let e = both (bytes_eq s t) (bytes_eq x y) h in
-    ap (λ (z : List ℕ). what.Member z x) (bytes s t e.0) ∙ ap (λ (z : List ℕ). what.Member t z) (bytes x y e.1)
+    ap (λ (z : List ℕ). what.Member z x) (bytes s t e.0)
+    ∙ ap (λ (z : List ℕ). what.Member t z) (bytes x y e.1)
 whats (what.Member s x) _ h = absurd (true≢false (sym h))
 whats (what.Element s k x) (what.Element t l y) h =
     let e = both (bytes_eq s t) (int_eq k l && bytes_eq x y) h in
     let f = both (int_eq k l) (bytes_eq x y) e.1 in
-    ap (λ (z : List ℕ). what.Element z k x) (bytes s t e.0) ∙ ap (λ (z : ℤ). what.Element t z x) (numbers k l f.0) ∙ ap (λ (z : List ℕ). what.Element t l z) (bytes x y f.1)
+    ap (λ (z : List ℕ). what.Element z k x) (bytes s t e.0) ∙ ap (λ (z : ℤ). what.Element t z x)
+    (numbers k l f.0) ∙ ap (λ (z : List ℕ). what.Element t l z) (bytes x y f.1)
 whats (what.Element s k x) _ h = absurd (true≢false (sym h))
 whats (what.Channel c x) (what.Channel d y) h =
     let e = both (same_channel c d) (bytes_eq x y) h in
-    ap (λ (z : ChannelAt). what.Channel z x) (channels c d e.0) ∙ ap (λ (z : List ℕ). what.Channel d z) (bytes x y e.1)
+    ap (λ (z : ChannelAt). what.Channel z x) (channels c d e.0)
+    ∙ ap (λ (z : List ℕ). what.Channel d z) (bytes x y e.1)
 whats (what.Channel c x) _ h = absurd (true≢false (sym h))
 whats (what.Carrier c) (what.Carrier d) h = ap what.Carrier (channels c d h)
 whats (what.Carrier c) _ h = absurd (true≢false (sym h))
@@ -135,7 +145,8 @@ alike a b = ap (λ t. same_module a.site b.site && t) (what_alike a.what b.what)
 pub same_are_one : (a b : Key) → same_key a b ≡ true → a ≡ b
 same_are_one a b h =
     let e = both (same_module a.site b.site) (same_what a.what b.what) h in
-    ap (λ (m : Module). record { site = m; what = a.what }) (modules a.site b.site e.0) ∙ ap (λ (w : What). record { site = b.site; what = w }) (whats a.what b.what e.1)
+    ap (λ (m : Module). record { site = m; what = a.what }) (modules a.site b.site e.0)
+    ∙ ap (λ (w : What). record { site = b.site; what = w }) (whats a.what b.what e.1)
 
 -- keys that are the same are one
 pub same_is : (a b : Key) → equal a b ≡ true → a ≡ b

@@ -6,7 +6,12 @@ use Rattle.inside_keys.specs.Settings.{Whereabouts}
 use Rattle.inside_run.specs.declared.scene.Stands.{Stands}
 
 abbrev pub standing_by : Stands → Whereabouts
-standing_by t = record { around = t.around; name = t.name; index = t.index; is_declared = t.is_declared }
+standing_by t = record {
+  around = t.around;
+  name = t.name;
+  index = t.index;
+  is_declared = t.is_declared;
+}
 
 abbrev pub names_in : Option TypeDeclaration → Option (List (List ℕ))
 names_in None = None

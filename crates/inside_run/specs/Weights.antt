@@ -1,5 +1,6 @@
 -- How often keys ask at most, from where they are.
-use Rattle.std.specs.Prelude.{ℕ, ◌+◌, ◌*◌, ◌≤◌, max, length, List, [], ◌∷◌, Option, Some, None, Result, Ok, Err}
+use Rattle.std.specs.Prelude.{ℕ, ◌+◌, ◌*◌, ◌≤◌, max, length, List, [], ◌∷◌, Option, Some, None}
+use Rattle.std.specs.Prelude.{Result, Ok, Err}
 use Rattle.ned_trees.specs.declared.declarations.SectionLine.{SectionLine}
 use Rattle.ned_trees.specs.declared.declarations.Submodule.{Submodule}
 use Rattle.ned_trees.specs.declared.declarations.SubmoduleBody.{SubmoduleBody}
@@ -13,7 +14,8 @@ use Rattle.inside_parts.specs.declared.fault.InsideError.{InsideError}
 use Rattle.inside_keys.specs.declared.key.Module.{Module}
 use Rattle.inside_keys.specs.declared.key.What.{What}
 use Rattle.inside_keys.specs.declared.key.What.TheVariants as what
-use Rattle.inside_keys.specs.Given.{channel_lines, channel_posed, condition_posed, gate_size_posed, parameter_posed, vector_size_posed}
+use Rattle.inside_keys.specs.Given.{channel_lines, channel_posed, condition_posed, gate_size_posed}
+use Rattle.inside_keys.specs.Given.{parameter_posed, vector_size_posed}
 use Rattle.inside_keys.specs.Settings.{Posed, ModuleRules, type_gates}
 use Rattle.inside_keys.specs.Values.{body_by, no_body, type_written}
 use Rattle.inside_run.specs.declared.progress.Moved.{Moved}
@@ -44,7 +46,8 @@ lines_weight (Some lines) = length lines
 -- submodules, where what is known of one weighs as much as `typed`
 abbrev pub submodules_weight : ℕ → List Submodule → ℕ
 submodules_weight typed [] = 1
-submodules_weight typed (l ∷ ls) = (65536 * (typed + 2) + (typed + 2) + 8) + submodules_weight typed ls + 2
+submodules_weight typed (l ∷ ls) =
+    (65536 * (typed + 2) + (typed + 2) + 8) + submodules_weight typed ls + 2
 
 module _ (s : ModuleRules) where
   abbrev pub body_weight : Module → What → TypeDeclaration → SubmoduleBody → ℕ
@@ -53,7 +56,8 @@ module _ (s : ModuleRules) where
   body_weight m _ t body = 0
 
   abbrev pub around_weight : Module → What → TypeDeclaration → List ℕ → ℕ
-  around_weight m w t name = most (λ u. body_weight m w t (body_by (submodule_named name u.submodules))) s.types
+  around_weight m w t name =
+      most (λ u. body_weight m w t (body_by (submodule_named name u.submodules))) s.types
 
   -- what names the type of a submodule of that module
   abbrev pub choice_weight : Module → SubmoduleType → ℕ
@@ -69,13 +73,16 @@ module _ (s : ModuleRules) where
 
   -- an inside of that type
   abbrev pub inside_weight : TypeDeclaration → ℕ
-  inside_weight t = of_type_gates (type_gates s) + submodules_weight (of_types s.types + of_type_gates (type_gates s) + 3) t.submodules
+  inside_weight t = of_type_gates (type_gates s)
+      + submodules_weight (of_types s.types + of_type_gates (type_gates s) + 3) t.submodules
       + of_items t.connections.items + 1000000 * of_items t.connections.items
 
   -- a key of a module of that type
   abbrev pub typed_weight : Module → What → TypeDeclaration → ℕ
-  typed_weight m (what.Param x) t = 1 + body_weight m (what.Param x) t no_body + around_weight m (what.Param x) t (s.stands m).name
-  typed_weight m (what.Declared g) t = 1 + body_weight m (what.Declared g) t no_body + around_weight m (what.Declared g) t (s.stands m).name
+  typed_weight m (what.Param x) t = 1 + body_weight m (what.Param x) t no_body
+      + around_weight m (what.Param x) t (s.stands m).name
+  typed_weight m (what.Declared g) t = 1 + body_weight m (what.Declared g) t no_body
+      + around_weight m (what.Declared g) t (s.stands m).name
   typed_weight m (what.Condition sub) t = posed_weight (condition_posed s m t sub)
   typed_weight m (what.VectorSize sub) t = posed_weight (vector_size_posed s m t sub)
   typed_weight m what.Type t = 0

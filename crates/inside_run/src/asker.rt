@@ -93,8 +93,10 @@ fn own_type<'m, S: ModuleSource>(
     what: What,
     value: &Value,
 ) -> Result<Moved<'m>, InsideError>
-    ensures moves { Moves (S.setting scene.now) result (goes_on (S.setting scene.now) (waits.OwnType site what) (found_as.Value value.now)) }
-    ensures costs { Costs (S.setting scene.now) (weight (S.setting scene.now) (waits.OwnType site what)) result }
+    ensures moves { Moves (S.setting scene.now) result
+        (goes_on (S.setting scene.now) (waits.OwnType site what) (found_as.Value value.now)) }
+    ensures costs { Costs (S.setting scene.now)
+        (weight (S.setting scene.now) (waits.OwnType site what)) result }
 {
     let (number, declared) = type_found(scene, value)?;
     asked_in(alloc, scene, site, what, number, declared, value)
@@ -109,8 +111,10 @@ fn type_around<'m, S: ModuleSource>(
     name: &Text,
     value: &Value,
 ) -> Result<Moved<'m>, InsideError>
-    ensures moves { Moves (S.setting scene.now) result (goes_on (S.setting scene.now) (waits.TypeAround site.now around.now name.now) (found_as.Value value.now)) }
-    ensures costs { Costs (S.setting scene.now) (type_weight (S.setting scene.now) site.now name.now) result }
+    ensures moves { Moves (S.setting scene.now) result (goes_on (S.setting scene.now)
+        (waits.TypeAround site.now around.now name.now) (found_as.Value value.now)) }
+    ensures costs { Costs (S.setting scene.now)
+        (type_weight (S.setting scene.now) site.now name.now) result }
 {
     let (number, declared) = type_found(scene, value)?;
     let submodule = submodule_in(scene, number, declared, name);
@@ -127,8 +131,11 @@ fn body_around<'m, S: ModuleSource>(
     name: &Text,
     value: &Value,
 ) -> Result<Moved<'m>, InsideError>
-    ensures moves { Moves (S.setting scene.now) result (going.typed (S.setting scene.now) (going.body_in (S.setting scene.now) site.now what.now declared.now name.now) (found_as.Value value.now)) }
-    ensures costs { Costs (S.setting scene.now) (around_weight (S.setting scene.now) site.now what.now declared.now name.now) result }
+    ensures moves { Moves (S.setting scene.now) result (going.typed (S.setting scene.now)
+        (going.body_in (S.setting scene.now) site.now what.now declared.now name.now)
+        (found_as.Value value.now)) }
+    ensures costs { Costs (S.setting scene.now)
+        (around_weight (S.setting scene.now) site.now what.now declared.now name.now) result }
 {
     let (number, around) = type_found(scene, value)?;
     let submodule = submodule_in(scene, number, around, name);
@@ -144,7 +151,8 @@ fn inside_around<'m, S: ModuleSource>(
     gate: Text,
     value: &Value,
 ) -> Result<Moved<'m>, InsideError>
-    ensures moves { Moves (S.setting scene.now) result (goes_on (S.setting scene.now) (waits.InsideAround site.now stands gate) (found_as.Value value.now)) }
+    ensures moves { Moves (S.setting scene.now) result (goes_on (S.setting scene.now)
+        (waits.InsideAround site.now stands gate) (found_as.Value value.now)) }
     ensures costs { Costs (S.setting scene.now) 1 result }
 {
     let (number, _) = type_found(scene, value)?;
@@ -162,8 +170,10 @@ fn on_value<'m, S: ModuleSource>(
     progress: KeyProgress<'m>,
     value: &Value,
 ) -> Result<Moved<'m>, InsideError>
-    ensures moves { Moves (S.setting scene.now) result (goes_on (S.setting scene.now) progress.entry (found_as.Value value.now)) }
-    ensures costs { Costs (S.setting scene.now) (weight (S.setting scene.now) progress.entry) result }
+    ensures moves { Moves (S.setting scene.now) result
+        (goes_on (S.setting scene.now) progress.entry (found_as.Value value.now)) }
+    ensures costs { Costs (S.setting scene.now)
+        (weight (S.setting scene.now) progress.entry) result }
 {
     match progress {
         KeyProgress::OwnType(site, what) => own_type(alloc, scene, site, what, value),
@@ -193,8 +203,10 @@ fn on_inside<'m, S: ModuleSource>(
     progress: KeyProgress<'m>,
     inside: &Inside,
 ) -> Result<Moved<'m>, InsideError>
-    ensures moves { Moves (S.setting scene.now) result (goes_on (S.setting scene.now) progress.entry (found_as.Inside inside.now)) }
-    ensures costs { Costs (S.setting scene.now) (weight (S.setting scene.now) progress.entry) result }
+    ensures moves { Moves (S.setting scene.now) result
+        (goes_on (S.setting scene.now) progress.entry (found_as.Inside inside.now)) }
+    ensures costs { Costs (S.setting scene.now)
+        (weight (S.setting scene.now) progress.entry) result }
 {
     match progress {
         KeyProgress::Joined(names, stands, gate) => size_from(scene, names, &stands, &gate, inside),
@@ -209,8 +221,10 @@ fn on_carrier<'m, S: ModuleSource>(
     progress: KeyProgress<'m>,
     carrier: Carrier,
 ) -> Result<Moved<'m>, InsideError>
-    ensures moves { Moves (S.setting _scene.now) result (goes_on (S.setting _scene.now) progress.entry (found_as.Carrier carrier)) }
-    ensures costs { Costs (S.setting _scene.now) (weight (S.setting _scene.now) progress.entry) result }
+    ensures moves { Moves (S.setting _scene.now) result
+        (goes_on (S.setting _scene.now) progress.entry (found_as.Carrier carrier)) }
+    ensures costs { Costs (S.setting _scene.now)
+        (weight (S.setting _scene.now) progress.entry) result }
 {
     match progress {
         KeyProgress::Inside(walking) => carried_inside(alloc, walking.into_inner(), carrier),
@@ -226,8 +240,10 @@ fn proceed<'m, S: ModuleSource>(
     progress: KeyProgress<'m>,
     found: &Found,
 ) -> Result<Moved<'m>, InsideError>
-    ensures moves { Moves (S.setting scene.now) result (goes_on (S.setting scene.now) progress.entry found.now) }
-    ensures costs { Costs (S.setting scene.now) (weight (S.setting scene.now) progress.entry) result }
+    ensures moves { Moves (S.setting scene.now) result
+        (goes_on (S.setting scene.now) progress.entry found.now) }
+    ensures costs { Costs (S.setting scene.now)
+        (weight (S.setting scene.now) progress.entry) result }
 {
     match found {
         Found::Value(value) => on_value(alloc, scene, progress, value),
@@ -256,8 +272,10 @@ fn begin<'m, S: ModuleSource>(
 fn turned<'m>(
     moved: Result<Moved<'m>, InsideError>,
 ) -> Result<(KeyProgress<'m>, EngineStep<Key, Found, InsideFault>), NoMemory>
-    ensures moves { (s : ModuleRules) (t : asked_type) → Moves s moved.entry t → IfOk result (λ turned. came_to (goes_on s turned.0) turned.1 ≡ t) }
-    ensures costs { (s : ModuleRules) (n : ℕ) → Costs s n moved.entry → IfOk result (λ turned. asks turned.1 + weight s turned.0 ≤ n) }
+    ensures moves { (s : ModuleRules) (t : asked_type) → Moves s moved.entry t
+        → IfOk result (λ turned. came_to (goes_on s turned.0) turned.1 ≡ t) }
+    ensures costs { (s : ModuleRules) (n : ℕ) → Costs s n moved.entry
+        → IfOk result (λ turned. asks turned.1 + weight s turned.0 ≤ n) }
 {
     match moved {
         Ok(Moved::Asks(key, progress)) => Ok((progress, EngineStep::Ask(key))),
@@ -280,7 +298,8 @@ impl<'m, S: ModuleSource> Asker for Keys<'m, S> {
 
     ghost circle = { λ keys. Circle };
 
-    ghost resumed = { λ keys evaluation. goes_on (S.setting evaluation.scene.now) evaluation.progress };
+    ghost resumed = { λ keys evaluation.
+        goes_on (S.setting evaluation.scene.now) evaluation.progress };
 
     ghost left = { λ evaluation. weight (S.setting evaluation.scene.now) evaluation.progress };
 

@@ -1,6 +1,7 @@
 //! Channels of connections, and their parameters.
 
-ghost use Rattle.std.specs.Prelude.{◌≡◌, ◌<◌, ◌≤◌, ◌++◌, ◌∷◌, [], IfOk, List, Some, get_or, length, pos, reverse, slice_get, take};
+ghost use Rattle.std.specs.Prelude.{◌≡◌, ◌<◌, ◌≤◌, ◌++◌, ◌∷◌, [], IfOk, List, Some, get_or, length};
+ghost use Rattle.std.specs.Prelude.{pos, reverse, slice_get, take};
 ghost use Rattle.std.specs.Option.{option_copied};
 ghost use Rattle.param_values.specs.Scenes.{given_by, maybe_written};
 ghost use Rattle.param_values.specs.Values.{first_given};
@@ -85,7 +86,8 @@ fn found_line<'m>(around: &'m [Clause], line: Option<&'m ConnectionLine>) -> Opt
 
 /// The connection of a group after which so many stand.
 fn found_in_group<'m>(group: &'m ConnectionGroup, lines: usize) -> Option<FoundLine<'m>>
-    ensures { maybe_found result ≡ given.found_line group.now.clauses (given.behind lines group.now.lines) }
+    ensures { maybe_found result
+        ≡ given.found_line group.now.clauses (given.behind lines group.now.lines) }
 {
     found_line(
         group.clauses.as_slice(),
@@ -149,7 +151,8 @@ fn bind(
     requires { left ≤ length turn.now }
     ensures fewer { IfOk result (λ n. n ≤ left) }
     ensures bound { IfOk result (λ n. (rest : List clause_type)
-        → given.bound_by (clause.now ∷ rest) scope.old (reverse (take left turn.now)) ≡ given.bound_by rest scope.new (reverse (take n turn.now))) }
+        → given.bound_by (clause.now ∷ rest) scope.old (reverse (take left turn.now))
+        ≡ given.bound_by rest scope.new (reverse (take n turn.now))) }
 {
     let Clause::For(repeat) = clause else {
         return Ok(left);
@@ -174,7 +177,8 @@ fn bind_all(
     requires { all ≤ length turn.now }
     ensures fewer { IfOk result (λ n. n ≤ all) }
     ensures bound { IfOk result (λ n. (more : List clause_type)
-        → given.bound_by (clauses.now ++ more) scope.old (reverse (take all turn.now)) ≡ given.bound_by more scope.new (reverse (take n turn.now))) }
+        → given.bound_by (clauses.now ++ more) scope.old (reverse (take all turn.now))
+        ≡ given.bound_by more scope.new (reverse (take n turn.now))) }
 {
     let mut left = all;
     let mut rest = clauses;
@@ -255,7 +259,8 @@ fn channel_place<S: ModuleSource>(
     channel: &ChannelAt,
     section: Section,
 ) -> Result<ExpressionPlace, NoMemory>
-    ensures { IfOk result (λ place. place ≡ channel_place (S.setting scene.now) site.now channel.now section) }
+    ensures { IfOk result
+        (λ place. place ≡ channel_place (S.setting scene.now) site.now channel.now section) }
 {
     let stands = scene.standing(alloc, site)?;
     let own = site.copy(alloc)?;
@@ -280,7 +285,8 @@ fn written<'m, S: ModuleSource>(
     lines: &'m [SectionLine],
     block: &'m [SectionLine],
 ) -> Result<Option<Written<'m>>, NoMemory>
-    ensures { IfOk result (λ found. maybe_written found ≡ first_given (given.given_to_channel lines.now block.now name.now)
+    ensures { IfOk result (λ found. maybe_written found
+        ≡ first_given (given.given_to_channel lines.now block.now name.now)
         ((S.setting scene.now).entry (given.channel_parameter_path channel.now name.now))) }
 {
     let path = parameter_path(alloc, channel, name)?;
@@ -300,7 +306,8 @@ fn parameter_declared<'m, S: ModuleSource>(
     scope: Stack<Binding>,
     declaration: &Declaration,
 ) -> Result<Option<Posable<'m>>, NoMemory>
-    ensures { IfOk result (λ posed. maybe_posed posed ≡ given.channel_posed_by (S.setting scene.now) site.now channel.now lines.now block.now scope name.now (Some declaration.now)) }
+    ensures { IfOk result (λ posed. maybe_posed posed ≡ given.channel_posed_by (S.setting scene.now)
+        site.now channel.now lines.now block.now scope name.now (Some declaration.now)) }
 {
     let Some(written) = written(alloc, scene, channel, name, lines, block)? else {
         return Ok(None);
@@ -326,7 +333,8 @@ fn parameter_over<'m, S: ModuleSource>(
     block: &'m [SectionLine],
     scope: Stack<Binding>,
 ) -> Result<Option<Posable<'m>>, NoMemory>
-    ensures { IfOk result (λ posed. maybe_posed posed ≡ given.channel_posed_over (S.setting scene.now) site.now channel.now (option_copied lines.entry) block.now scope name.now) }
+    ensures { IfOk result (λ posed. maybe_posed posed ≡ given.channel_posed_over (S.setting
+        scene.now) site.now channel.now (option_copied lines.entry) block.now scope name.now) }
 {
     let Some(lines) = lines else {
         return Ok(None);
@@ -353,7 +361,8 @@ fn type_lines<'m, S: ModuleSource>(
     scene: &'m S,
     channel: &Channel,
 ) -> Result<Option<&'m [SectionLine]>, NoMemory>
-    ensures { IfOk result (λ lines. option_copied lines ≡ lines_of (type_names (S.setting scene.now)) (S.setting scene.now).types channel.now) }
+    ensures { IfOk result (λ lines. option_copied lines
+        ≡ lines_of (type_names (S.setting scene.now)) (S.setting scene.now).types channel.now) }
 {
     lines_of(
         alloc,
@@ -374,7 +383,8 @@ fn parameter_of<'m, S: ModuleSource>(
     declared: &'m Channel,
     scope: Stack<Binding>,
 ) -> Result<Option<Posable<'m>>, NoMemory>
-    ensures { IfOk result (λ posed. maybe_posed posed ≡ given.channel_posed_in (S.setting scene.now) site.now channel.now (Some declared.now) scope name.now) }
+    ensures { IfOk result (λ posed. maybe_posed posed ≡ given.channel_posed_in (S.setting scene.now)
+        site.now channel.now (Some declared.now) scope name.now) }
 {
     let lines = type_lines(alloc, scene, declared)?;
     let block = declared.lines.as_slice();
@@ -390,7 +400,8 @@ fn parameter_found<'m, S: ModuleSource>(
     name: &Text,
     found: FoundLine<'m>,
 ) -> Result<Option<Posable<'m>>, NoMemory>
-    ensures { IfOk result (λ posed. maybe_posed posed ≡ given.channel_posed_at (S.setting scene.now) site.now channel.now (Some (found_by found.entry)) name.now) }
+    ensures { IfOk result (λ posed. maybe_posed posed ≡ given.channel_posed_at (S.setting scene.now)
+        site.now channel.now (Some (found_by found.entry)) name.now) }
 {
     let Some(declared) = &found.connection.channel else {
         return Ok(None);
@@ -408,7 +419,8 @@ fn parameter<'m, S: ModuleSource>(
     name: &Text,
     declared: &'m TypeDeclaration,
 ) -> Result<Option<Posable<'m>>, NoMemory>
-    ensures { IfOk result (λ posed. maybe_posed posed ≡ given.channel_posed (S.setting scene.now) site.now channel.now declared.now name.now) }
+    ensures { IfOk result (λ posed. maybe_posed posed ≡ given.channel_posed (S.setting scene.now)
+        site.now channel.now declared.now name.now) }
 {
     match connection_at(channel.written, declared.connections.items.as_slice()) {
         Some(found) => parameter_found(alloc, scene, site, channel, name, found),
@@ -425,8 +437,10 @@ pub fn begin_channel<'m, S: ModuleSource>(
     name: &Text,
     declared: &'m TypeDeclaration,
 ) -> Result<Moved<'m>, InsideError>
-    ensures moves { Moves (S.setting scene.now) result (values.posed_asking (given.channel_posed (S.setting scene.now) site.now channel.now declared.now name.now)) }
-    ensures costs { Costs (S.setting scene.now) (posed_weight (given.channel_posed (S.setting scene.now) site.now channel.now declared.now name.now)) result }
+    ensures moves { Moves (S.setting scene.now) result (values.posed_asking
+        (given.channel_posed (S.setting scene.now) site.now channel.now declared.now name.now)) }
+    ensures costs { Costs (S.setting scene.now) (posed_weight (given.channel_posed
+        (S.setting scene.now) site.now channel.now declared.now name.now)) result }
 {
     let posed = parameter(alloc, scene, site, channel, name, declared)?;
     begin_posed(alloc, posed)
@@ -442,7 +456,8 @@ fn carry<'m>(
     lines: &'m [SectionLine],
     carrier: Carrier,
 ) -> Result<Moved<'m>, InsideError>
-    ensures moves { (s : ModuleRules) → Moves s result (values.carrier site channel lines.now carrier) }
+    ensures moves { (s : ModuleRules)
+        → Moves s result (values.carrier site channel lines.now carrier) }
     ensures costs { (s : ModuleRules) → Costs s (length lines.now) result }
 {
     let mut rest = lines;
@@ -470,7 +485,8 @@ pub fn go_on_carrier<'m>(
     carrying: Carrying<'m>,
     value: &Value,
 ) -> Result<Moved<'m>, InsideError>
-    ensures moves { (s : ModuleRules) → Moves s result (goes_on s (waits.Carried carrying.entry) (found_as.Value value.now)) }
+    ensures moves { (s : ModuleRules)
+        → Moves s result (goes_on s (waits.Carried carrying.entry) (found_as.Value value.now)) }
     ensures costs { (s : ModuleRules) → Costs s (length carrying.entry.lines.now) result }
 {
     let Carrying {
@@ -491,7 +507,8 @@ fn lines_at<'m, S: ModuleSource>(
     channel: &ChannelAt,
     declared: &'m TypeDeclaration,
 ) -> Result<Option<&'m [SectionLine]>, NoMemory>
-    ensures { IfOk result (λ lines. option_copied lines ≡ given.channel_lines (S.setting scene.now) declared.now channel.now) }
+    ensures { IfOk result (λ lines. option_copied lines
+        ≡ given.channel_lines (S.setting scene.now) declared.now channel.now) }
 {
     let found = connection_at(channel.written, declared.connections.items.as_slice());
     match channel_of(found) {
@@ -508,8 +525,10 @@ pub fn begin_carrier<'m, S: ModuleSource>(
     channel: ChannelAt,
     declared: &'m TypeDeclaration,
 ) -> Result<Moved<'m>, InsideError>
-    ensures moves { Moves (S.setting scene.now) result (known_then (given.channel_lines (S.setting scene.now) declared.now channel) (values.carrier_by site channel)) }
-    ensures costs { Costs (S.setting scene.now) (lines_weight (given.channel_lines (S.setting scene.now) declared.now channel)) result }
+    ensures moves { Moves (S.setting scene.now) result (known_then (given.channel_lines
+        (S.setting scene.now) declared.now channel) (values.carrier_by site channel)) }
+    ensures costs { Costs (S.setting scene.now)
+        (lines_weight (given.channel_lines (S.setting scene.now) declared.now channel)) result }
 {
     let Some(lines) = lines_at(alloc, scene, &channel, declared)? else {
         return Err(InsideError::Fault(InsideFault::UnknownType));

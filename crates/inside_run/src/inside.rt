@@ -40,8 +40,10 @@ fn halted<'m>(
     tasks: Stack<Task<'m>>,
     halt: Halt<'m>,
 ) -> Result<Moved<'m>, InsideError>
-    ensures moves { (s : ModuleRules) → Moves s result (halted ground.entry tasks.entry halt.entry) }
-    ensures costs { (s : ModuleRules) (n : ℕ) → AsksWithin ground.entry n tasks.entry halt.entry → Costs s n result }
+    ensures moves { (s : ModuleRules)
+        → Moves s result (halted ground.entry tasks.entry halt.entry) }
+    ensures costs { (s : ModuleRules) (n : ℕ) → AsksWithin ground.entry n tasks.entry halt.entry
+        → Costs s n result }
 {
     match halt {
         Halt::Asks(key, doing, state) => {
@@ -67,8 +69,10 @@ pub fn begin_inside<'m, S: ModuleSource>(
     declared: &'m TypeDeclaration,
 ) -> Result<Moved<'m>, InsideError>
     requires { slice_get (S.setting scene.now).types number ≡ Some declared.now }
-    ensures moves { Moves (S.setting scene.now) result (values.inside_of (S.setting scene.now) site is_whole number declared.now) }
-    ensures costs { Costs (S.setting scene.now) (inside_weight (S.setting scene.now) declared.now) result }
+    ensures moves { Moves (S.setting scene.now) result
+        (values.inside_of (S.setting scene.now) site is_whole number declared.now) }
+    ensures costs { Costs (S.setting scene.now)
+        (inside_weight (S.setting scene.now) declared.now) result }
 {
     let Some(submodules) = scene.submodules(number) else {
         return Err(InsideError::Fault(InsideFault::UnknownType));
@@ -93,8 +97,10 @@ pub fn go_on_inside<'m>(
     walking: Walking<'m>,
     value: &Value,
 ) -> Result<Moved<'m>, InsideError>
-    ensures moves { (s : ModuleRules) → Moves s result (goes_on s (waits.Inside walking.entry) (found_as.Value value.now)) }
-    ensures costs { (s : ModuleRules) → Costs s (load_of walking.entry.ground walking.entry.doing walking.entry.tasks walking.entry.state) result }
+    ensures moves { (s : ModuleRules)
+        → Moves s result (goes_on s (waits.Inside walking.entry) (found_as.Value value.now)) }
+    ensures costs { (s : ModuleRules) → Costs s (load_of walking.entry.ground walking.entry.doing
+        walking.entry.tasks walking.entry.state) result }
 {
     let Walking {
         ground,
@@ -112,8 +118,10 @@ pub fn carried_inside<'m>(
     walking: Walking<'m>,
     carrier: Carrier,
 ) -> Result<Moved<'m>, InsideError>
-    ensures moves { (s : ModuleRules) → Moves s result (goes_on s (waits.Inside walking.entry) (found_as.Carrier carrier)) }
-    ensures costs { (s : ModuleRules) → Costs s (load_of walking.entry.ground walking.entry.doing walking.entry.tasks walking.entry.state) result }
+    ensures moves { (s : ModuleRules)
+        → Moves s result (goes_on s (waits.Inside walking.entry) (found_as.Carrier carrier)) }
+    ensures costs { (s : ModuleRules) → Costs s (load_of walking.entry.ground walking.entry.doing
+        walking.entry.tasks walking.entry.state) result }
 {
     let Walking {
         ground,
@@ -132,7 +140,8 @@ fn size_of_gate<'m>(
     inside: &Inside,
     part: usize,
 ) -> Result<Moved<'m>, InsideError>
-    ensures moves { (s : ModuleRules) (t : standing_type) → gates.now ≡ type_gates s → Moves s result (values.size_of_gate s t gate.now inside.now part) }
+    ensures moves { (s : ModuleRules) (t : standing_type) → gates.now ≡ type_gates s
+        → Moves s result (values.size_of_gate s t gate.now inside.now part) }
     ensures costs { (s : ModuleRules) → Costs s 0 result }
 {
     let found = gate_named(
@@ -155,7 +164,8 @@ pub fn size_from<'m, S: ModuleSource>(
     gate: &Text,
     inside: &Inside,
 ) -> Result<Moved<'m>, InsideError>
-    ensures moves { Moves (S.setting scene.now) result (size_from (S.setting scene.now) names.now (standing_by stands.now) gate.now (found_as.Inside inside.now)) }
+    ensures moves { Moves (S.setting scene.now) result (size_from (S.setting scene.now) names.now
+        (standing_by stands.now) gate.now (found_as.Inside inside.now)) }
     ensures costs { Costs (S.setting scene.now) 0 result }
 {
     let part = part_named(names, &inside.parts, &stands.name, stands.index)?;

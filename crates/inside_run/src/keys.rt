@@ -5,13 +5,15 @@ ghost use Rattle.std.specs.Option.{option_copied};
 ghost use Rattle.inside_parts.specs.Gates as type_gates;
 ghost use Rattle.ned_types.specs.Flat.{submodule_named};
 ghost use Rattle.sim_values.specs.declared.value.Value.TheVariants as value_as;
-ghost use Rattle.inside_keys.specs.Given.{condition_posed, gate_size_posed, has_vector, parameter_posed, vector_size_posed};
+ghost use Rattle.inside_keys.specs.Given.{condition_posed, gate_size_posed, has_vector};
+ghost use Rattle.inside_keys.specs.Given.{parameter_posed, vector_size_posed};
 ghost use Rattle.inside_keys.specs.Settings.{ModuleRules, declarer, declarer_of};
 ghost use Rattle.inside_keys.specs.Values as values;
 ghost use Rattle.inside_run.specs.Going as going;
 ghost use Rattle.inside_run.specs.Going.{Moves, bodied};
 ghost use Rattle.inside_run.specs.Scenes.{standing_by};
-ghost use Rattle.inside_run.specs.Weights.{Costs, around_weight, body_weight, posed_weight, typed_weight};
+ghost use Rattle.inside_run.specs.Weights.{Costs, around_weight, body_weight, posed_weight};
+ghost use Rattle.inside_run.specs.Weights.{typed_weight};
 
 use crate::channels::{begin_carrier, begin_channel};
 use crate::inside::begin_inside;
@@ -32,7 +34,8 @@ use std::alloc::Global;
 
 /// Whether a type has a gate vector of that name.
 fn is_gate_vector(alloc: Global, declared: &TypeDeclaration, name: &Text) -> Result<bool, NoMemory>
-    ensures { IfOk result (λ found. found ≡ has_vector (type_gates.gates_of declared.now.gates) name.now) }
+    ensures { IfOk result
+        (λ found. found ≡ has_vector (type_gates.gates_of declared.now.gates) name.now) }
 {
     let gates = gates_of(alloc, declared.gates.as_slice())?;
     Ok(has_vector(&gates, name))
@@ -58,8 +61,12 @@ fn declared_size<'m, S: ModuleSource>(
     declared: &'m TypeDeclaration,
     submodule: Option<&'m Submodule>,
 ) -> Result<Moved<'m>, InsideError>
-    ensures moves { Moves (S.setting scene.now) result (values.sized_or_open (S.setting scene.now) (gate_size_posed (S.setting scene.now) site.now declared.now (values.body_by (option_copied submodule.entry)) name.now)) }
-    ensures costs { Costs (S.setting scene.now) (posed_weight (gate_size_posed (S.setting scene.now) site.now declared.now (values.body_by (option_copied submodule.entry)) name.now)) result }
+    ensures moves { Moves (S.setting scene.now) result
+        (values.sized_or_open (S.setting scene.now) (gate_size_posed (S.setting scene.now) site.now
+        declared.now (values.body_by (option_copied submodule.entry)) name.now)) }
+    ensures costs { Costs (S.setting scene.now)
+        (posed_weight (gate_size_posed (S.setting scene.now) site.now declared.now
+        (values.body_by (option_copied submodule.entry)) name.now)) result }
 {
     match gate_size(alloc, scene, site, name, declared, submodule)? {
         Some(posed) => begin_posed(alloc, Some(posed)),
@@ -76,8 +83,11 @@ fn declared_gate<'m, S: ModuleSource>(
     declared: &'m TypeDeclaration,
     submodule: Option<&'m Submodule>,
 ) -> Result<Moved<'m>, InsideError>
-    ensures moves { Moves (S.setting scene.now) result (values.declared_asking (S.setting scene.now) site.now declared.now name.now (values.body_by (option_copied submodule.entry))) }
-    ensures costs { Costs (S.setting scene.now) (posed_weight (gate_size_posed (S.setting scene.now) site.now declared.now (values.body_by (option_copied submodule.entry)) name.now)) result }
+    ensures moves { Moves (S.setting scene.now) result (values.declared_asking (S.setting scene.now)
+        site.now declared.now name.now (values.body_by (option_copied submodule.entry))) }
+    ensures costs { Costs (S.setting scene.now)
+        (posed_weight (gate_size_posed (S.setting scene.now) site.now declared.now
+        (values.body_by (option_copied submodule.entry)) name.now)) result }
 {
     if !is_gate_vector(alloc, declared, name)? {
         return Err(InsideError::Fault(InsideFault::NoGate));
@@ -94,8 +104,12 @@ fn parameter_of<'m, S: ModuleSource>(
     declared: &'m TypeDeclaration,
     submodule: Option<&'m Submodule>,
 ) -> Result<Moved<'m>, InsideError>
-    ensures moves { Moves (S.setting scene.now) result (values.posed_asking (parameter_posed (S.setting scene.now) site.now declared.now (values.body_by (option_copied submodule.entry)) name.now)) }
-    ensures costs { Costs (S.setting scene.now) (posed_weight (parameter_posed (S.setting scene.now) site.now declared.now (values.body_by (option_copied submodule.entry)) name.now)) result }
+    ensures moves { Moves (S.setting scene.now)
+        result (values.posed_asking (parameter_posed (S.setting scene.now) site.now declared.now
+        (values.body_by (option_copied submodule.entry)) name.now)) }
+    ensures costs { Costs (S.setting scene.now)
+        (posed_weight (parameter_posed (S.setting scene.now) site.now declared.now
+        (values.body_by (option_copied submodule.entry)) name.now)) result }
 {
     let posed = parameter(alloc, scene, site, name, declared, submodule)?;
     begin_posed(alloc, posed)
@@ -110,8 +124,10 @@ pub fn with_body<'m, S: ModuleSource>(
     declared: &'m TypeDeclaration,
     submodule: Option<&'m Submodule>,
 ) -> Result<Moved<'m>, InsideError>
-    ensures moves { Moves (S.setting scene.now) result (bodied (S.setting scene.now) site.now what.now declared.now (values.body_by (option_copied submodule.entry))) }
-    ensures costs { Costs (S.setting scene.now) (body_weight (S.setting scene.now) site.now what.now declared.now (values.body_by (option_copied submodule.entry))) result }
+    ensures moves { Moves (S.setting scene.now) result (bodied (S.setting scene.now) site.now
+        what.now declared.now (values.body_by (option_copied submodule.entry))) }
+    ensures costs { Costs (S.setting scene.now) (body_weight (S.setting scene.now) site.now what.now
+        declared.now (values.body_by (option_copied submodule.entry))) result }
 {
     match what {
         What::Param(name) => parameter_of(alloc, scene, site, name, declared, submodule),
@@ -128,9 +144,12 @@ fn begin_with_body<'m, S: ModuleSource>(
     what: What,
     declared: &'m TypeDeclaration,
 ) -> Result<Moved<'m>, InsideError>
-    ensures moves { Moves (S.setting scene.now) result (values.body_then (S.setting scene.now) site (bodied (S.setting scene.now) site what declared.now)) }
-    ensures costs { Costs (S.setting scene.now) (1 + body_weight (S.setting scene.now) site what declared.now values.no_body
-        + around_weight (S.setting scene.now) site what declared.now ((S.setting scene.now).stands site).name) result }
+    ensures moves { Moves (S.setting scene.now) result (values.body_then (S.setting scene.now) site
+        (bodied (S.setting scene.now) site what declared.now)) }
+    ensures costs { Costs (S.setting scene.now)
+        (1 + body_weight (S.setting scene.now) site what declared.now values.no_body
+        + around_weight (S.setting scene.now) site what declared.now
+        ((S.setting scene.now).stands site).name) result }
 {
     let stands = scene.standing(alloc, &site)?;
     match declarer_of(&stands) {
@@ -150,7 +169,8 @@ fn finished_size<'m, S: ModuleSource>(
     site: &Module,
     gate: Text,
 ) -> Result<Moved<'m>, InsideError>
-    ensures moves { Moves (S.setting scene.now) result (values.gate_size (S.setting scene.now) site.now gate (declarer (S.setting scene.now) site.now)) }
+    ensures moves { Moves (S.setting scene.now) result (values.gate_size (S.setting scene.now)
+        site.now gate (declarer (S.setting scene.now) site.now)) }
     ensures costs { Costs (S.setting scene.now) 2 result }
 {
     let stands = scene.standing(alloc, site)?;
@@ -206,7 +226,8 @@ pub fn begin_type<'m, S: ModuleSource>(
     scene: &'m S,
     site: &Module,
 ) -> Result<Moved<'m>, InsideError>
-    ensures { Moves (S.setting scene.now) result (values.type_asking (S.setting scene.now) site.now) }
+    ensures { Moves (S.setting scene.now) result
+        (values.type_asking (S.setting scene.now) site.now) }
 {
     let stands = scene.standing(alloc, site)?;
     match declarer_of(&stands) {
@@ -233,8 +254,10 @@ fn begin_condition<'m, S: ModuleSource>(
     declared: &'m TypeDeclaration,
 ) -> Result<Moved<'m>, InsideError>
     requires { slice_get (S.setting scene.now).types number ≡ Some declared.now }
-    ensures moves { Moves (S.setting scene.now) result (values.posed_asking (condition_posed (S.setting scene.now) site.now declared.now name.now)) }
-    ensures costs { Costs (S.setting scene.now) (posed_weight (condition_posed (S.setting scene.now) site.now declared.now name.now)) result }
+    ensures moves { Moves (S.setting scene.now) result (values.posed_asking
+        (condition_posed (S.setting scene.now) site.now declared.now name.now)) }
+    ensures costs { Costs (S.setting scene.now) (posed_weight
+        (condition_posed (S.setting scene.now) site.now declared.now name.now)) result }
 {
     let submodule = submodule_in(scene, number, declared, name);
     let posed = condition(alloc, scene, site, submodule)?;
@@ -251,8 +274,10 @@ fn begin_vector_size<'m, S: ModuleSource>(
     declared: &'m TypeDeclaration,
 ) -> Result<Moved<'m>, InsideError>
     requires { slice_get (S.setting scene.now).types number ≡ Some declared.now }
-    ensures moves { Moves (S.setting scene.now) result (values.posed_asking (vector_size_posed (S.setting scene.now) site.now declared.now name.now)) }
-    ensures costs { Costs (S.setting scene.now) (posed_weight (vector_size_posed (S.setting scene.now) site.now declared.now name.now)) result }
+    ensures moves { Moves (S.setting scene.now) result (values.posed_asking
+        (vector_size_posed (S.setting scene.now) site.now declared.now name.now)) }
+    ensures costs { Costs (S.setting scene.now) (posed_weight
+        (vector_size_posed (S.setting scene.now) site.now declared.now name.now)) result }
 {
     let submodule = submodule_in(scene, number, declared, name);
     let posed = vector_size(alloc, scene, site, submodule)?;
@@ -270,7 +295,8 @@ fn begin_reading<'m, S: ModuleSource>(
     declared: &TypeDeclaration,
 ) -> Result<Moved<'m>, InsideError>
     requires { slice_get (S.setting scene.now).types number ≡ Some declared.now }
-    ensures moves { (s : ModuleRules) → Moves s result (going.read site reading (submodule_named name.now declared.now.submodules)) }
+    ensures moves { (s : ModuleRules) → Moves s result
+        (going.read site reading (submodule_named name.now declared.now.submodules)) }
     ensures costs { (s : ModuleRules) → Costs s 3 result }
 {
     let submodule = submodule_in(scene, number, declared, name);
@@ -290,8 +316,10 @@ pub fn asked_in<'m, S: ModuleSource>(
 ) -> Result<Moved<'m>, InsideError>
     requires there { slice_get (S.setting scene.now).types number ≡ Some declared.now }
     requires same { value.now ≡ value_as.Whole (pos number) }
-    ensures moves { Moves (S.setting scene.now) result (values.asking_in (S.setting scene.now) site what number declared.now) }
-    ensures costs { Costs (S.setting scene.now) (typed_weight (S.setting scene.now) site what declared.now) result }
+    ensures moves { Moves (S.setting scene.now) result
+        (values.asking_in (S.setting scene.now) site what number declared.now) }
+    ensures costs { Costs (S.setting scene.now)
+        (typed_weight (S.setting scene.now) site what declared.now) result }
 {
     match what {
         What::Param(x) => begin_with_body(alloc, scene, site, What::Param(x), declared),

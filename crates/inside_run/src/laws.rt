@@ -14,13 +14,16 @@ ghost use Rattle.inside_keys.specs.declared.key.Key.{Key};
 /// each value is what its asking comes to by the values of the table, and each key stands after
 /// those that it asked for.
 pub fn rests_on_what_was_asked()
-    ensures closed { (s : ModuleRules) (es : Entries Key Found) → IsKept (rules_of s) es → IsClosed (rules_of s) (known same_key es) }
-    ensures sorted { (s : ModuleRules) (es : Entries Key Found) → IsKept (rules_of s) es → IsSorted (rules_of s) es }
+    ensures closed { (s : ModuleRules) (es : Entries Key Found) → IsKept (rules_of s) es
+        → IsClosed (rules_of s) (known same_key es) }
+    ensures sorted { (s : ModuleRules) (es : Entries Key Found) → IsKept (rules_of s) es
+        → IsSorted (rules_of s) es }
 {}
 
 /// After an edit of the model one pass over such a table chooses what to keep: it is right in the
 /// new model and rests on kept values alone, and each key that it gives up rests on one that asks
 /// otherwise.
 pub fn after_edit()
-    ensures { (before after : ModuleRules) (es : Entries Key Found) → IsKept (rules_of before) es → AfterEdit (rules_of before) (rules_of after) es }
+    ensures { (before after : ModuleRules) (es : Entries Key Found) → IsKept (rules_of before) es
+        → AfterEdit (rules_of before) (rules_of after) es }
 {}

@@ -23,7 +23,8 @@ use std::alloc::Global;
 
 /// The path of a submodule, without an index.
 fn line_path(alloc: Global, site: &Module, name: &Text) -> Result<Text, NoMemory>
-    ensures { IfOk result (λ path. path ≡ blame.blamed_for site.now site.now (of.Condition name.now)) }
+    ensures { IfOk result
+        (λ path. path ≡ blame.blamed_for site.now site.now (of.Condition name.now)) }
 {
     let mut path = Vec::from_slice(alloc, site.path.as_bytes())?;
     path.push(b'.')?;
@@ -66,7 +67,8 @@ fn blamed(
     around: Option<&Module>,
     key: &Key,
 ) -> Result<Text, NoMemory>
-    ensures { IfOk result (λ path. path ≡ blame.blamed site.now (option_copied around.entry) key.now) }
+    ensures { IfOk result
+        (λ path. path ≡ blame.blamed site.now (option_copied around.entry) key.now) }
 {
     if !is_param(&key.what) || is_at(Some(site), &key.site) || is_at(around, &key.site) {
         blamed_for(alloc, site, key)
@@ -85,7 +87,8 @@ pub fn placed<S: ModuleSource>(
     around: Option<&Module>,
 ) -> Result<Result<Found, (Text, InsideFault)>, NoMemory>
     requires { IsKept (rules_of (S.setting scene.now)) table.old.entries }
-    ensures placed { IfOk result (λ found. found ≡ blame.placed (value_at (S.setting scene.now)) site.now (option_copied around.entry)
+    ensures placed { IfOk result (λ found. found
+        ≡ blame.placed (value_at (S.setting scene.now)) site.now (option_copied around.entry)
         (asking_of (S.setting scene.now) (keys.key site.now of.Inside))) }
     ensures kept { IsKept (rules_of (S.setting scene.now)) table.new.entries }
 {

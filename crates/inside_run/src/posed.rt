@@ -72,8 +72,10 @@ fn pose<'m>(
     evaluation: Evaluation<'m>,
     turn: EvaluationStep<'m>,
 ) -> Result<Moved<'m>, InsideError>
-    ensures moves { (s : ModuleRules) → Moves s result (valued_then (meant_under variables place) (evaluating.came_to evaluation.entry turn.entry) (λ u. kept (checked check u))) }
-    ensures costs { (s : ModuleRules) → Costs s (evaluating.asks turn.entry + evaluating.left evaluation.entry) result }
+    ensures moves { (s : ModuleRules) → Moves s result (valued_then (meant_under variables place)
+        (evaluating.came_to evaluation.entry turn.entry) (λ u. kept (checked check u))) }
+    ensures costs { (s : ModuleRules)
+        → Costs s (evaluating.asks turn.entry + evaluating.left evaluation.entry) result }
 {
     let mut evaluation = evaluation;
     match reach(alloc, &place, &variables, &mut evaluation, turn)? {
@@ -114,7 +116,8 @@ pub fn go_on_posed<'m>(
     posing: Posing<'m>,
     value: &Value,
 ) -> Result<Moved<'m>, InsideError>
-    ensures moves { (s : ModuleRules) → Moves s result (goes_on s (waits.Posed posing.entry) (found_as.Value value.now)) }
+    ensures moves { (s : ModuleRules)
+        → Moves s result (goes_on s (waits.Posed posing.entry) (found_as.Value value.now)) }
     ensures costs { (s : ModuleRules) → Costs s (evaluating.left posing.entry.evaluation) result }
 {
     let Posing {
@@ -133,7 +136,8 @@ fn index_at<S: ModuleSource>(
     scene: &S,
     around: Option<&Module>,
 ) -> Result<Option<i64>, NoMemory>
-    ensures { IfOk result (λ index. index ≡ index_at (S.setting scene.now) (option_copied around.entry)) }
+    ensures { IfOk result
+        (λ index. index ≡ index_at (S.setting scene.now) (option_copied around.entry)) }
 {
     match around {
         Some(around) => {
@@ -176,7 +180,8 @@ fn maybe<'m, S: ModuleSource>(
     check: Check,
     expression: Option<&'m Expression>,
 ) -> Result<Option<Posable<'m>>, NoMemory>
-    ensures { IfOk result (λ posed. maybe_posed posed ≡ given.maybe_posed (S.setting scene.now) site.now section check (option_copied expression.entry)) }
+    ensures { IfOk result (λ posed. maybe_posed posed ≡ given.maybe_posed (S.setting scene.now)
+        site.now section check (option_copied expression.entry)) }
 {
     let Some(expression) = expression else {
         return Ok(None);
@@ -197,7 +202,8 @@ pub fn condition<'m, S: ModuleSource>(
     site: &Module,
     submodule: Option<&'m Submodule>,
 ) -> Result<Option<Posable<'m>>, NoMemory>
-    ensures { IfOk result (λ posed. maybe_posed posed ≡ given.condition_in (S.setting scene.now) site.now (option_copied submodule.entry)) }
+    ensures { IfOk result (λ posed. maybe_posed posed
+        ≡ given.condition_in (S.setting scene.now) site.now (option_copied submodule.entry)) }
 {
     let Some(submodule) = submodule else {
         return Ok(None);
@@ -220,7 +226,8 @@ pub fn vector_size<'m, S: ModuleSource>(
     site: &Module,
     submodule: Option<&'m Submodule>,
 ) -> Result<Option<Posable<'m>>, NoMemory>
-    ensures { IfOk result (λ posed. maybe_posed posed ≡ given.vector_size_in (S.setting scene.now) site.now (option_copied submodule.entry)) }
+    ensures { IfOk result (λ posed. maybe_posed posed
+        ≡ given.vector_size_in (S.setting scene.now) site.now (option_copied submodule.entry)) }
 {
     let Some(submodule) = submodule else {
         return Ok(None);
@@ -256,7 +263,8 @@ pub fn given_in(section: WrittenSection, value: Option<&ParameterValue>) -> Opti
 /// What gives a parameter its value, of what the NED text gives it and what the ini text says for
 /// it.
 pub fn chosen<'m>(given: Option<Given<'m>>, entry: Option<&'m EntryValue>) -> Option<Written<'m>>
-    ensures { maybe_written result ≡ first_given (given_by given.entry) (option_copied entry.entry) }
+    ensures { maybe_written result
+        ≡ first_given (given_by given.entry) (option_copied entry.entry) }
 {
     match (given, entry) {
         (Some(Given::Fixed(written)), _) => Some(written),
@@ -295,7 +303,8 @@ fn given_to<'m>(
     submodule: Option<&'m Submodule>,
     name: &[u8],
 ) -> Option<Given<'m>>
-    ensures { given_by result ≡ given.given_to declared.now (body_by (option_copied submodule.entry)) name.now }
+    ensures { given_by result
+        ≡ given.given_to declared.now (body_by (option_copied submodule.entry)) name.now }
 {
     match given_in(
         WrittenSection::OfBody,
@@ -338,7 +347,8 @@ fn written<'m, S: ModuleSource>(
     declared: &'m TypeDeclaration,
     submodule: Option<&'m Submodule>,
 ) -> Result<Option<Written<'m>>, NoMemory>
-    ensures { IfOk result (λ found. maybe_written found ≡ first_given (given.given_to declared.now (body_by (option_copied submodule.entry)) name.now)
+    ensures { IfOk result (λ found. maybe_written found ≡ first_given
+        (given.given_to declared.now (body_by (option_copied submodule.entry)) name.now)
         ((S.setting scene.now).entry (given.parameter_path site.now name.now))) }
 {
     let path = parameter_path(alloc, site, name)?;
@@ -356,7 +366,9 @@ fn parameter_declared<'m, S: ModuleSource>(
     submodule: Option<&'m Submodule>,
     declaration: &Declaration,
 ) -> Result<Option<Posable<'m>>, NoMemory>
-    ensures { IfOk result (λ posed. maybe_posed posed ≡ given.parameter_by (S.setting scene.now) site.now declared.now (body_by (option_copied submodule.entry)) name.now (Some declaration.now)) }
+    ensures { IfOk result
+        (λ posed. maybe_posed posed ≡ given.parameter_by (S.setting scene.now) site.now declared.now
+        (body_by (option_copied submodule.entry)) name.now (Some declaration.now)) }
 {
     let Some(written) = written(alloc, scene, site, name, declared, submodule)? else {
         return Ok(None);
@@ -380,7 +392,8 @@ pub fn parameter<'m, S: ModuleSource>(
     declared: &'m TypeDeclaration,
     submodule: Option<&'m Submodule>,
 ) -> Result<Option<Posable<'m>>, NoMemory>
-    ensures { IfOk result (λ posed. maybe_posed posed ≡ given.parameter_posed (S.setting scene.now) site.now declared.now (body_by (option_copied submodule.entry)) name.now) }
+    ensures { IfOk result (λ posed. maybe_posed posed ≡ given.parameter_posed (S.setting scene.now)
+        site.now declared.now (body_by (option_copied submodule.entry)) name.now) }
 {
     let Some(declaration) = declaration_named(name.as_bytes(), declared.lines.as_slice()) else {
         return Ok(None);
@@ -429,7 +442,8 @@ pub fn gate_size<'m, S: ModuleSource>(
     declared: &'m TypeDeclaration,
     submodule: Option<&'m Submodule>,
 ) -> Result<Option<Posable<'m>>, NoMemory>
-    ensures { IfOk result (λ posed. maybe_posed posed ≡ given.gate_size_posed (S.setting scene.now) site.now declared.now (body_by (option_copied submodule.entry)) name.now) }
+    ensures { IfOk result (λ posed. maybe_posed posed ≡ given.gate_size_posed (S.setting scene.now)
+        site.now declared.now (body_by (option_copied submodule.entry)) name.now) }
 {
     match last_size(name.as_bytes(), body_gates(submodule)) {
         Some(size) => maybe(

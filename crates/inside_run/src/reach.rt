@@ -31,7 +31,8 @@ fn meaning<V: Variables>(
     variables: &V,
     name: Name<'_>,
 ) -> Result<Meaning, NoMemory>
-    ensures { IfOk result (λ m. m ≡ meant_under (V.scope variables.now) place.now (reference_of name.entry)) }
+    ensures { IfOk result
+        (λ m. m ≡ meant_under (V.scope variables.now) place.now (reference_of name.entry)) }
 {
     if let Name::Own(x) = name {
         if let Some(number) = variables.value_of(x) {
@@ -49,8 +50,10 @@ pub fn reach<'m, V: Variables>(
     evaluation: &mut Evaluation<'m>,
     turn: EvaluationStep<'m>,
 ) -> Result<Reached, InsideError>
-    ensures reaches { Reaches (meant_under (V.scope variables.now) place.now) result evaluation.new (evaluating.came_to evaluation.old turn.entry) }
-    ensures less { IfOk result (λ r. needs r + evaluating.left evaluation.new ≤ evaluating.asks turn.entry + evaluating.left evaluation.old) }
+    ensures reaches { Reaches (meant_under (V.scope variables.now) place.now) result evaluation.new
+        (evaluating.came_to evaluation.old turn.entry) }
+    ensures less { IfOk result (λ r. needs r + evaluating.left evaluation.new
+        ≤ evaluating.asks turn.entry + evaluating.left evaluation.old) }
 {
     let mut turn = turn;
     loop {

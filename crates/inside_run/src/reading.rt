@@ -61,7 +61,8 @@ fn of_child<'m>(
     index: Option<u32>,
     parameter: Text,
 ) -> Result<Moved<'m>, InsideError>
-    ensures moves { (s : ModuleRules) → Moves s result (values.of_child site.now name.now index parameter) }
+    ensures moves { (s : ModuleRules)
+        → Moves s result (values.of_child site.now name.now index parameter) }
     ensures costs { (s : ModuleRules) → Costs s 1 result }
 {
     let child = site.child(alloc, name, index)?;
@@ -126,7 +127,8 @@ fn at_index<'m>(
     index: Option<u32>,
     parameter: Text,
 ) -> Result<Moved<'m>, InsideError>
-    ensures moves { (s : ModuleRules) → Moves s result (values.at_index site.now name.now parameter index) }
+    ensures moves { (s : ModuleRules)
+        → Moves s result (values.at_index site.now name.now parameter index) }
     ensures costs { (s : ModuleRules) → Costs s 1 result }
 {
     match index {
@@ -143,7 +145,8 @@ fn counted<'m>(
     reading: Reading,
     count: u32,
 ) -> Result<Moved<'m>, InsideError>
-    ensures moves { (s : ModuleRules) → Moves s result (going.counted site.now name.now reading count) }
+    ensures moves { (s : ModuleRules)
+        → Moves s result (going.counted site.now name.now reading count) }
     ensures costs { (s : ModuleRules) → Costs s 1 result }
 {
     match reading {
@@ -176,7 +179,8 @@ fn read_declared<'m>(
     reading: Reading,
     submodule: &Submodule,
 ) -> Result<Moved<'m>, InsideError>
-    ensures moves { (s : ModuleRules) → Moves s result (going.read site reading (Some submodule.now)) }
+    ensures moves { (s : ModuleRules)
+        → Moves s result (going.read site reading (Some submodule.now)) }
     ensures costs { (s : ModuleRules) → Costs s 3 result }
 {
     if !fits(&reading, submodule.size.is_some()) {
@@ -197,7 +201,8 @@ pub fn read<'m>(
     reading: Reading,
     submodule: Option<&Submodule>,
 ) -> Result<Moved<'m>, InsideError>
-    ensures moves { (s : ModuleRules) → Moves s result (going.read site reading (option_copied submodule.entry)) }
+    ensures moves { (s : ModuleRules)
+        → Moves s result (going.read site reading (option_copied submodule.entry)) }
     ensures costs { (s : ModuleRules) → Costs s 3 result }
 {
     match submodule {
@@ -214,7 +219,8 @@ pub fn held<'m>(
     reading: Reading,
     value: &Value,
 ) -> Result<Moved<'m>, InsideError>
-    ensures moves { (s : ModuleRules) → Moves s result (goes_on s (waits.Condition site name reading) (found_as.Value value.now)) }
+    ensures moves { (s : ModuleRules) → Moves s result
+        (goes_on s (waits.Condition site name reading) (found_as.Value value.now)) }
     ensures costs { (s : ModuleRules) → Costs s 2 result }
 {
     match value {
@@ -232,7 +238,8 @@ pub fn sized<'m>(
     reading: Reading,
     value: &Value,
 ) -> Result<Moved<'m>, InsideError>
-    ensures moves { (s : ModuleRules) → Moves s result (goes_on s (waits.VectorSize site name reading) (found_as.Value value.now)) }
+    ensures moves { (s : ModuleRules) → Moves s result
+        (goes_on s (waits.VectorSize site name reading) (found_as.Value value.now)) }
     ensures costs { (s : ModuleRules) → Costs s 1 result }
 {
     let count = size(value)?;

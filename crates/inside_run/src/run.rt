@@ -5,7 +5,8 @@ ghost use Rattle.param_following.specs.Asking.{Done};
 ghost use Rattle.inside_keys.specs.Asked.{KeyAsking as asked_type};
 ghost use Rattle.inside_keys.specs.Inside as inside;
 ghost use Rattle.inside_run.specs.Runs.{AsksWithin, Comes, IsWithin, begun_load, load, load_of};
-ghost use Rattle.inside_walk.specs.Tasks.{Halts, Leads, after, continued, done_with, halted, next_of, scope_of, wanted};
+ghost use Rattle.inside_walk.specs.Tasks.{Halts, Leads, after, continued, done_with, halted};
+ghost use Rattle.inside_walk.specs.Tasks.{next_of, scope_of, wanted};
 ghost use Rattle.inside_walk.specs.declared.task.Ground.{Ground as ground_type};
 ghost use Rattle.inside_walk.specs.declared.task.Task.{Task as task_type};
 ghost use Rattle.inside_keys.specs.declared.found.Found.TheVariants as As;
@@ -45,8 +46,10 @@ fn step<'m>(
     task: Task<'m>,
     state: State,
 ) -> Result<Next<'m>, InsideError>
-    ensures leads { Leads ground.now result tasks.new (after ground.now task.entry (scope_of tasks.old) state (continued ground.now tasks.old)) }
-    ensures spends { Spends ground.now (of_task ground.now task.entry) (cost_of_task task.entry) tasks.old state.turns result tasks.new }
+    ensures leads { Leads ground.now result tasks.new
+        (after ground.now task.entry (scope_of tasks.old) state (continued ground.now tasks.old)) }
+    ensures spends { Spends ground.now (of_task ground.now task.entry) (cost_of_task task.entry)
+        tasks.old state.turns result tasks.new }
 {
     match task {
         Task::Parameters(holder, names) => parameters(alloc, ground, tasks, holder, names, state),
@@ -73,8 +76,10 @@ fn wanted_number<'m>(
     number: i64,
     state: State,
 ) -> Result<Next<'m>, InsideError>
-    ensures leads { Leads ground.now result tasks.new (wanted ground.now want.entry (Value.Whole number) (scope_of tasks.old) state (continued ground.now tasks.old)) }
-    ensures spends { Spends ground.now (of_want ground.now want.entry) (cost_of_want want.entry) tasks.old state.turns result tasks.new }
+    ensures leads { Leads ground.now result tasks.new (wanted ground.now want.entry
+        (Value.Whole number) (scope_of tasks.old) state (continued ground.now tasks.old)) }
+    ensures spends { Spends ground.now (of_want ground.now want.entry) (cost_of_want want.entry)
+        tasks.old state.turns result tasks.new }
 {
     match want {
         Want::If(_, _) => Err(InsideError::Fault(InsideFault::Mismatch)),
@@ -105,8 +110,11 @@ fn decided<'m>(
     holds: bool,
     state: State,
 ) -> Result<Next<'m>, InsideError>
-    ensures leads { Leads ground.now result tasks.new (wanted ground.now (On.If list.entry body.entry) (Value.Truth holds) (scope_of tasks.old) state (continued ground.now tasks.old)) }
-    ensures spends { Spends ground.now (of_want ground.now (On.If list.entry body.entry)) (cost_of_want (On.If list.entry body.entry)) tasks.old state.turns result tasks.new }
+    ensures leads { Leads ground.now result tasks.new
+        (wanted ground.now (On.If list.entry body.entry) (Value.Truth holds) (scope_of tasks.old)
+        state (continued ground.now tasks.old)) }
+    ensures spends { Spends ground.now (of_want ground.now (On.If list.entry body.entry))
+        (cost_of_want (On.If list.entry body.entry)) tasks.old state.turns result tasks.new }
 {
     if holds {
         clauses(alloc, ground, tasks, list, body, state)
@@ -124,8 +132,10 @@ fn wanted_truth<'m>(
     holds: bool,
     state: State,
 ) -> Result<Next<'m>, InsideError>
-    ensures leads { Leads ground.now result tasks.new (wanted ground.now want.entry (Value.Truth holds) (scope_of tasks.old) state (continued ground.now tasks.old)) }
-    ensures spends { Spends ground.now (of_want ground.now want.entry) (cost_of_want want.entry) tasks.old state.turns result tasks.new }
+    ensures leads { Leads ground.now result tasks.new (wanted ground.now want.entry
+        (Value.Truth holds) (scope_of tasks.old) state (continued ground.now tasks.old)) }
+    ensures spends { Spends ground.now (of_want ground.now want.entry) (cost_of_want want.entry)
+        tasks.old state.turns result tasks.new }
 {
     match want {
         Want::If(list, body) => decided(alloc, ground, tasks, list, body, holds, state),
@@ -142,8 +152,10 @@ fn wanted<'m>(
     value: Value,
     state: State,
 ) -> Result<Next<'m>, InsideError>
-    ensures leads { Leads ground.now result tasks.new (wanted ground.now want.entry value (scope_of tasks.old) state (continued ground.now tasks.old)) }
-    ensures spends { Spends ground.now (of_want ground.now want.entry) (cost_of_want want.entry) tasks.old state.turns result tasks.new }
+    ensures leads { Leads ground.now result tasks.new (wanted ground.now want.entry value
+        (scope_of tasks.old) state (continued ground.now tasks.old)) }
+    ensures spends { Spends ground.now (of_want ground.now want.entry) (cost_of_want want.entry)
+        tasks.old state.turns result tasks.new }
 {
     match value {
         Value::Whole(number) => wanted_number(alloc, ground, tasks, want, number, state),
@@ -176,16 +188,20 @@ pub enum Came<'m> {
 
 /// It stops there.
 fn stopped<'m>(alloc: Global, halt: Halt<'m>) -> Result<Came<'m>, InsideError>
-    ensures comes { (g : ground_type) (ts : List task_type) (t : asked_type) → halted g ts halt.entry ≡ t → Comes g result ts t }
-    ensures within { (g : ground_type) (ts : List task_type) (n : ℕ) → AsksWithin g n ts halt.entry → IfOk result (λ c. IsWithin g n ts c) }
+    ensures comes { (g : ground_type) (ts : List task_type) (t : asked_type)
+        → halted g ts halt.entry ≡ t → Comes g result ts t }
+    ensures within { (g : ground_type) (ts : List task_type) (n : ℕ) → AsksWithin g n ts halt.entry
+        → IfOk result (λ c. IsWithin g n ts c) }
 {
     Ok(Came::Halt(Boxed::new(alloc, halt)?))
 }
 
 /// More is to be done.
 fn led<'m>(next: Result<Next<'m>, InsideError>) -> Result<Came<'m>, InsideError>
-    ensures comes { (g : ground_type) (ts : List task_type) (t : asked_type) → Leads g next.entry ts t → Comes g result ts t }
-    ensures within { (g : ground_type) (ts : List task_type) (n : ℕ) → IfOk next.entry (λ m. load g m ts < n) → IfOk result (λ c. IsWithin g n ts c) }
+    ensures comes { (g : ground_type) (ts : List task_type) (t : asked_type)
+        → Leads g next.entry ts t → Comes g result ts t }
+    ensures within { (g : ground_type) (ts : List task_type) (n : ℕ)
+        → IfOk next.entry (λ m. load g m ts < n) → IfOk result (λ c. IsWithin g n ts c) }
 {
     match next {
         Ok(next) => Ok(Came::Next(next)),
@@ -203,8 +219,10 @@ fn expressed<'m>(
     want: Want<'m>,
     state: State,
 ) -> Result<Came<'m>, InsideError>
-    ensures comes { Comes ground.now result tasks.new (next_of ground.now tasks.old (Steps.At evaluation.entry turn.entry want.entry state)) }
-    ensures within { IfOk result (λ c. IsWithin ground.now (load ground.now (Steps.At evaluation.entry turn.entry want.entry state) tasks.old) tasks.new c) }
+    ensures comes { Comes ground.now result tasks.new
+        (next_of ground.now tasks.old (Steps.At evaluation.entry turn.entry want.entry state)) }
+    ensures within { IfOk result (λ c. IsWithin ground.now (load ground.now
+        (Steps.At evaluation.entry turn.entry want.entry state) tasks.old) tasks.new c) }
 {
     let mut evaluation = evaluation;
     match reach(alloc, &ground.place, tasks, &mut evaluation, turn) {
@@ -224,8 +242,10 @@ fn worked<'m>(
     tasks: &mut Stack<Task<'m>>,
     state: State,
 ) -> Result<Came<'m>, InsideError>
-    ensures comes { Comes ground.now result tasks.new (next_of ground.now tasks.old (Steps.Go state)) }
-    ensures within { IfOk result (λ c. IsWithin ground.now (load ground.now (Steps.Go state) tasks.old) tasks.new c) }
+    ensures comes { Comes ground.now result tasks.new
+        (next_of ground.now tasks.old (Steps.Go state)) }
+    ensures within { IfOk result
+        (λ c. IsWithin ground.now (load ground.now (Steps.Go state) tasks.old) tasks.new c) }
 {
     match tasks.pop() {
         Some(task) => led(step(alloc, ground, tasks, task, state)),
@@ -241,7 +261,8 @@ fn moved<'m>(
     next: Next<'m>,
 ) -> Result<Came<'m>, InsideError>
     ensures comes { Comes ground.now result tasks.new (next_of ground.now tasks.old next.entry) }
-    ensures within { IfOk result (λ c. IsWithin ground.now (load ground.now next.entry tasks.old) tasks.new c) }
+    ensures within { IfOk result
+        (λ c. IsWithin ground.now (load ground.now next.entry tasks.old) tasks.new c) }
 {
     match next {
         Next::Ask(key, wait, state) => stopped(alloc, Halt::Asks(key, Doing::Key(wait), state)),
@@ -263,7 +284,8 @@ pub fn run<'m>(
     next: Next<'m>,
 ) -> Result<Halt<'m>, InsideError>
     ensures halts { Halts ground.now result tasks.new (next_of ground.now tasks.old next.entry) }
-    ensures within { IfOk result (λ h. AsksWithin ground.now (load ground.now next.entry tasks.old) tasks.new h) }
+    ensures within { IfOk result
+        (λ h. AsksWithin ground.now (load ground.now next.entry tasks.old) tasks.new h) }
 {
     let mut next = next;
     loop {
@@ -307,8 +329,11 @@ pub fn start<'m>(
 ) -> Result<Halt<'m>, InsideError>
     requires none { tasks.old ≡ [] }
     requires names { ground.now.submodules.now ≡ inside.submodule_names declared.now }
-    ensures halts { Halts ground.now result tasks.new (inside.inside ground.now.site ground.now.types.now ground.now.gates.now ground.now.is_whole ground.now.place number declared.now) }
-    ensures within { IfOk result (λ h. AsksWithin ground.now (begun_load ground.now declared.now) tasks.new h) }
+    ensures halts { Halts ground.now result tasks.new
+        (inside.inside ground.now.site ground.now.types.now ground.now.gates.now ground.now.is_whole
+        ground.now.place number declared.now) }
+    ensures within { IfOk result
+        (λ h. AsksWithin ground.now (begun_load ground.now declared.now) tasks.new h) }
 {
     let site = ground.site.copy(alloc)?;
     let gates = gates_of(ground.gates, number);
@@ -329,8 +354,10 @@ fn resume_expression<'m>(
     state: State,
     value: &Value,
 ) -> Result<Next<'m>, InsideError>
-    ensures leads { Leads _ground.now result _tasks.new (done_with _ground.now (For.Expression evaluation.entry want.entry) _tasks.old state (As.Value value.now)) }
-    ensures within { IfOk result (λ n. load _ground.now n _tasks.new ≤ load_of _ground.now (For.Expression evaluation.entry want.entry) _tasks.old state) }
+    ensures leads { Leads _ground.now result _tasks.new (done_with _ground.now
+        (For.Expression evaluation.entry want.entry) _tasks.old state (As.Value value.now)) }
+    ensures within { IfOk result (λ n. load _ground.now n _tasks.new
+        ≤ load_of _ground.now (For.Expression evaluation.entry want.entry) _tasks.old state) }
 {
     let mut evaluation = evaluation;
     let turn = evaluation.go_on(alloc, value.copy(alloc)?)?;
@@ -346,8 +373,10 @@ fn resume<'m>(
     state: State,
     value: &Value,
 ) -> Result<Next<'m>, InsideError>
-    ensures leads { Leads ground.now result tasks.new (done_with ground.now doing.entry tasks.old state (As.Value value.now)) }
-    ensures within { IfOk result (λ n. load ground.now n tasks.new ≤ load_of ground.now doing.entry tasks.old state) }
+    ensures leads { Leads ground.now result tasks.new
+        (done_with ground.now doing.entry tasks.old state (As.Value value.now)) }
+    ensures within { IfOk result
+        (λ n. load ground.now n tasks.new ≤ load_of ground.now doing.entry tasks.old state) }
 {
     match doing {
         Doing::Key(wait) => waited(alloc, ground, tasks, wait, value, state),
@@ -367,9 +396,11 @@ pub fn go_on<'m>(
     state: State,
     value: &Value,
 ) -> Result<Halt<'m>, InsideError>
-    ensures halts { Halts ground.now result tasks.new (done_with ground.now doing.entry tasks.old state (As.Value value.now)) }
+    ensures halts { Halts ground.now result tasks.new
+        (done_with ground.now doing.entry tasks.old state (As.Value value.now)) }
     // It doesn't ask without end.
-    ensures less { IfOk result (λ h. AsksWithin ground.now (load_of ground.now doing.entry tasks.old state) tasks.new h) }
+    ensures less { IfOk result
+        (λ h. AsksWithin ground.now (load_of ground.now doing.entry tasks.old state) tasks.new h) }
 {
     let next = resume(alloc, ground, tasks, doing, state, value)?;
     run(alloc, ground, tasks, next)
@@ -384,8 +415,10 @@ fn resume_carrier<'m>(
     state: State,
     carrier: Carrier,
 ) -> Result<Next<'m>, InsideError>
-    ensures leads { Leads ground.now result tasks.new (done_with ground.now doing.entry tasks.old state (As.Carrier carrier)) }
-    ensures within { IfOk result (λ n. load ground.now n tasks.new ≤ load_of ground.now doing.entry tasks.old state) }
+    ensures leads { Leads ground.now result tasks.new
+        (done_with ground.now doing.entry tasks.old state (As.Carrier carrier)) }
+    ensures within { IfOk result
+        (λ n. load ground.now n tasks.new ≤ load_of ground.now doing.entry tasks.old state) }
 {
     match doing {
         Doing::Carrier(carry) => carried(alloc, ground, tasks, carry, carrier, state),
@@ -403,8 +436,10 @@ pub fn go_on_carrier<'m>(
     state: State,
     carrier: Carrier,
 ) -> Result<Halt<'m>, InsideError>
-    ensures halts { Halts ground.now result tasks.new (done_with ground.now doing.entry tasks.old state (As.Carrier carrier)) }
-    ensures less { IfOk result (λ h. AsksWithin ground.now (load_of ground.now doing.entry tasks.old state) tasks.new h) }
+    ensures halts { Halts ground.now result tasks.new
+        (done_with ground.now doing.entry tasks.old state (As.Carrier carrier)) }
+    ensures less { IfOk result
+        (λ h. AsksWithin ground.now (load_of ground.now doing.entry tasks.old state) tasks.new h) }
 {
     let next = resume_carrier(alloc, ground, tasks, doing, state, carrier)?;
     run(alloc, ground, tasks, next)

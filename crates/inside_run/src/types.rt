@@ -1,6 +1,7 @@
 //! Types that values choose.
 
-ghost use Rattle.std.specs.Prelude.{◌≡◌, ◌+◌, ◌<◌, ◌^◌, ◌++◌, ◌∷◌, ◌&&◌, [], IfOk, IfSome, Some, codes, length, not, slice_get};
+ghost use Rattle.std.specs.Prelude.{◌≡◌, ◌+◌, ◌<◌, ◌^◌, ◌++◌, ◌∷◌, ◌&&◌, [], IfOk, IfSome, Some};
+ghost use Rattle.std.specs.Prelude.{codes, length, not, slice_get};
 ghost use Rattle.std.specs.List.{list_any};
 ghost use Rattle.inside_parts.specs.Names.{is_one};
 ghost use Rattle.ned_types.specs.Types.{gives_fixed, is_fixed_in, is_kind_of_modules, is_refixed};
@@ -66,7 +67,8 @@ fn base_of<'m, S: ModuleSource>(
     scene: &'m S,
     declared: &TypeDeclaration,
 ) -> Option<&'m TypeDeclaration>
-    ensures { option_copied result ≡ option_and_then (values.type_named (S.setting scene.now)) declared.now.base }
+    ensures { option_copied result
+        ≡ option_and_then (values.type_named (S.setting scene.now)) declared.now.base }
 {
     let name = declared.base.as_ref()?;
     type_at(scene, scene.type_number(name)?)
@@ -79,7 +81,8 @@ fn inner_along<'m, S: ModuleSource>(
     declared: &'m TypeDeclaration,
     name: &[u8],
 ) -> Result<Option<usize>, NoMemory>
-    ensures same { IfOk result (λ number. number ≡ values.inner_along (S.setting scene.now) (length (S.setting scene.now).types) (Some declared.now) name.now) }
+    ensures same { IfOk result (λ number. number ≡ values.inner_along (S.setting scene.now)
+        (length (S.setting scene.now).types) (Some declared.now) name.now) }
     ensures small { IfOk result (λ number. IfSome number (λ n. n < 2 ^ 63)) }
 {
     let mut next = Some(declared);
@@ -105,7 +108,8 @@ fn type_meant<S: ModuleSource>(
     declared: &TypeDeclaration,
     name: &Text,
 ) -> Result<Option<usize>, NoMemory>
-    ensures same { IfOk result (λ number. number ≡ values.type_meant (S.setting scene.now) declared.now name.now) }
+    ensures same { IfOk result
+        (λ number. number ≡ values.type_meant (S.setting scene.now) declared.now name.now) }
     ensures small { IfOk result (λ number. IfSome number (λ n. n < 2 ^ 63)) }
 {
     let last = last_name(name.as_bytes());
@@ -157,7 +161,8 @@ fn is_one(name: &Text, names: &[Text]) -> bool
 
 /// Whether a type may stand after `like`.
 fn keeps(parametric: &ParametricType, body: &SubmoduleBody, declared: &TypeDeclaration) -> bool
-    ensures { result ≡ (is_kind_of_modules declared.now.kind && (is_one parametric.now.interface declared.now.interfaces
+    ensures { result ≡ (is_kind_of_modules declared.now.kind
+        && (is_one parametric.now.interface declared.now.interfaces
         && not (list_any (λ l. is_refixed declared.now.lines l) body.now.lines))) }
 {
     is_of_modules(declared.kind)
@@ -173,7 +178,8 @@ fn kept_type<'m>(
     declared: Option<&TypeDeclaration>,
 ) -> Result<Moved<'m>, InsideError>
     requires { number < 2 ^ 63 }
-    ensures moves { (s : ModuleRules) → Moves s result (values.kept_type s parametric.now body.now number (option_copied declared.entry)) }
+    ensures moves { (s : ModuleRules) → Moves s result
+        (values.kept_type s parametric.now body.now number (option_copied declared.entry)) }
     ensures costs { (s : ModuleRules) → Costs s 0 result }
 {
     match declared {
@@ -215,7 +221,9 @@ fn named_type<'m, S: ModuleSource>(
     body: &SubmoduleBody,
     name: &Text,
 ) -> Result<Moved<'m>, InsideError>
-    ensures moves { Moves (S.setting scene.now) result (values.type_found (S.setting scene.now) parametric.now body.now name.now (values.type_meant (S.setting scene.now) declared.now name.now)) }
+    ensures moves { Moves (S.setting scene.now)
+        result (values.type_found (S.setting scene.now) parametric.now body.now name.now
+        (values.type_meant (S.setting scene.now) declared.now name.now)) }
     ensures costs { Costs (S.setting scene.now) 0 result }
 {
     match type_meant(alloc, scene, declared, name)? {
@@ -233,7 +241,8 @@ fn told<'m, S: ModuleSource>(
     body: &SubmoduleBody,
     value: Value,
 ) -> Result<Moved<'m>, InsideError>
-    ensures moves { Moves (S.setting scene.now) result (values.type_told (S.setting scene.now) declared.now parametric.now body.now value) }
+    ensures moves { Moves (S.setting scene.now) result
+        (values.type_told (S.setting scene.now) declared.now parametric.now body.now value) }
     ensures costs { Costs (S.setting scene.now) 0 result }
 {
     match value {
@@ -255,8 +264,11 @@ fn choose<'m, S: ModuleSource>(
     evaluation: Evaluation<'m>,
     turn: EvaluationStep<'m>,
 ) -> Result<Moved<'m>, InsideError>
-    ensures moves { Moves (S.setting scene.now) result (valued_then (meant_under [] place) (evaluating.came_to evaluation.entry turn.entry) (values.type_told (S.setting scene.now) declared.now parametric.now body.now)) }
-    ensures costs { Costs (S.setting scene.now) (evaluating.asks turn.entry + evaluating.left evaluation.entry) result }
+    ensures moves { Moves (S.setting scene.now)
+        result (valued_then (meant_under [] place) (evaluating.came_to evaluation.entry turn.entry)
+        (values.type_told (S.setting scene.now) declared.now parametric.now body.now)) }
+    ensures costs { Costs (S.setting scene.now)
+        (evaluating.asks turn.entry + evaluating.left evaluation.entry) result }
 {
     let mut evaluation = evaluation;
     match reach(alloc, &place, &NoVariables, &mut evaluation, turn) {
@@ -282,7 +294,8 @@ pub fn go_on_chosen<'m, S: ModuleSource>(
     choosing: Choosing<'m>,
     value: &Value,
 ) -> Result<Moved<'m>, InsideError>
-    ensures moves { Moves (S.setting scene.now) result (goes_on (S.setting scene.now) (waits.Chosen choosing.entry) (found_as.Value value.now)) }
+    ensures moves { Moves (S.setting scene.now) result
+        (goes_on (S.setting scene.now) (waits.Chosen choosing.entry) (found_as.Value value.now)) }
     ensures costs { Costs (S.setting scene.now) (evaluating.left choosing.entry.evaluation) result }
 {
     let Choosing {
@@ -314,7 +327,8 @@ fn written<'m, S: ModuleSource>(
     site: &Module,
     parametric: &'m ParametricType,
 ) -> Result<Option<Written<'m>>, NoMemory>
-    ensures { IfOk result (λ found. maybe_written found ≡ values.type_written (S.setting scene.now) site.now parametric.now) }
+    ensures { IfOk result (λ found. maybe_written found
+        ≡ values.type_written (S.setting scene.now) site.now parametric.now) }
 {
     let path = type_path(alloc, site)?;
     let entry = scene.entry(alloc, path.as_bytes())?;
@@ -334,8 +348,10 @@ fn begin_chosen<'m, S: ModuleSource>(
     parametric: &'m ParametricType,
     body: &'m SubmoduleBody,
 ) -> Result<Moved<'m>, InsideError>
-    ensures moves { Moves (S.setting scene.now) result (values.type_chosen (S.setting scene.now) site.now around.now declared.now parametric.now body.now) }
-    ensures costs { Costs (S.setting scene.now) (written_weight (values.type_written (S.setting scene.now) site.now parametric.now)) result }
+    ensures moves { Moves (S.setting scene.now) result (values.type_chosen (S.setting scene.now)
+        site.now around.now declared.now parametric.now body.now) }
+    ensures costs { Costs (S.setting scene.now) (written_weight
+        (values.type_written (S.setting scene.now) site.now parametric.now)) result }
 {
     let Some(written) = written(alloc, scene, site, parametric)? else {
         return Err(InsideError::Fault(InsideFault::Unassigned));
@@ -356,8 +372,10 @@ fn type_by<'m, S: ModuleSource>(
     declared: &'m TypeDeclaration,
     submodule: &'m Submodule,
 ) -> Result<Moved<'m>, InsideError>
-    ensures moves { Moves (S.setting scene.now) result (values.type_by (S.setting scene.now) site.now around.now declared.now submodule.now.body submodule.now.submodule_type) }
-    ensures costs { Costs (S.setting scene.now) (choice_weight (S.setting scene.now) site.now submodule.now.submodule_type) result }
+    ensures moves { Moves (S.setting scene.now) result (values.type_by (S.setting scene.now)
+        site.now around.now declared.now submodule.now.body submodule.now.submodule_type) }
+    ensures costs { Costs (S.setting scene.now)
+        (choice_weight (S.setting scene.now) site.now submodule.now.submodule_type) result }
 {
     match &submodule.submodule_type {
         SubmoduleType::Named(name) => numbered(scene.type_number(name)),
@@ -384,8 +402,10 @@ pub fn type_in<'m, S: ModuleSource>(
     declared: &'m TypeDeclaration,
     submodule: Option<&'m Submodule>,
 ) -> Result<Moved<'m>, InsideError>
-    ensures moves { Moves (S.setting scene.now) result (values.type_in (S.setting scene.now) site.now around.now declared.now (option_copied submodule.entry)) }
-    ensures costs { Costs (S.setting scene.now) (chosen_weight (S.setting scene.now) site.now (option_copied submodule.entry)) result }
+    ensures moves { Moves (S.setting scene.now) result (values.type_in (S.setting scene.now)
+        site.now around.now declared.now (option_copied submodule.entry)) }
+    ensures costs { Costs (S.setting scene.now)
+        (chosen_weight (S.setting scene.now) site.now (option_copied submodule.entry)) result }
 {
     match submodule {
         Some(submodule) => type_by(alloc, scene, site, around, declared, submodule),

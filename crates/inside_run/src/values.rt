@@ -34,12 +34,15 @@ pub fn value_of<S: ModuleSource>(
     key: Key,
 ) -> Result<Result<usize, InsideFault>, NoMemory>
     requires { IsKept (rules_of (S.setting scene.now)) table.old.entries }
-    ensures value { IfOk result (λ found. found_in table.new.entries found ≡ Some (value_at (S.setting scene.now) key)) }
+    ensures value { IfOk result
+        (λ found. found_in table.new.entries found ≡ Some (value_at (S.setting scene.now) key)) }
     ensures kept { IsKept (rules_of (S.setting scene.now)) table.new.entries }
     ensures begins { Begins table.old.entries table.new.entries }
     // Each key was evaluated once at most: where there is a value, those that were added.
-    ensures once { OnOk result (AreBegunOnce (rules_of (S.setting scene.now)) table.old.entries table.new.entries table.new.begun) }
-    ensures counted { IfOk result (λ found. OnOk found (table.new.begun + length table.old.entries ≡ length table.new.entries)) }
+    ensures once { OnOk result (AreBegunOnce (rules_of (S.setting scene.now)) table.old.entries
+        table.new.entries table.new.begun) }
+    ensures counted { IfOk result (λ found. OnOk found (table.new.begun + length table.old.entries
+        ≡ length table.new.entries)) }
 {
     engine::value_of(alloc, &Keys { scene }, table, key)
 }
@@ -47,7 +50,8 @@ pub fn value_of<S: ModuleSource>(
 /// The place of the value of a key, where the table knows it. Nothing is evaluated.
 pub fn known<S: ModuleSource>(_scene: &S, table: &Table<Key, Found>, key: &Key) -> Option<usize>
     requires { IsKept (rules_of (S.setting _scene.now)) table.now.entries }
-    ensures { IfSome result (λ place. found_in table.now.entries (Ok place) ≡ Some (value_at (S.setting _scene.now) key.now)) }
+    ensures { IfSome result (λ place. found_in table.now.entries (Ok place)
+        ≡ Some (value_at (S.setting _scene.now) key.now)) }
 {
     let _len = table.len();
     if let Some((place, _)) = table.find(key) {

@@ -56,7 +56,8 @@ impl Variables for Stack<Binding> {
 
 /// The value that a loop gives a variable, if it is the loop's.
 fn bound_by(task: &Task<'_>, name: &Text) -> Option<i64>
-    ensures { (ts : List task_type) → variable_in (scope_of (task.now ∷ ts)) name.now ≡ or_else result (variable_in (scope_of ts) name.now) }
+    ensures { (ts : List task_type) → variable_in (scope_of (task.now ∷ ts)) name.now
+        ≡ or_else result (variable_in (scope_of ts) name.now) }
 {
     match task {
         Task::Turns(variable, number, _, _, _) => {

@@ -1,5 +1,6 @@
 -- What is left to be done of an inside, as a stack of tasks of which the first is the next.
-use Rattle.std.specs.Prelude.{◌≡◌, ℕ, ℤ, pos, ◌+ℤ◌, List, [], ◌∷◌, Option, Some, None, Result, Ok, Err, length}
+use Rattle.std.specs.Prelude.{◌≡◌, ℕ, ℤ, pos, ◌+ℤ◌, List, [], ◌∷◌, Option, Some, None, Result, Ok}
+use Rattle.std.specs.Prelude.{Err, length}
 use Rattle.std.specs.Borrow.{Bor}
 use Rattle.param_following.specs.Asking.{Done, Ask}
 use Rattle.inside_keys.specs.declared.found.State.{State}
@@ -7,8 +8,13 @@ use Rattle.inside_keys.specs.declared.key.Module.{Module}
 use Rattle.inside_keys.specs.declared.key.What.{What}
 use Rattle.inside_keys.specs.declared.key.What.TheVariants as what
 use Rattle.inside_keys.specs.declared.found.Found.{Found}
-use Rattle.inside_keys.specs.Asked.{KeyAsking, ask_then, carried_then, carrier_then, result_then, whole_then, size_then, truth_then, number_then, value_then, valued_then}
-use Rattle.inside_keys.specs.Inside.{Rest, whole, looped, turns, count, gate_then, named_then, part_then, end_then, right_end, connected, connection_lines, items, gates, parameters, element_typed, elements, submodule_there, submodules, made_of, back_then, linked_then}
+use Rattle.inside_keys.specs.Asked.{KeyAsking, ask_then, carried_then, carrier_then, result_then}
+use Rattle.inside_keys.specs.Asked.{whole_then, size_then, truth_then, number_then, value_then}
+use Rattle.inside_keys.specs.Asked.{valued_then}
+use Rattle.inside_keys.specs.Inside.{Rest, whole, looped, turns, count, gate_then, named_then}
+use Rattle.inside_keys.specs.Inside.{part_then, end_then, right_end, connected, connection_lines}
+use Rattle.inside_keys.specs.Inside.{items, gates, parameters, element_typed, elements}
+use Rattle.inside_keys.specs.Inside.{submodule_there, submodules, made_of, back_then, linked_then}
 use Rattle.inside_keys.specs.Inside as joins
 use Rattle.inside_keys.specs.Keys.{child, key}
 use Rattle.inside_keys.specs.Places.{Scope, bind, meant_under}
@@ -94,21 +100,27 @@ module _ (g : Ground) where
 
   -- what is done with what a channel does
   abbrev pub carried : Carry → Carrier → Scope → State → Rest → KeyAsking
-  carried (carry.Onwards way l r) k scope s rest = back_then g.site g.submodules.now g.gates.now g.is_whole way l r scope s rest k
-  carried (carry.Back way l r onwards) k scope s rest = linked_then g.site g.submodules.now g.gates.now g.is_whole way l r s rest onwards k
+  carried (carry.Onwards way l r) k scope s rest =
+      back_then g.site g.submodules.now g.gates.now g.is_whole way l r scope s rest k
+  carried (carry.Back way l r onwards) k scope s rest =
+      linked_then g.site g.submodules.now g.gates.now g.is_whole way l r s rest onwards k
 
   -- what comes after an end that has taken a gate
   abbrev pub taken : Connection → Side → Scope → State → Rest → Taken → KeyAsking
-  taken c side.Left scope s rest t = right_end g.place g.submodules.now g.gates.now joined c t.id scope (with_wiring s t.wiring) rest
+  taken c side.Left scope s rest t = right_end g.place g.submodules.now g.gates.now joined c t.id
+      scope (with_wiring s t.wiring) rest
   taken c (side.Right l) scope s rest t = joined c l t.id scope (with_wiring s t.wiring) rest
 
   -- an end of a connection, and what comes after it
   abbrev pub end_begun : Connection → Side → Scope → State → Rest → KeyAsking
-  end_begun c at scope s rest = end_then g.place g.submodules.now g.gates.now (end_at at c) (role_at at c) (other_at at c) scope s (taken c at scope s rest)
+  end_begun c at scope s rest = end_then g.place g.submodules.now g.gates.now (end_at at c)
+      (role_at at c) (other_at at c) scope s (taken c at scope s rest)
 
   -- the gate at that place, and what comes after it
-  abbrev pub place_begun : Connection → Side → Option GateIndex → Scope → State → Rest → NamedGate → KeyAsking
-  place_begun c at place scope s rest gate = gate_then g.place g.submodules.now g.gates.now place gate (role_at at c) (other_at at c) scope s (taken c at scope s rest)
+  abbrev pub place_begun : Connection → Side → Option GateIndex → Scope → State → Rest
+      → NamedGate → KeyAsking
+  place_begun c at place scope s rest gate = gate_then g.place g.submodules.now g.gates.now place
+      gate (role_at at c) (other_at at c) scope s (taken c at scope s rest)
 
   -- the gate of that part at the place that the end names, and what comes after it
   abbrev pub gate_begun : Connection → Side → Scope → State → Rest → NamedGate → KeyAsking
@@ -116,16 +128,19 @@ module _ (g : Ground) where
 
   -- the gate of that part, and what comes after it
   abbrev pub part_begun : Connection → Side → Scope → State → Rest → ℕ → KeyAsking
-  part_begun c at scope s rest part = named_then g.place g.submodules.now g.gates.now (end_at at c) (role_at at c) (other_at at c) scope s part (taken c at scope s rest)
+  part_begun c at scope s rest part = named_then g.place g.submodules.now g.gates.now (end_at at c)
+      (role_at at c) (other_at at c) scope s part (taken c at scope s rest)
 
   -- the gate of the submodule of that name, and what comes after it
   abbrev pub name_begun : Connection → Side → Scope → State → Rest → Owner → KeyAsking
-  name_begun c at scope s rest m = part_then g.place g.submodules.now g.gates.now (Some m) scope s (part_begun c at scope s rest)
+  name_begun c at scope s rest m =
+      part_then g.place g.submodules.now g.gates.now (Some m) scope s (part_begun c at scope s rest)
 
   -- ---- tasks
 
   abbrev pub body_of : Body → Scope → State → Rest → KeyAsking
-  body_of (body.Connections cs) = connection_lines g.place g.submodules.now g.gates.now joined cs.now
+  body_of (body.Connections cs) =
+      connection_lines g.place g.submodules.now g.gates.now joined cs.now
   body_of (body.Connection c) = connected g.place g.submodules.now g.gates.now joined c.now
 
   -- a task under the loop variables in scope, and then the rest
@@ -133,13 +148,18 @@ module _ (g : Ground) where
   after (task.Parameters m xs) scope s rest = parameters m xs.now s rest
   after (task.Gates m sort gs) scope s rest = gates m (size_by sort) gs.now s rest
   after (task.Misplaced m x) scope s rest = ask_then (key m (what.Declared x.now)) (λ v. rest s)
-  after (task.Elements l n all) scope s rest = elements g.site g.types.now g.gates.now g.is_whole n all l.now s rest
-  after (task.Submodules ls) scope s rest = submodules g.site g.types.now g.gates.now g.is_whole ls.now s rest
-  after (task.Items is) scope s rest = items g.place g.submodules.now g.gates.now joined is.now scope s rest
-  after (task.Connections cs) scope s rest = connection_lines g.place g.submodules.now g.gates.now joined cs.now scope s rest
+  after (task.Elements l n all) scope s rest =
+      elements g.site g.types.now g.gates.now g.is_whole n all l.now s rest
+  after (task.Submodules ls) scope s rest =
+      submodules g.site g.types.now g.gates.now g.is_whole ls.now s rest
+  after (task.Items is) scope s rest =
+      items g.place g.submodules.now g.gates.now joined is.now scope s rest
+  after (task.Connections cs) scope s rest =
+      connection_lines g.place g.submodules.now g.gates.now joined cs.now scope s rest
   after (task.Clauses cs b) scope s rest = looped g.place cs.now (body_of b) scope s rest
   after (task.Turns x z last cs b) scope s rest =
-      turns (count (z +ℤ pos 1) last) (z +ℤ pos 1) (λ y t next. looped g.place cs.now (body_of b) (bind x.now y scope) t next) s rest
+      turns (count (z +ℤ pos 1) last) (z +ℤ pos 1)
+      (λ y t next. looped g.place cs.now (body_of b) (bind x.now y scope) t next) s rest
   after (task.End c at) scope s rest = end_begun c.now at scope s rest
 
   -- all tasks, and then the inside is there
@@ -151,27 +171,36 @@ module _ (g : Ground) where
   abbrev pub waited : Wait → Value → State → Rest → KeyAsking
   waited wait.Parameter v s rest = rest s
   waited wait.Gate v s rest = size_then v (λ n. rest (grown s n))
-  waited (wait.Condition l) v s rest = truth_then v (submodule_there g.site g.types.now g.gates.now g.is_whole l.now s rest) (rest (noted s Absent))
-  waited (wait.Size l) v s rest = size_then v (λ n. elements g.site g.types.now g.gates.now g.is_whole n n l.now (noted s (Vector (length s.parts.parts) n)) rest)
-  waited (wait.Type l index) v s rest = number_then v (λ n. element_typed g.site g.types.now g.gates.now g.is_whole l.now (child g.site l.now.name index) index n s rest)
+  waited (wait.Condition l) v s rest = truth_then v (submodule_there g.site g.types.now g.gates.now
+      g.is_whole l.now s rest) (rest (noted s Absent))
+  waited (wait.Size l) v s rest = size_then v (λ n. elements g.site g.types.now g.gates.now
+      g.is_whole n n l.now (noted s (Vector (length s.parts.parts) n)) rest)
+  waited (wait.Type l index) v s rest = number_then v (λ n. element_typed g.site g.types.now
+      g.gates.now g.is_whole l.now (child g.site l.now.name index) index n s rest)
 
   -- what is done with the value of an expression
   abbrev pub wanted : Want → Value → Scope → State → Rest → KeyAsking
-  wanted (want.If cs b) v scope s rest = truth_then v (looped g.place cs.now (body_of b) scope s rest) (rest s)
+  wanted (want.If cs b) v scope s rest =
+      truth_then v (looped g.place cs.now (body_of b) scope s rest) (rest s)
   wanted (want.First x e cs b) v scope s rest =
-      whole_then v (λ first. whole g.place e.now scope (λ last. turns (count first last) first (λ y t next. looped g.place cs.now (body_of b) (bind x.now y scope) t next) s rest))
+      whole_then v (λ first. whole g.place e.now scope (λ last. turns (count first last) first
+      (λ y t next. looped g.place cs.now (body_of b) (bind x.now y scope) t next) s rest))
   wanted (want.Last x first cs b) v scope s rest =
-      whole_then v (λ last. turns (count first last) first (λ y t next. looped g.place cs.now (body_of b) (bind x.now y scope) t next) s rest)
+      whole_then v (λ last. turns (count first last) first
+      (λ y t next. looped g.place cs.now (body_of b) (bind x.now y scope) t next) s rest)
   wanted (want.Part c at name) v scope s rest =
-      whole_then v (λ z. result_then (part_named g.submodules.now s.parts name.now (Some z)) (part_begun c.now at scope s rest))
+      whole_then v (λ z. result_then (part_named g.submodules.now s.parts name.now (Some z))
+      (part_begun c.now at scope s rest))
   wanted (want.Index c at gate) v scope s rest =
-      whole_then v (λ z. result_then (at_index s.wiring (other_at at c.now) (role_at at c.now) gate z) (taken c.now at scope s rest))
+      whole_then v (λ z. result_then (at_index s.wiring (other_at at c.now) (role_at at c.now) gate
+      z) (taken c.now at scope s rest))
 
   -- what is done next, and then the tasks
   abbrev pub next_of : List Task → Next → KeyAsking
   next_of ts (next.Go s) = continued ts s
   next_of ts (next.Ask k w s) = ask_then k (λ v. waited w v s (continued ts))
-  next_of ts (next.At e t w s) = valued_then (meant_under (scope_of ts) g.place) (came_to e t) (λ v. wanted w v (scope_of ts) s (continued ts))
+  next_of ts (next.At e t w s) = valued_then (meant_under (scope_of ts) g.place) (came_to e t)
+      (λ v. wanted w v (scope_of ts) s (continued ts))
   next_of ts (next.Carry k c s) = carried_then k (λ x. carried c x (scope_of ts) s (continued ts))
 
   -- a step has led to that
@@ -183,7 +212,8 @@ module _ (g : Ground) where
   -- what is done with what was asked for
   abbrev pub done_with : Doing → List Task → State → Found → KeyAsking
   done_with (doing.Key w) ts s = value_then (λ v. waited w v s (continued ts))
-  done_with (doing.Expression e w) ts s = value_then (λ v. valued_then (meant_under (scope_of ts) g.place) (resumed e v) (λ u. wanted w u (scope_of ts) s (continued ts)))
+  done_with (doing.Expression e w) ts s = value_then (λ v. valued_then (meant_under (scope_of ts)
+      g.place) (resumed e v) (λ u. wanted w u (scope_of ts) s (continued ts)))
   done_with (doing.Carrier c) ts s = carrier_then (λ x. carried c x (scope_of ts) s (continued ts))
 
   abbrev pub halted : List Task → Halt → KeyAsking

@@ -1,5 +1,6 @@
 -- How much is left to be done of an inside, as a number that falls with each step.
-use Rattle.std.specs.Prelude.{ℕ, ◌+◌, ◌*◌, ◌<◌, ◌≤◌, max, List, [], ◌∷◌, Option, Some, None, Result, Ok, Err}
+use Rattle.std.specs.Prelude.{ℕ, ◌+◌, ◌*◌, ◌<◌, ◌≤◌, max, List, [], ◌∷◌, Option, Some, None, Result}
+use Rattle.std.specs.Prelude.{Ok, Err}
 use Rattle.ned_trees.specs.declared.expressions.Expression.{Expression}
 use Rattle.inside_parts.specs.declared.fault.InsideError.{InsideError}
 use Rattle.ned_trees.specs.declared.connections.Clause.{Clause}
@@ -88,7 +89,8 @@ of_clauses (c ∷ cs) b = of_clause c + of_clauses cs b
 
 abbrev pub of_connection_lines : List ConnectionLine → ℕ
 of_connection_lines [] = 1
-of_connection_lines (c ∷ cs) = of_clauses c.clauses (of_connection c.connection) + of_connection_lines cs + 2
+of_connection_lines (c ∷ cs) =
+    of_clauses c.clauses (of_connection c.connection) + of_connection_lines cs + 2
 
 abbrev pub of_item : ConnectionItem → ℕ
 of_item (Line c) = of_clauses c.clauses (of_connection c.connection)
@@ -211,11 +213,14 @@ turns_of (next.Carry k c s) = s.turns
 
 -- What a step leaves to be done is less than a weight and what the tasks before it had, where each
 -- turn that is left counts as much as `most`.
-pub record IsSpent (g : Ground) (most weight : ℕ) (before : List Task) (n : ℕ) (found : Next) (ts : List Task) : Type 0 where
+pub record IsSpent (g : Ground) (most weight : ℕ) (before : List Task) (n : ℕ) (found : Next)
+    (ts : List Task) : Type 0 where
   pub cost : cost_of_next found ≤ most
   pub costs : cost_of_tasks ts ≤ most
-  pub less : of_next g found + of_tasks g ts + turns_of found * most < weight + of_tasks g before + n * most
+  pub less : of_next g found + of_tasks g ts + turns_of found * most
+      < weight + of_tasks g before + n * most
 
 abbrev pub Spends : Ground → ℕ → ℕ → List Task → ℕ → Result Next InsideError → List Task → Type 0
-Spends g weight cost before n (Ok found) ts = (most : ℕ) → cost ≤ most → cost_of_tasks before ≤ most → IsSpent g most weight before n found ts
+Spends g weight cost before n (Ok found) ts = (most : ℕ) → cost ≤ most → cost_of_tasks before ≤ most
+    → IsSpent g most weight before n found ts
 Spends g weight cost before n (Err e) ts = Unit {0}

@@ -4,7 +4,9 @@ ghost use Rattle.std.specs.Prelude.{◌≡◌, ◌+◌, ◌<◌, length, Some};
 ghost use Rattle.inside_keys.specs.Asked.{result_then};
 ghost use Rattle.inside_keys.specs.Inside as inside;
 ghost use Rattle.inside_wiring.specs.Ends as named;
-ghost use Rattle.inside_walk.specs.Tasks.{Leads, continued, end_at, role_at, other_at, end_begun, part_begun, name_begun, gate_begun, place_begun, taken, scope_of};
+ghost use Rattle.inside_walk.specs.Tasks.{Leads, continued, end_at, role_at, other_at, end_begun};
+ghost use Rattle.inside_walk.specs.Tasks.{part_begun, name_begun, gate_begun, place_begun, taken};
+ghost use Rattle.inside_walk.specs.Tasks.{scope_of};
 ghost use Rattle.inside_walk.specs.Weights.{Spends, of_end, of_maybe, of_position, of_rest};
 
 use crate::joins::joined;
@@ -66,9 +68,12 @@ fn took<'m>(
     written: WrittenAt,
     found: Taken,
 ) -> Result<Next<'m>, InsideError>
-    ensures leads { Leads ground.now result tasks.new (taken ground.now connection.now side (scope_of tasks.old)
-        (record { parts = parts; wiring = found.wiring; turns = turns; written = written }) (continued ground.now tasks.old) found) }
-    ensures spends { Spends ground.now (of_rest connection.now side) 0 tasks.old turns result tasks.new }
+    ensures leads { Leads ground.now result tasks.new
+        (taken ground.now connection.now side (scope_of tasks.old)
+        (record { parts = parts; wiring = found.wiring; turns = turns; written = written })
+        (continued ground.now tasks.old) found) }
+    ensures spends { Spends ground.now (of_rest connection.now side) 0 tasks.old turns
+        result tasks.new }
 {
     let Taken { wiring, id } = found;
     let wiring = Boxed::new(alloc, wiring)?;
@@ -97,9 +102,12 @@ fn single<'m>(
     gate: NamedGate,
     state: State,
 ) -> Result<Next<'m>, InsideError>
-    ensures leads { Leads ground.now result tasks.new (result_then (named.at_single state.wiring (other_at side connection.now) (role_at side connection.now) gate)
-        (taken ground.now connection.now side (scope_of tasks.old) state (continued ground.now tasks.old))) }
-    ensures spends { Spends ground.now (of_rest connection.now side) 0 tasks.old state.turns result tasks.new }
+    ensures leads { Leads ground.now result tasks.new (result_then (named.at_single state.wiring
+        (other_at side connection.now) (role_at side connection.now) gate)
+        (taken ground.now connection.now side (scope_of tasks.old) state
+        (continued ground.now tasks.old))) }
+    ensures spends { Spends ground.now (of_rest connection.now side) 0 tasks.old state.turns
+        result tasks.new }
 {
     let role = role_at(side, connection);
     let other = other_at(side, connection);
@@ -126,9 +134,12 @@ fn free<'m>(
     state: State,
 ) -> Result<Next<'m>, InsideError>
     requires { gate.vector < length state.wiring.sizes }
-    ensures leads { Leads ground.now result tasks.new (result_then (named.at_next state.wiring (other_at side connection.now) (role_at side connection.now) gate)
-        (taken ground.now connection.now side (scope_of tasks.old) state (continued ground.now tasks.old))) }
-    ensures spends { Spends ground.now (of_rest connection.now side) 0 tasks.old state.turns result tasks.new }
+    ensures leads { Leads ground.now result tasks.new (result_then (named.at_next state.wiring
+        (other_at side connection.now) (role_at side connection.now) gate)
+        (taken ground.now connection.now side (scope_of tasks.old) state
+        (continued ground.now tasks.old))) }
+    ensures spends { Spends ground.now (of_rest connection.now side) 0 tasks.old state.turns
+        result tasks.new }
 {
     let role = role_at(side, connection);
     let other = other_at(side, connection);
@@ -156,8 +167,10 @@ fn placed<'m>(
     state: State,
 ) -> Result<Next<'m>, InsideError>
     requires { gate.vector < length state.wiring.sizes }
-    ensures leads { Leads ground.now result tasks.new (place_begun ground.now connection.now side (Some place.now) (scope_of tasks.old) state (continued ground.now tasks.old) gate) }
-    ensures spends { Spends ground.now (of_position (Some place.now) + of_rest connection.now side + 2) 0 tasks.old state.turns result tasks.new }
+    ensures leads { Leads ground.now result tasks.new (place_begun ground.now connection.now side
+        (Some place.now) (scope_of tasks.old) state (continued ground.now tasks.old) gate) }
+    ensures spends { Spends ground.now (of_position (Some place.now) + of_rest connection.now side
+        + 2) 0 tasks.old state.turns result tasks.new }
 {
     if !gate.kind.is_vector {
         return Err(InsideError::Fault(InsideFault::NoGate));
@@ -181,8 +194,10 @@ fn position<'m>(
     state: State,
 ) -> Result<Next<'m>, InsideError>
     requires { gate.vector < length state.wiring.sizes }
-    ensures leads { Leads ground.now result tasks.new (gate_begun ground.now connection.now side (scope_of tasks.old) state (continued ground.now tasks.old) gate) }
-    ensures spends { Spends ground.now (of_position (end_at side connection.now).gate.index + of_rest connection.now side + 2) 0 tasks.old state.turns result tasks.new }
+    ensures leads { Leads ground.now result tasks.new (gate_begun ground.now connection.now side
+        (scope_of tasks.old) state (continued ground.now tasks.old) gate) }
+    ensures spends { Spends ground.now (of_position (end_at side connection.now).gate.index
+        + of_rest connection.now side + 2) 0 tasks.old state.turns result tasks.new }
 {
     let end = end_at(side, connection);
     match &end.gate.index {
@@ -206,8 +221,10 @@ pub fn part<'m>(
     part: usize,
     state: State,
 ) -> Result<Next<'m>, InsideError>
-    ensures leads { Leads ground.now result tasks.new (part_begun ground.now connection.now side (scope_of tasks.old) state (continued ground.now tasks.old) part) }
-    ensures spends { Spends ground.now (of_position (end_at side connection.now).gate.index + of_rest connection.now side + 2) 0 tasks.old state.turns result tasks.new }
+    ensures leads { Leads ground.now result tasks.new (part_begun ground.now connection.now side
+        (scope_of tasks.old) state (continued ground.now tasks.old) part) }
+    ensures spends { Spends ground.now (of_position (end_at side connection.now).gate.index
+        + of_rest connection.now side + 2) 0 tasks.old state.turns result tasks.new }
 {
     let end = end_at(side, connection);
     let gate = gate_named(
@@ -234,8 +251,11 @@ fn named<'m>(
     name: &'m Owner,
     state: State,
 ) -> Result<Next<'m>, InsideError>
-    ensures leads { Leads ground.now result tasks.new (name_begun ground.now connection.now side (scope_of tasks.old) state (continued ground.now tasks.old) name.now) }
-    ensures spends { Spends ground.now (of_maybe name.now.index + of_position (end_at side connection.now).gate.index + of_rest connection.now side + 4) 0 tasks.old state.turns result tasks.new }
+    ensures leads { Leads ground.now result tasks.new (name_begun ground.now connection.now side
+        (scope_of tasks.old) state (continued ground.now tasks.old) name.now) }
+    ensures spends { Spends ground.now (of_maybe name.now.index
+        + of_position (end_at side connection.now).gate.index + of_rest connection.now side + 4) 0
+        tasks.old state.turns result tasks.new }
 {
     match &name.index {
         Some(index) => {
@@ -258,8 +278,10 @@ pub fn end<'m>(
     side: Side,
     state: State,
 ) -> Result<Next<'m>, InsideError>
-    ensures leads { Leads ground.now result tasks.new (end_begun ground.now connection.now side (scope_of tasks.old) state (continued ground.now tasks.old)) }
-    ensures spends { Spends ground.now (of_end (end_at side connection.now) + of_rest connection.now side) 0 tasks.old state.turns result tasks.new }
+    ensures leads { Leads ground.now result tasks.new (end_begun ground.now connection.now side
+        (scope_of tasks.old) state (continued ground.now tasks.old)) }
+    ensures spends { Spends ground.now (of_end (end_at side connection.now)
+        + of_rest connection.now side) 0 tasks.old state.turns result tasks.new }
 {
     let end = end_at(side, connection);
     match &end.owner {
@@ -279,9 +301,12 @@ pub fn at<'m>(
     index: i64,
     state: State,
 ) -> Result<Next<'m>, InsideError>
-    ensures leads { Leads ground.now result tasks.new (result_then (named.at_index state.wiring (other_at side connection.now) (role_at side connection.now) gate index)
-        (taken ground.now connection.now side (scope_of tasks.old) state (continued ground.now tasks.old))) }
-    ensures spends { Spends ground.now (of_rest connection.now side) 0 tasks.old state.turns result tasks.new }
+    ensures leads { Leads ground.now result tasks.new (result_then (named.at_index state.wiring
+        (other_at side connection.now) (role_at side connection.now) gate index)
+        (taken ground.now connection.now side (scope_of tasks.old) state
+        (continued ground.now tasks.old))) }
+    ensures spends { Spends ground.now (of_rest connection.now side) 0 tasks.old state.turns
+        result tasks.new }
 {
     let role = role_at(side, connection);
     let other = other_at(side, connection);

@@ -52,7 +52,8 @@ fn channel_from(
     id: GateId,
     state: &State,
 ) -> Result<ChannelAt, NoMemory>
-    ensures { IfOk result (λ c. c ≡ inside.channel_from ground.now.site ground.now.submodules.now ground.now.gates.now ground.now.is_whole id (scope_of tasks.now) state.now) }
+    ensures { IfOk result (λ c. c ≡ inside.channel_from ground.now.site ground.now.submodules.now
+        ground.now.gates.now ground.now.is_whole id (scope_of tasks.now) state.now) }
 {
     let path = channel_path(
         alloc,
@@ -77,7 +78,8 @@ fn carrier_from(
     id: GateId,
     state: &State,
 ) -> Result<Key, NoMemory>
-    ensures { IfOk result (λ k. k ≡ inside.carrier_from ground.now.site ground.now.submodules.now ground.now.gates.now ground.now.is_whole id (scope_of tasks.now) state.now) }
+    ensures { IfOk result (λ k. k ≡ inside.carrier_from ground.now.site ground.now.submodules.now
+        ground.now.gates.now ground.now.is_whole id (scope_of tasks.now) state.now) }
 {
     let channel = channel_from(alloc, ground, tasks, id, state)?;
     ground.site.key(alloc, What::Carrier(channel))
@@ -95,7 +97,8 @@ fn link<'m>(
     back: Carrier,
     state: State,
 ) -> Result<Next<'m>, InsideError>
-    ensures leads { Leads _ground.now result _tasks.new (inside.linked_then _ground.now.site _ground.now.submodules.now _ground.now.gates.now _ground.now.is_whole
+    ensures leads { Leads _ground.now result _tasks.new (inside.linked_then _ground.now.site
+        _ground.now.submodules.now _ground.now.gates.now _ground.now.is_whole
         arrow left right state (continued _ground.now _tasks.old) onwards back) }
     ensures spends { Spends _ground.now 1 0 _tasks.old state.turns result _tasks.new }
 {
@@ -124,9 +127,12 @@ fn ask<'m>(
     carry: Carry,
     state: State,
 ) -> Result<Next<'m>, InsideError>
-    ensures leads { Leads ground.now result tasks.new (inside.carried_from ground.now.site ground.now.submodules.now ground.now.gates.now ground.now.is_whole
-        id (scope_of tasks.old) state (λ c. carried ground.now carry c (scope_of tasks.old) state (continued ground.now tasks.old))) }
-    ensures spends { Spends ground.now (of_carry carry + 2) 0 tasks.old state.turns result tasks.new }
+    ensures leads { Leads ground.now result tasks.new (inside.carried_from ground.now.site
+        ground.now.submodules.now ground.now.gates.now ground.now.is_whole
+        id (scope_of tasks.old) state (λ c. carried ground.now carry c (scope_of tasks.old) state
+        (continued ground.now tasks.old))) }
+    ensures spends { Spends ground.now (of_carry carry + 2) 0 tasks.old state.turns
+        result tasks.new }
 {
     let key = carrier_from(alloc, ground, tasks, id, &state)?;
     Ok(Next::Carry(key, carry, state))
@@ -143,7 +149,8 @@ fn back<'m>(
     onwards: Carrier,
     state: State,
 ) -> Result<Next<'m>, InsideError>
-    ensures leads { Leads ground.now result tasks.new (inside.back_then ground.now.site ground.now.submodules.now ground.now.gates.now ground.now.is_whole
+    ensures leads { Leads ground.now result tasks.new (inside.back_then ground.now.site
+        ground.now.submodules.now ground.now.gates.now ground.now.is_whole
         arrow left right (scope_of tasks.old) state (continued ground.now tasks.old) onwards) }
     ensures spends { Spends ground.now 4 0 tasks.old state.turns result tasks.new }
 {
@@ -209,7 +216,8 @@ pub fn joined<'m>(
     right: GateId,
     state: State,
 ) -> Result<Next<'m>, InsideError>
-    ensures leads { Leads ground.now result tasks.new (joined ground.now connection.now left right (scope_of tasks.old) state (continued ground.now tasks.old)) }
+    ensures leads { Leads ground.now result tasks.new (joined ground.now connection.now left right
+        (scope_of tasks.old) state (continued ground.now tasks.old)) }
     ensures spends { Spends ground.now 7 0 tasks.old state.turns result tasks.new }
 {
     match channel_of(ground.is_whole, connection) {
@@ -241,7 +249,8 @@ pub fn carried<'m>(
     carrier: Carrier,
     state: State,
 ) -> Result<Next<'m>, InsideError>
-    ensures leads { Leads ground.now result tasks.new (carried ground.now carry carrier (scope_of tasks.old) state (continued ground.now tasks.old)) }
+    ensures leads { Leads ground.now result tasks.new (carried ground.now carry carrier
+        (scope_of tasks.old) state (continued ground.now tasks.old)) }
     ensures spends { Spends ground.now (of_carry carry) 0 tasks.old state.turns result tasks.new }
 {
     match carry {

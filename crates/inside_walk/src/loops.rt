@@ -1,13 +1,17 @@
 //! Loops and conditions.
 
-ghost use Rattle.std.specs.Prelude.{◌≡◌, ◌+◌, ◌<◌, ◌≤◌, IfOk, List, pos, ◌+ℤ◌, ◌∷◌, ◌≤ℤ◌, ◌<ℤ◌, MatchOption};
+ghost use Rattle.std.specs.Prelude.{◌≡◌, ◌+◌, ◌<◌, ◌≤◌, IfOk, List, pos, ◌+ℤ◌, ◌∷◌, ◌≤ℤ◌, ◌<ℤ◌};
+ghost use Rattle.std.specs.Prelude.{MatchOption};
 ghost use Rattle.std.specs.Bool.{MatchBool};
 ghost use Rattle.inside_keys.specs.Inside as inside;
 ghost use Rattle.inside_keys.specs.Places as places;
 ghost use Rattle.inside_keys.specs.States as states;
 ghost use Rattle.param_eval.specs.Evaluating.{weight_of};
-ghost use Rattle.inside_walk.specs.Tasks.{Leads, body_of, continued, joined, next_of, scope_of, wanted};
-ghost use Rattle.inside_walk.specs.Weights.{Spends, of_next, of_clauses, of_connection, of_body, of_item, of_items, of_connection_lines, of_want, cost_of_next, cost_of_want, turns_of};
+ghost use Rattle.inside_walk.specs.Tasks.{Leads, body_of, continued, joined, next_of, scope_of};
+ghost use Rattle.inside_walk.specs.Tasks.{wanted};
+ghost use Rattle.inside_walk.specs.Weights.{Spends, of_next, of_clauses, of_connection, of_body};
+ghost use Rattle.inside_walk.specs.Weights.{of_item, of_items, of_connection_lines, of_want};
+ghost use Rattle.inside_walk.specs.Weights.{cost_of_next, cost_of_want, turns_of};
 ghost use Rattle.inside_walk.specs.declared.task.Ground.{Ground as ground_type};
 ghost use Rattle.inside_walk.specs.declared.task.Task.{Task as task_type};
 
@@ -31,8 +35,10 @@ pub fn evaluate<'m>(
     state: State,
 ) -> Result<Next<'m>, NoMemory>
     ensures leads { IfOk result (λ next. (g : ground_type) (ts : List task_type) → next_of g ts next
-        ≡ inside.evaluated g.place expression.now (scope_of ts) (λ v. wanted g want.entry v (scope_of ts) state (continued g ts))) }
-    ensures weight { IfOk result (λ next. (g : ground_type) → of_next g next ≤ weight_of expression.now + of_want g want.entry) }
+        ≡ inside.evaluated g.place expression.now (scope_of ts)
+        (λ v. wanted g want.entry v (scope_of ts) state (continued g ts))) }
+    ensures weight { IfOk result (λ next. (g : ground_type)
+        → of_next g next ≤ weight_of expression.now + of_want g want.entry) }
     ensures cost { IfOk result (λ next. cost_of_next next ≡ cost_of_want want.entry) }
     ensures turns { IfOk result (λ next. turns_of next ≡ state.turns) }
 {
@@ -47,8 +53,10 @@ fn do_body<'m>(
     body: Body<'m>,
     state: State,
 ) -> Result<Next<'m>, InsideError>
-    ensures leads { Leads _ground.now result tasks.new (body_of _ground.now body.entry (scope_of tasks.old) state (continued _ground.now tasks.old)) }
-    ensures spends { Spends _ground.now (of_body body.entry + 1) (of_body body.entry) tasks.old state.turns result tasks.new }
+    ensures leads { Leads _ground.now result tasks.new (body_of _ground.now body.entry
+        (scope_of tasks.old) state (continued _ground.now tasks.old)) }
+    ensures spends { Spends _ground.now (of_body body.entry + 1) (of_body body.entry) tasks.old
+        state.turns result tasks.new }
 {
     let task = match body {
         Body::Connections(connection_lines) => Task::Connections(connection_lines),
@@ -67,9 +75,12 @@ fn clause<'m>(
     state: State,
 ) -> Result<Next<'m>, NoMemory>
     ensures leads { IfOk result (λ next. (g : ground_type) (ts : List task_type) → next_of g ts next
-        ≡ inside.looped g.place (clause.now ∷ rest.now) (body_of g body.entry) (scope_of ts) state (continued g ts)) }
-    ensures weight { IfOk result (λ next. (g : ground_type) → of_next g next < of_clauses (clause.now ∷ rest.now) (of_body body.entry)) }
-    ensures cost { IfOk result (λ next. cost_of_next next < of_clauses (clause.now ∷ rest.now) (of_body body.entry)) }
+        ≡ inside.looped g.place (clause.now ∷ rest.now) (body_of g body.entry) (scope_of ts) state
+        (continued g ts)) }
+    ensures weight { IfOk result (λ next. (g : ground_type)
+        → of_next g next < of_clauses (clause.now ∷ rest.now) (of_body body.entry)) }
+    ensures cost { IfOk result
+        (λ next. cost_of_next next < of_clauses (clause.now ∷ rest.now) (of_body body.entry)) }
     ensures turns { IfOk result (λ next. turns_of next ≡ state.turns) }
 {
     match clause {
@@ -94,8 +105,11 @@ pub fn clauses<'m>(
     body: Body<'m>,
     state: State,
 ) -> Result<Next<'m>, InsideError>
-    ensures leads { Leads ground.now result tasks.new (inside.looped ground.now.place clauses.now (body_of ground.now body.entry) (scope_of tasks.old) state (continued ground.now tasks.old)) }
-    ensures spends { Spends ground.now (of_clauses clauses.now (of_body body.entry)) (of_clauses clauses.now (of_body body.entry)) tasks.old state.turns result tasks.new }
+    ensures leads { Leads ground.now
+        result tasks.new (inside.looped ground.now.place clauses.now (body_of ground.now body.entry)
+        (scope_of tasks.old) state (continued ground.now tasks.old)) }
+    ensures spends { Spends ground.now (of_clauses clauses.now (of_body body.entry))
+        (of_clauses clauses.now (of_body body.entry)) tasks.old state.turns result tasks.new }
 {
     let Some((first, rest)) = clauses.split_first() else {
         return do_body(ground, tasks, body, state);
@@ -133,10 +147,13 @@ pub fn turns_from<'m>(
     body: Body<'m>,
     state: State,
 ) -> Result<Next<'m>, InsideError>
-    ensures leads { Leads _ground.now result tasks.new (inside.turns (inside.count number last) number
-        (λ y t next. inside.looped _ground.now.place clauses.now (body_of _ground.now body.entry) (places.bind variable.now y (scope_of tasks.old)) t next)
+    ensures leads { Leads _ground.now result tasks.new
+        (inside.turns (inside.count number last) number
+        (λ y t next. inside.looped _ground.now.place clauses.now (body_of _ground.now body.entry)
+        (places.bind variable.now y (scope_of tasks.old)) t next)
         state (continued _ground.now tasks.old)) }
-    ensures spends { Spends _ground.now 1 (of_clauses clauses.now (of_body body.entry) + 1) tasks.old state.turns result tasks.new }
+    ensures spends { Spends _ground.now 1 (of_clauses clauses.now (of_body body.entry) + 1)
+        tasks.old state.turns result tasks.new }
 {
     if !has_turn(number, last) {
         return Ok(Next::Go(state));
@@ -171,10 +188,13 @@ pub fn next_turn<'m>(
     body: Body<'m>,
     state: State,
 ) -> Result<Next<'m>, InsideError>
-    ensures leads { Leads ground.now result tasks.new (inside.turns (inside.count (number +ℤ pos 1) last) (number +ℤ pos 1)
-        (λ y t next. inside.looped ground.now.place clauses.now (body_of ground.now body.entry) (places.bind variable.now y (scope_of tasks.old)) t next)
+    ensures leads { Leads ground.now result tasks.new
+        (inside.turns (inside.count (number +ℤ pos 1) last) (number +ℤ pos 1)
+        (λ y t next. inside.looped ground.now.place clauses.now (body_of ground.now body.entry)
+        (places.bind variable.now y (scope_of tasks.old)) t next)
         state (continued ground.now tasks.old)) }
-    ensures spends { Spends ground.now 1 (of_clauses clauses.now (of_body body.entry) + 1) tasks.old state.turns result tasks.new }
+    ensures spends { Spends ground.now 1 (of_clauses clauses.now (of_body body.entry) + 1) tasks.old
+        state.turns result tasks.new }
 {
     match next_number(number, last) {
         Some(number) => turns_from(ground, tasks, variable, number, last, clauses, body, state),
@@ -227,7 +247,8 @@ fn at_item(state: State, behind: usize) -> State
 
 /// A connection, as what clauses stand around.
 fn body_of_line<'m>(line: &'m ConnectionLine) -> Body<'m>
-    ensures same { (g : ground_type) → body_of g result ≡ inside.connected g.place g.submodules.now g.gates.now (joined g) line.now.connection }
+    ensures same { (g : ground_type) → body_of g result
+        ≡ inside.connected g.place g.submodules.now g.gates.now (joined g) line.now.connection }
     ensures weight { of_body result ≡ of_connection line.now.connection }
 {
     Body::Connection(&line.connection)
@@ -241,8 +262,13 @@ fn connection_line<'m>(
     line: &'m ConnectionLine,
     state: State,
 ) -> Result<Next<'m>, InsideError>
-    ensures leads { Leads ground.now result tasks.new (inside.looped ground.now.place line.now.clauses (inside.connected ground.now.place ground.now.submodules.now ground.now.gates.now (joined ground.now) line.now.connection) (scope_of tasks.old) state (continued ground.now tasks.old)) }
-    ensures spends { Spends ground.now (of_clauses line.now.clauses (of_connection line.now.connection)) (of_clauses line.now.clauses (of_connection line.now.connection)) tasks.old state.turns result tasks.new }
+    ensures leads { Leads ground.now result tasks.new
+        (inside.looped ground.now.place line.now.clauses (inside.connected ground.now.place
+        ground.now.submodules.now ground.now.gates.now (joined ground.now) line.now.connection)
+        (scope_of tasks.old) state (continued ground.now tasks.old)) }
+    ensures spends { Spends ground.now (of_clauses line.now.clauses (of_connection
+        line.now.connection)) (of_clauses line.now.clauses (of_connection line.now.connection))
+        tasks.old state.turns result tasks.new }
 {
     let body = body_of_line(line);
     clauses(alloc, ground, tasks, line.clauses.as_slice(), body, state)
@@ -256,8 +282,11 @@ pub fn connection_lines<'m>(
     lines: &'m [ConnectionLine],
     state: State,
 ) -> Result<Next<'m>, InsideError>
-    ensures leads { Leads ground.now result tasks.new (inside.connection_lines ground.now.place ground.now.submodules.now ground.now.gates.now (joined ground.now) lines.now (scope_of tasks.old) state (continued ground.now tasks.old)) }
-    ensures spends { Spends ground.now (of_connection_lines lines.now) (of_connection_lines lines.now) tasks.old state.turns result tasks.new }
+    ensures leads { Leads ground.now result tasks.new (inside.connection_lines ground.now.place
+        ground.now.submodules.now ground.now.gates.now (joined ground.now) lines.now
+        (scope_of tasks.old) state (continued ground.now tasks.old)) }
+    ensures spends { Spends ground.now (of_connection_lines lines.now)
+        (of_connection_lines lines.now) tasks.old state.turns result tasks.new }
 {
     let Some((first, rest)) = lines.split_first() else {
         return Ok(Next::Go(state));
@@ -276,8 +305,13 @@ fn group<'m>(
     group: &'m ConnectionGroup,
     state: State,
 ) -> Result<Next<'m>, InsideError>
-    ensures leads { Leads ground.now result tasks.new (inside.looped ground.now.place group.now.clauses (inside.connection_lines ground.now.place ground.now.submodules.now ground.now.gates.now (joined ground.now) group.now.lines) (scope_of tasks.old) state (continued ground.now tasks.old)) }
-    ensures spends { Spends ground.now (of_clauses group.now.clauses (of_connection_lines group.now.lines)) (of_clauses group.now.clauses (of_connection_lines group.now.lines)) tasks.old state.turns result tasks.new }
+    ensures leads { Leads ground.now result tasks.new
+        (inside.looped ground.now.place group.now.clauses (inside.connection_lines ground.now.place
+        ground.now.submodules.now ground.now.gates.now (joined ground.now) group.now.lines)
+        (scope_of tasks.old) state (continued ground.now tasks.old)) }
+    ensures spends { Spends ground.now (of_clauses group.now.clauses (of_connection_lines
+        group.now.lines)) (of_clauses group.now.clauses (of_connection_lines group.now.lines))
+        tasks.old state.turns result tasks.new }
 {
     let body = Body::Connections(group.lines.as_slice());
     clauses(alloc, ground, tasks, group.clauses.as_slice(), body, state)
@@ -291,8 +325,11 @@ fn item<'m>(
     item: &'m ConnectionItem,
     state: State,
 ) -> Result<Next<'m>, InsideError>
-    ensures leads { Leads ground.now result tasks.new (inside.item ground.now.place ground.now.submodules.now ground.now.gates.now (joined ground.now) item.now (scope_of tasks.old) state (continued ground.now tasks.old)) }
-    ensures spends { Spends ground.now (of_item item.now) (of_item item.now) tasks.old state.turns result tasks.new }
+    ensures leads { Leads ground.now result tasks.new (inside.item ground.now.place
+        ground.now.submodules.now ground.now.gates.now (joined ground.now) item.now
+        (scope_of tasks.old) state (continued ground.now tasks.old)) }
+    ensures spends { Spends ground.now (of_item item.now) (of_item item.now) tasks.old state.turns
+        result tasks.new }
 {
     match item {
         ConnectionItem::Line(line) => connection_line(alloc, ground, tasks, line, state),
@@ -308,8 +345,11 @@ pub fn items<'m>(
     items: &'m [ConnectionItem],
     state: State,
 ) -> Result<Next<'m>, InsideError>
-    ensures leads { Leads ground.now result tasks.new (inside.items ground.now.place ground.now.submodules.now ground.now.gates.now (joined ground.now) items.now (scope_of tasks.old) state (continued ground.now tasks.old)) }
-    ensures spends { Spends ground.now (of_items items.now) (of_items items.now) tasks.old state.turns result tasks.new }
+    ensures leads { Leads ground.now result tasks.new (inside.items ground.now.place
+        ground.now.submodules.now ground.now.gates.now (joined ground.now) items.now
+        (scope_of tasks.old) state (continued ground.now tasks.old)) }
+    ensures spends { Spends ground.now (of_items items.now) (of_items items.now) tasks.old
+        state.turns result tasks.new }
 {
     let Some((first, rest)) = items.split_first() else {
         return Ok(Next::Go(state));

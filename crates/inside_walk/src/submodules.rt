@@ -1,15 +1,19 @@
 //! Submodules, their parameters and gates.
 
-ghost use Rattle.std.specs.Prelude.{◌≡◌, ◌+◌, ◌-◌, ◌*◌, ◌≤◌, [], ◌∷◌, IfOk, IfSome, length, slice_get, if◌then◌else◌};
+ghost use Rattle.std.specs.Prelude.{◌≡◌, ◌+◌, ◌-◌, ◌*◌, ◌≤◌, [], ◌∷◌, IfOk, IfSome, length};
+ghost use Rattle.std.specs.Prelude.{slice_get, if◌then◌else◌};
 ghost use Rattle.std.specs.Option.{option_copied};
 ghost use Rattle.inside_keys.specs.Asked.{numbered_by, sized_by};
 ghost use Rattle.inside_keys.specs.Inside as inside;
 ghost use Rattle.inside_keys.specs.States as states;
 ghost use Rattle.inside_parts.specs.Faults.{Tells};
-ghost use Rattle.inside_walk.specs.Tasks.{Leads, after, continued, scope_of, size_by, sizes_task, waited};
+ghost use Rattle.inside_walk.specs.Tasks.{Leads, after, continued, scope_of, size_by, sizes_task};
+ghost use Rattle.inside_walk.specs.Tasks.{waited};
 ghost use Rattle.inside_walk.specs.declared.task.Task.TheVariants as doing;
 ghost use Rattle.inside_walk.specs.declared.task.Wait.TheVariants as on;
-ghost use Rattle.inside_walk.specs.Weights.{Spends, of_section, of_gates, of_element, of_elements, of_submodule, of_submodules, of_type_gates, of_typed, of_types, of_wait};
+ghost use Rattle.inside_walk.specs.Weights.{Spends, of_section, of_gates, of_element, of_elements};
+ghost use Rattle.inside_walk.specs.Weights.{of_submodule, of_submodules, of_type_gates, of_typed};
+ghost use Rattle.inside_walk.specs.Weights.{of_types, of_wait};
 
 use crate::task::{Ground, Next, Sort, Task, Wait};
 use inside_keys::found::State;
@@ -115,8 +119,10 @@ fn gate<'m>(
     rest: &'m [TypeGate],
     state: State,
 ) -> Result<Next<'m>, InsideError>
-    ensures leads { Leads _ground.now result tasks.new (inside.gates holder (size_by sort) (gate.now ∷ rest.now) state (continued _ground.now tasks.old)) }
-    ensures spends { Spends _ground.now (of_gates rest.now + 3) 0 tasks.old state.turns result tasks.new }
+    ensures leads { Leads _ground.now result tasks.new (inside.gates holder (size_by sort)
+        (gate.now ∷ rest.now) state (continued _ground.now tasks.old)) }
+    ensures spends { Spends _ground.now (of_gates rest.now + 3) 0 tasks.old state.turns
+        result tasks.new }
 {
     if gate.kind.is_vector {
         let key = holder.key(alloc, size_of(alloc, sort, &gate.name)?)?;
@@ -138,8 +144,10 @@ pub fn gates<'m>(
     gates: &'m [TypeGate],
     state: State,
 ) -> Result<Next<'m>, InsideError>
-    ensures leads { Leads ground.now result tasks.new (inside.gates holder (size_by sort) gates.now state (continued ground.now tasks.old)) }
-    ensures spends { Spends ground.now (of_gates gates.now) 0 tasks.old state.turns result tasks.new }
+    ensures leads { Leads ground.now result tasks.new
+        (inside.gates holder (size_by sort) gates.now state (continued ground.now tasks.old)) }
+    ensures spends { Spends ground.now (of_gates gates.now) 0 tasks.old state.turns
+        result tasks.new }
 {
     let Some((first, rest)) = gates.split_first() else {
         return Ok(Next::Go(state));
@@ -157,8 +165,10 @@ fn parameter<'m>(
     rest: &'m [SectionLine],
     state: State,
 ) -> Result<Next<'m>, InsideError>
-    ensures leads { Leads _ground.now result tasks.new (inside.parameters holder (line.now ∷ rest.now) state (continued _ground.now tasks.old)) }
-    ensures spends { Spends _ground.now (of_section rest.now + 3) 0 tasks.old state.turns result tasks.new }
+    ensures leads { Leads _ground.now result tasks.new
+        (inside.parameters holder (line.now ∷ rest.now) state (continued _ground.now tasks.old)) }
+    ensures spends { Spends _ground.now (of_section rest.now + 3) 0 tasks.old state.turns
+        result tasks.new }
 {
     let SectionLine::Declaration(declaration) = line else {
         tasks.push(Task::Parameters(holder, rest))?;
@@ -178,8 +188,10 @@ pub fn parameters<'m>(
     lines: &'m [SectionLine],
     state: State,
 ) -> Result<Next<'m>, InsideError>
-    ensures leads { Leads ground.now result tasks.new (inside.parameters holder lines.now state (continued ground.now tasks.old)) }
-    ensures spends { Spends ground.now (of_section lines.now) 0 tasks.old state.turns result tasks.new }
+    ensures leads { Leads ground.now result tasks.new
+        (inside.parameters holder lines.now state (continued ground.now tasks.old)) }
+    ensures spends { Spends ground.now (of_section lines.now) 0 tasks.old state.turns
+        result tasks.new }
 {
     let Some((first, rest)) = lines.split_first() else {
         return Ok(Next::Go(state));
@@ -225,7 +237,8 @@ fn misplaced_of<'m>(
     number: usize,
     declared: &'m TypeDeclaration,
 ) -> Option<&'m Text>
-    ensures { option_copied result ≡ inside.misplaced_of ground.now.site ground.now.types.now ground.now.gates.now ground.now.is_whole submodule.now number declared.now }
+    ensures { option_copied result ≡ inside.misplaced_of ground.now.site ground.now.types.now
+        ground.now.gates.now ground.now.is_whole submodule.now number declared.now }
 {
     misplaced_in(gates_at(ground.gates, number), declared, &submodule.body)
 }
@@ -250,7 +263,8 @@ pub fn misplaced<'m>(
     name: &'m Text,
     state: State,
 ) -> Result<Next<'m>, InsideError>
-    ensures leads { Leads _ground.now result _tasks.new (after _ground.now (doing.Misplaced holder name.entry) (scope_of _tasks.old) state (continued _ground.now _tasks.old)) }
+    ensures leads { Leads _ground.now result _tasks.new (after _ground.now (doing.Misplaced holder
+        name.entry) (scope_of _tasks.old) state (continued _ground.now _tasks.old)) }
     ensures spends { Spends _ground.now 3 0 _tasks.old state.turns result _tasks.new }
 {
     let key = holder.key(alloc, What::Declared(name.copy(alloc)?))?;
@@ -270,8 +284,11 @@ fn of_type<'m>(
     state: State,
 ) -> Result<Next<'m>, InsideError>
     requires { of_section declared.now.lines ≤ of_types ground.now.types.now }
-    ensures leads { Leads ground.now result tasks.new (inside.element_of ground.now.site ground.now.types.now ground.now.gates.now ground.now.is_whole submodule.now child index number state (continued ground.now tasks.old) declared.now) }
-    ensures spends { Spends ground.now (of_typed ground.now) 0 tasks.old state.turns result tasks.new }
+    ensures leads { Leads ground.now result tasks.new (inside.element_of ground.now.site
+        ground.now.types.now ground.now.gates.now ground.now.is_whole submodule.now child index
+        number state (continued ground.now tasks.old) declared.now) }
+    ensures spends { Spends ground.now (of_typed ground.now) 0 tasks.old state.turns
+        result tasks.new }
 {
     let holder = child.copy(alloc)?;
     let gates = gates_of(ground.gates, number);
@@ -309,8 +326,11 @@ fn typed<'m>(
     number: usize,
     state: State,
 ) -> Result<Next<'m>, InsideError>
-    ensures leads { Leads ground.now result tasks.new (inside.element_typed ground.now.site ground.now.types.now ground.now.gates.now ground.now.is_whole submodule.now child index number state (continued ground.now tasks.old)) }
-    ensures spends { Spends ground.now (of_typed ground.now) 0 tasks.old state.turns result tasks.new }
+    ensures leads { Leads ground.now result tasks.new (inside.element_typed ground.now.site
+        ground.now.types.now ground.now.gates.now ground.now.is_whole submodule.now child index
+        number state (continued ground.now tasks.old)) }
+    ensures spends { Spends ground.now (of_typed ground.now) 0 tasks.old state.turns
+        result tasks.new }
 {
     let Some(declared) = type_at(ground.types, number) else {
         return Err(InsideError::Fault(InsideFault::UnknownType));
@@ -329,8 +349,11 @@ fn element<'m>(
     index: Option<u32>,
     state: State,
 ) -> Result<Next<'m>, InsideError>
-    ensures leads { Leads ground.now result _tasks.new (inside.element ground.now.site ground.now.types.now ground.now.gates.now ground.now.is_whole submodule.now index state (continued ground.now _tasks.old)) }
-    ensures spends { Spends ground.now (of_element ground.now) 0 _tasks.old state.turns result _tasks.new }
+    ensures leads { Leads ground.now
+        result _tasks.new (inside.element ground.now.site ground.now.types.now ground.now.gates.now
+        ground.now.is_whole submodule.now index state (continued ground.now _tasks.old)) }
+    ensures spends { Spends ground.now (of_element ground.now) 0 _tasks.old state.turns result
+        _tasks.new }
 {
     let child = ground.site.child(alloc, &submodule.name, index)?;
     let key = child.key(alloc, What::Type)?;
@@ -354,8 +377,11 @@ pub fn elements<'m>(
     all: u32,
     state: State,
 ) -> Result<Next<'m>, InsideError>
-    ensures leads { Leads ground.now result tasks.new (inside.elements ground.now.site ground.now.types.now ground.now.gates.now ground.now.is_whole left all submodule.now state (continued ground.now tasks.old)) }
-    ensures spends { Spends ground.now (of_elements ground.now left) 0 tasks.old state.turns result tasks.new }
+    ensures leads { Leads ground.now
+        result tasks.new (inside.elements ground.now.site ground.now.types.now ground.now.gates.now
+        ground.now.is_whole left all submodule.now state (continued ground.now tasks.old)) }
+    ensures spends { Spends ground.now (of_elements ground.now left) 0 tasks.old state.turns
+        result tasks.new }
 {
     if left == 0 {
         return Ok(Next::Go(state));
@@ -373,8 +399,11 @@ fn submodule_there<'m>(
     submodule: &'m Submodule,
     state: State,
 ) -> Result<Next<'m>, InsideError>
-    ensures leads { Leads ground.now result tasks.new (inside.submodule_there ground.now.site ground.now.types.now ground.now.gates.now ground.now.is_whole submodule.now state (continued ground.now tasks.old)) }
-    ensures spends { Spends ground.now (65536 * of_element ground.now + of_element ground.now + 5) 0 tasks.old state.turns result tasks.new }
+    ensures leads { Leads ground.now result
+        tasks.new (inside.submodule_there ground.now.site ground.now.types.now ground.now.gates.now
+        ground.now.is_whole submodule.now state (continued ground.now tasks.old)) }
+    ensures spends { Spends ground.now (65536 * of_element ground.now + of_element ground.now + 5) 0
+        tasks.old state.turns result tasks.new }
 {
     if submodule.size.is_some() {
         let key = ground
@@ -395,8 +424,11 @@ fn submodule<'m>(
     submodule: &'m Submodule,
     state: State,
 ) -> Result<Next<'m>, InsideError>
-    ensures leads { Leads ground.now result tasks.new (inside.submodule ground.now.site ground.now.types.now ground.now.gates.now ground.now.is_whole submodule.now state (continued ground.now tasks.old)) }
-    ensures spends { Spends ground.now (of_submodule ground.now) 0 tasks.old state.turns result tasks.new }
+    ensures leads { Leads ground.now
+        result tasks.new (inside.submodule ground.now.site ground.now.types.now ground.now.gates.now
+        ground.now.is_whole submodule.now state (continued ground.now tasks.old)) }
+    ensures spends { Spends ground.now (of_submodule ground.now) 0 tasks.old state.turns
+        result tasks.new }
 {
     if submodule.condition.is_some() {
         let key = ground
@@ -415,8 +447,11 @@ pub fn submodules<'m>(
     submodules: &'m [Submodule],
     state: State,
 ) -> Result<Next<'m>, InsideError>
-    ensures leads { Leads ground.now result tasks.new (inside.submodules ground.now.site ground.now.types.now ground.now.gates.now ground.now.is_whole submodules.now state (continued ground.now tasks.old)) }
-    ensures spends { Spends ground.now (of_submodules ground.now submodules.now) 0 tasks.old state.turns result tasks.new }
+    ensures leads { Leads ground.now result
+        tasks.new (inside.submodules ground.now.site ground.now.types.now ground.now.gates.now
+        ground.now.is_whole submodules.now state (continued ground.now tasks.old)) }
+    ensures spends { Spends ground.now (of_submodules ground.now submodules.now) 0 tasks.old
+        state.turns result tasks.new }
 {
     let Some((first, rest)) = submodules.split_first() else {
         return Ok(Next::Go(state));
@@ -467,9 +502,12 @@ fn elements_begun<'m>(
     state: State,
 ) -> Result<Next<'m>, InsideError>
     requires { size ≤ 65536 }
-    ensures leads { Leads ground.now result tasks.new (inside.elements ground.now.site ground.now.types.now ground.now.gates.now ground.now.is_whole size size submodule.now
-        (states.noted state (Made.Vector (length state.parts.parts) size)) (continued ground.now tasks.old)) }
-    ensures spends { Spends ground.now (65536 * of_element ground.now + 3) 0 tasks.old state.turns result tasks.new }
+    ensures leads { Leads ground.now result tasks.new (inside.elements ground.now.site
+        ground.now.types.now ground.now.gates.now ground.now.is_whole size size submodule.now
+        (states.noted state (Made.Vector (length state.parts.parts) size))
+        (continued ground.now tasks.old)) }
+    ensures spends { Spends ground.now (65536 * of_element ground.now + 3) 0 tasks.old state.turns
+        result tasks.new }
 {
     let made = Made::Vector(state.parts.parts.len(), size);
     let state = noted(state, made)?;
@@ -486,8 +524,10 @@ fn held<'m>(
     value: &Value,
     state: State,
 ) -> Result<Next<'m>, InsideError>
-    ensures leads { Leads ground.now result tasks.new (waited ground.now (on.Condition submodule.entry) value.now state (continued ground.now tasks.old)) }
-    ensures spends { Spends ground.now (65536 * of_element ground.now + of_element ground.now + 6) 0 tasks.old state.turns result tasks.new }
+    ensures leads { Leads ground.now result tasks.new (waited ground.now
+        (on.Condition submodule.entry) value.now state (continued ground.now tasks.old)) }
+    ensures spends { Spends ground.now (65536 * of_element ground.now + of_element ground.now + 6) 0
+        tasks.old state.turns result tasks.new }
 {
     match value {
         Value::Truth(true) => submodule_there(alloc, ground, tasks, submodule, state),
@@ -509,8 +549,10 @@ fn known<'m>(
     value: &Value,
     state: State,
 ) -> Result<Next<'m>, InsideError>
-    ensures leads { Leads ground.now result tasks.new (waited ground.now (on.Type submodule.entry index) value.now state (continued ground.now tasks.old)) }
-    ensures spends { Spends ground.now (of_typed ground.now) 0 tasks.old state.turns result tasks.new }
+    ensures leads { Leads ground.now result tasks.new (waited ground.now
+        (on.Type submodule.entry index) value.now state (continued ground.now tasks.old)) }
+    ensures spends { Spends ground.now (of_typed ground.now) 0 tasks.old state.turns
+        result tasks.new }
 {
     let number = number(value)?;
     let child = ground.site.child(alloc, &submodule.name, index)?;
@@ -526,8 +568,10 @@ pub fn waited<'m>(
     value: &Value,
     state: State,
 ) -> Result<Next<'m>, InsideError>
-    ensures leads { Leads ground.now result tasks.new (waited ground.now wait.entry value.now state (continued ground.now tasks.old)) }
-    ensures spends { Spends ground.now (of_wait ground.now wait.entry) 0 tasks.old state.turns result tasks.new }
+    ensures leads { Leads ground.now result tasks.new
+        (waited ground.now wait.entry value.now state (continued ground.now tasks.old)) }
+    ensures spends { Spends ground.now (of_wait ground.now wait.entry) 0 tasks.old state.turns
+        result tasks.new }
 {
     match wait {
         Wait::Parameter => Ok(Next::Go(state)),

@@ -1,11 +1,16 @@
 -- Which gate an end of a connection names.
-use Rattle.std.specs.Prelude.{ℕ, ℤ, pos, negsuc, ◌+◌, Bool, true, false, ◌&&◌, ◌||◌, not, nat_lt, List, ◌∷◌, Option, Some, None, Result, Ok, Err, if◌then◌else◌, slice_index, slice_set, slice_get, length}
+use Rattle.std.specs.Prelude.{ℕ, ℤ, pos, negsuc, ◌+◌, Bool, true, false, ◌&&◌, ◌||◌, not, nat_lt}
+use Rattle.std.specs.Prelude.{List, ◌∷◌, Option, Some, None, Result, Ok, Err, if◌then◌else◌}
+use Rattle.std.specs.Prelude.{slice_index, slice_set, slice_get, length}
 use Rattle.inside_parts.specs.declared.fault.InsideFault.{InsideFault}
-use Rattle.inside_parts.specs.declared.fault.InsideFault.TheVariants.{NoGate, GateSize, AlreadyConnected}
+use Rattle.inside_parts.specs.declared.fault.InsideFault.TheVariants.{NoGate, GateSize}
+use Rattle.inside_parts.specs.declared.fault.InsideFault.TheVariants.{AlreadyConnected}
 use Rattle.ned_trees.specs.declared.connections.Arrow.{Arrow}
 use Rattle.ned_trees.specs.declared.connections.Arrow.TheVariants.{Right, Left, Both as BothWays}
 use Rattle.ned_trees.specs.declared.declarations.GateDirection.{GateDirection}
-use Rattle.ned_trees.specs.declared.declarations.GateDirection.TheVariants.{Input as IsInput, Output as IsOutput, Inout}
+use Rattle.ned_trees.specs.declared.declarations.GateDirection.TheVariants.{Input as IsInput}
+use Rattle.ned_trees.specs.declared.declarations.GateDirection.TheVariants.{Output as IsOutput}
+use Rattle.ned_trees.specs.declared.declarations.GateDirection.TheVariants.{Inout}
 use Rattle.inside_parts.specs.declared.gates.TypeGate.{TypeGate}
 use Rattle.ned_trees.specs.declared.connections.Half.{Half}
 use Rattle.ned_trees.specs.declared.connections.Half.TheVariants.{Input, Output}
@@ -35,7 +40,8 @@ natural (negsuc n) = None
 -- of the parts of a vector, which begin at `first`, that of an index; there are `all` parts
 abbrev pub within : ℕ → ℕ → ℕ → Option ℕ → Option ℕ
 within all first count None = None
-within all first count (Some i) = if nat_lt i count && nat_lt (first + i) all then Some (first + i) else None
+within all first count (Some i) =
+    if nat_lt i count && nat_lt (first + i) all then Some (first + i) else None
 
 -- the number of the part that a name without or with an index means, by what was made of the
 -- declaration of that name
@@ -60,24 +66,33 @@ part_named names ps name index = or_fault NoGate (part_at ps (position_of name n
 abbrev pub gate_of_kind : ℕ → ℕ → Part → ℕ → Option TypeGate → Option NamedGate
 gate_of_kind count number part g None = None
 gate_of_kind count number part g (Some gate) =
-    if nat_lt (part.first + g) count then Some (record { part = number; vector = part.first + g; kind = gate.kind; is_own = part.is_own }) else None
+    if nat_lt (part.first + g) count then Some (record {
+      part = number;
+      vector = part.first + g;
+      kind = gate.kind;
+      is_own = part.is_own;
+    }) else None
 
 abbrev pub gate_at : ℕ → ℕ → Part → TypeGates → Option ℕ → Option NamedGate
 gate_at count number part found None = None
-gate_at count number part found (Some g) = gate_of_kind count number part g (slice_get found.gates g)
+gate_at count number part found (Some g) =
+    gate_of_kind count number part g (slice_get found.gates g)
 
 abbrev pub gate_of_part : ℕ → ℕ → List ℕ → Part → Option TypeGates → Option NamedGate
 gate_of_part count number name part None = None
-gate_of_part count number name part (Some found) = gate_at count number part found (position_of name found.names)
+gate_of_part count number name part (Some found) =
+    gate_at count number part found (position_of name found.names)
 
 abbrev pub gate_of : ℕ → ℕ → List TypeGates → List ℕ → Option Part → Option NamedGate
 gate_of count number types name None = None
-gate_of count number types name (Some part) = gate_of_part count number name part (slice_get types part.of_type)
+gate_of count number types name (Some part) =
+    gate_of_part count number name part (slice_get types part.of_type)
 
 -- WHICH GATE a name means in a part, where the types have these gates; `count` is the number of all
 -- gate vectors
 abbrev pub gate_named : List TypeGates → Parts → ℕ → ℕ → List ℕ → Result NamedGate InsideFault
-gate_named types ps count part name = or_fault NoGate (gate_of count part types name (slice_get ps.parts part))
+gate_named types ps count part name =
+    or_fault NoGate (gate_of count part types name (slice_get ps.parts part))
 
 -- whether a half of a gate gives what a role needs: inside a compound module its own gates are seen
 -- from within
@@ -105,15 +120,18 @@ extended w v = record { sizes = slice_set w.sizes v (slice_index w.sizes v + 1);
 
 -- a gate at an index within the vector
 abbrev pub unless_taken : Wired → Option GateId → Role → GateId → Result Taken InsideFault
-unless_taken w other role id = if is_open w.links other role (key id) then Ok (record { wiring = w; id = id }) else Err AlreadyConnected
+unless_taken w other role id = if is_open w.links other role (key id)
+    then Ok (record { wiring = w; id = id }) else Err AlreadyConnected
 
 -- the gate of a vector at an index
 abbrev pub gate_of_vector : NamedGate → ℕ → GateId
 gate_of_vector g i = record { part = g.part; vector = g.vector; index = i }
 
-abbrev pub at_natural : Wired → Option GateId → Role → NamedGate → Option ℕ → Result Taken InsideFault
+abbrev pub at_natural : Wired → Option GateId → Role → NamedGate → Option ℕ
+    → Result Taken InsideFault
 at_natural w other role g None = Err GateSize
-at_natural w other role g (Some i) = if nat_lt i (slice_index w.sizes g.vector) then unless_taken w other role (gate_of_vector g i) else Err GateSize
+at_natural w other role g (Some i) = if nat_lt i (slice_index w.sizes g.vector)
+    then unless_taken w other role (gate_of_vector g i) else Err GateSize
 
 -- `[index]`
 abbrev pub at_index : Wired → Option GateId → Role → NamedGate → ℤ → Result Taken InsideFault
@@ -121,7 +139,8 @@ at_index w other role g z = at_natural w other role g (natural z)
 
 abbrev pub at_free : Wired → NamedGate → ℕ → Result Taken InsideFault
 at_free w g i =
-    if nat_lt i (slice_index w.sizes g.vector) then Ok (record { wiring = w; id = gate_of_vector g i })
+    if nat_lt i (slice_index w.sizes g.vector)
+    then Ok (record { wiring = w; id = gate_of_vector g i })
     else if g.is_own || not (nat_lt i 65536) then Err GateSize
     else Ok (record { wiring = extended w g.vector; id = gate_of_vector g i })
 
@@ -156,4 +175,5 @@ link s t c = record { from = s; to = t; carrier = c }
 abbrev pub linked : Arrow → GateId → GateId → Carrier → Carrier → Wired → Wired
 linked Right l r onwards back w = record { sizes = w.sizes; links = link l r onwards ∷ w.links }
 linked Left l r onwards back w = record { sizes = w.sizes; links = link r l onwards ∷ w.links }
-linked BothWays l r onwards back w = record { sizes = w.sizes; links = link r l back ∷ link l r onwards ∷ w.links }
+linked BothWays l r onwards back w =
+    record { sizes = w.sizes; links = link r l back ∷ link l r onwards ∷ w.links }

@@ -1,5 +1,6 @@
 -- The connections made so far, and what is free.
-use Rattle.std.specs.Prelude.{ℕ, suc, zero, ◌+◌, Bool, true, ◌&&◌, not, nat_eq, List, [], ◌∷◌, Option, Some, None, is_none, if◌then◌else◌, slice_index}
+use Rattle.std.specs.Prelude.{ℕ, suc, zero, ◌+◌, Bool, true, ◌&&◌, not, nat_eq, List, [], ◌∷◌}
+use Rattle.std.specs.Prelude.{Option, Some, None, is_none, if◌then◌else◌, slice_index}
 use Rattle.inside_wiring.specs.declared.wiring.GateId.{GateId}
 use Rattle.inside_wiring.specs.declared.wiring.Link.{Link}
 use Rattle.inside_wiring.specs.declared.wiring.Role.{Role}

@@ -139,7 +139,8 @@ fn gate_of_part(
     part: Part,
     name: &Text,
 ) -> Option<NamedGate>
-    ensures value { result ≡ ends.gate_of_part count number name.now part (slice_get types.now part.of_type) }
+    ensures value { result
+        ≡ ends.gate_of_part count number name.now part (slice_get types.now part.of_type) }
     ensures within { IfSome result (λ f. f.vector < count) }
 {
     let found = types.get(part.of_type)?;

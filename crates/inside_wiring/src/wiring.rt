@@ -1,9 +1,11 @@
 //! The connections of a compound module while they are made: what is connected, how large the gate
 //! vectors are, and the first free gates.
 
-ghost use Rattle.std.specs.Prelude.{◌≡◌, ◌<◌, ◌≤◌, ◌+◌, ◌++◌, ◌∷◌, [], ℕ, IfOk, Option, slice_index, slice_set, length, Some, false};
+ghost use Rattle.std.specs.Prelude.{◌≡◌, ◌<◌, ◌≤◌, ◌+◌, ◌++◌, ◌∷◌, [], ℕ, IfOk, Option};
+ghost use Rattle.std.specs.Prelude.{slice_index, slice_set, length, Some, false};
 ghost use Rattle.std.specs.Option.{option_copied};
-ghost use Rattle.inside_wiring.specs.Wired.{Wired, key, link_from, link_to, is_free, is_open, next_index};
+ghost use Rattle.inside_wiring.specs.Wired.{Wired, key, link_from, link_to, is_free, is_open};
+ghost use Rattle.inside_wiring.specs.Wired.{next_index};
 
 use inside_parts::stack::Stack;
 use sim_values::NoMemory;
@@ -79,7 +81,8 @@ impl Model for Wiring {
 
     ghost view = { λ w. record { sizes = w.sizes.items; links = w.links } };
 
-    ghost invariant = { λ w. IsIndexed w.links w.sources w.targets w.source_hints w.target_hints w.both_hints };
+    ghost invariant = { λ w. IsIndexed w.links w.sources w.targets w.source_hints w.target_hints
+        w.both_hints };
 }
 
 fn key_of(id: GateId) -> (usize, u32)
@@ -113,7 +116,8 @@ impl Wiring {
 
     /// One more gate vector of that size, at the end.
     pub fn add(self, size: u32) -> Result<Wiring, NoMemory>
-        ensures { IfOk result (λ w. w ≡ record { sizes = self.sizes ++ size ∷ []; links = self.links }) }
+        ensures { IfOk result
+            (λ w. w ≡ record { sizes = self.sizes ++ size ∷ []; links = self.links }) }
     {
         let Wiring {
             mut sizes,
@@ -148,7 +152,11 @@ impl Wiring {
     pub fn extend(&mut self, vector: usize)
         requires known { vector < length self.old.sizes }
         requires room { slice_index self.old.sizes vector < 65536 }
-        ensures { self.new ≡ record { sizes = slice_set self.old.sizes vector (slice_index self.old.sizes vector + 1); links = self.old.links } }
+        ensures { self.new ≡ record {
+          sizes = slice_set self.old.sizes vector
+              (slice_index self.old.sizes vector + 1);
+          links = self.old.links;
+        } }
     {
         self.sizes[vector] += 1;
     }
@@ -234,7 +242,8 @@ impl Wiring {
     pub fn next_index(&self, other: Option<GateId>, role: Role, vector: usize) -> u32
         requires { vector < length self.now.sizes }
         ensures least { result ≡ next_index self.now other role vector }
-        ensures below { (i : ℕ) → i < result → is_open self.now.links other role (vector, i) ≡ false }
+        ensures below { (i : ℕ) → i < result
+            → is_open self.now.links other role (vector, i) ≡ false }
     {
         let size = self.size(vector);
         for index in self.hint(role, vector)..size {

@@ -26,7 +26,8 @@ module _ {C X : Type 0} {Y : X → Type 0} where
   HasKinds b members k = AreOfKinds b (boxes_in members k)
 
   -- Its modules can be called: each box is of its kind, and so many more insertions have numbers.
-  pub record IsCallable (b : Behaviour) (members : Members X Y) (insertions : ℕ) (k : Kernel C X Y) : Type 0 where
+  pub record IsCallable (b : Behaviour) (members : Members X Y) (insertions : ℕ)
+      (k : Kernel C X Y) : Type 0 where
     pub room : (world_in members k).next + insertions < 2 ^ 128
     pub kinds : HasKinds b members k
 

@@ -16,4 +16,5 @@ injection_asked m w = answer_of m w.records (InjectionBefore (first_due w.pendin
 -- discarded, and the next one is looked at
 abbrev pub LooksOn : Answers → World → Option Next → World → Type 0
 LooksOn m w (Some n) w' = (left : ℕ) → upcoming_in (suc left) m w.pending w ≡ upcoming_of n w'
-LooksOn m w None w' = (left : ℕ) → upcoming_in (suc left) m w.pending w ≡ upcoming_in left m w.pending w'
+LooksOn m w None w' = (left : ℕ)
+    → upcoming_in (suc left) m w.pending w ≡ upcoming_in left m w.pending w'

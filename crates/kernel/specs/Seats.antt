@@ -1,5 +1,6 @@
 -- The world that a core and its boxes make.
-use Rattle.std.specs.Prelude.{◌≡◌, ℕ, Bool, false, bytes_eq, List, [], ◌∷◌, Option, Some, None, option_map, Result, map, length, take}
+use Rattle.std.specs.Prelude.{◌≡◌, ℕ, Bool, false, bytes_eq, List, [], ◌∷◌, Option, Some, None}
+use Rattle.std.specs.Prelude.{option_map, Result, map, length, take}
 use Rattle.sim_values.specs.declared.NoMemory.{NoMemory}
 use Rattle.module_api.specs.declared.call.Call.{Call}
 use Rattle.module_api.specs.declared.reply.Reply.{Reply}
@@ -19,7 +20,8 @@ abbrev pub world_of : World → List BoxAt → World
 world_of core seats = record core { modules = map instance_of seats }
 
 -- The box of that id answered the call, and no other changed.
-pub record IsCalled (id : ℕ) (old new : List BoxAt) (call : Call) (result : Result Reply NoMemory) : Type 0 where
+pub record IsCalled (id : ℕ) (old new : List BoxAt) (call : Call)
+    (result : Result Reply NoMemory) : Type 0 where
   pub before : Module
   pub after : Module
   pub found : module_in id old ≡ Some before
@@ -57,7 +59,8 @@ missing_of w boxes = option_map (request_for w) (missing_part w boxes)
 -- THE BOX THAT IS WANTED where a run goes back to a position of these modules: that of the first
 -- one of which none stays
 abbrev pub lacking_of : World → List Instance → List BoxAt → Option Request
-lacking_of w saved seats = option_map (request_for w) (first_without (standing (map instance_of (staying saved seats))) (standing saved))
+lacking_of w saved seats = option_map (request_for w)
+    (first_without (standing (map instance_of (staying saved seats))) (standing saved))
 
 -- ---- boxes that wait for the start of their modules
 

@@ -1,6 +1,7 @@
 //! A world in code, one event at a time.
 
-ghost use Rattle.std.specs.Prelude.{◌≡◌, ◌+◌, ◌^◌, ◌<◌, ◌≤◌, OnOk, OnErr, IfOk, IfSome, None, [], length, max, slice_get, drop, option_map};
+ghost use Rattle.std.specs.Prelude.{◌≡◌, ◌+◌, ◌^◌, ◌<◌, ◌≤◌, OnOk, OnErr, IfOk, IfSome, None, []};
+ghost use Rattle.std.specs.Prelude.{length, max, slice_get, drop, option_map};
 ghost use Rattle.module_api.specs.Meaning.{Answered, IsSameModule};
 ghost use Rattle.module_tree.specs.Boxes.{nothing};
 ghost use Rattle.run_question_log.specs.Entries.{noted_in};
@@ -12,15 +13,22 @@ ghost use Rattle.run_semantics.specs.Upcoming.{target_of, upcoming};
 ghost use Rattle.kernel_call_views.specs.Tables.{AreShown};
 ghost use Rattle.kernel_actions.specs.Upcoming.{looked, upcoming_of};
 ghost use Rattle.kernel.specs.Looks.{LooksOn};
-ghost use Rattle.run_semantics.specs.Run.{Running, Part, stage_of, standing, needs, settled, prepared, ready, parts_from, initialize, most_stages, one_stage, stages_from, stages_in, start, next_stage, stopped};
+ghost use Rattle.run_semantics.specs.Run.{Running, Part, stage_of, standing, needs, settled};
+ghost use Rattle.run_semantics.specs.Run.{prepared, ready, parts_from, initialize, most_stages};
+ghost use Rattle.run_semantics.specs.Run.{one_stage, stages_from, stages_in, start, next_stage};
+ghost use Rattle.run_semantics.specs.Run.{stopped};
 ghost use Rattle.run_semantics.specs.Ending.{call_last, finish, finish_all, ending};
-ghost use Rattle.kernel.specs.Seats.{stages_of, stands_at, AreFirst, AreFresh, IsServed, IsUnstarted, lacking_of, missing_of, missing_part, request_for};
-ghost use Rattle.kernel_actions.specs.Positions.{position_of, cut_to, world_back, IsGrownFrom, IsSameBesideModules};
+ghost use Rattle.kernel.specs.Seats.{stages_of, stands_at, AreFirst, AreFresh, IsServed};
+ghost use Rattle.kernel.specs.Seats.{IsUnstarted, lacking_of, missing_of, missing_part};
+ghost use Rattle.kernel.specs.Seats.{request_for};
+ghost use Rattle.kernel_actions.specs.Positions.{position_of, cut_to, world_back, IsGrownFrom};
+ghost use Rattle.kernel_actions.specs.Positions.{IsSameBesideModules};
 ghost use Rattle.kernel_boxes.specs.Seats.{module_in, AreKept};
 ghost use Rattle.kernel_boxes.specs.Staying.{first_without, staying, IdsRise};
 ghost use Rattle.run_semantics.specs.Laws.{AreStates};
 ghost use Rattle.kernel_boxes.specs.Saved.{CanTake, Takes, instances_held, seats_held};
-ghost use Rattle.kernel.specs.Kernels.{boxes_in, world_in, ran_in, HasKinds, IsCallable, KeepsBoxes};
+ghost use Rattle.kernel.specs.Kernels.{boxes_in, world_in, ran_in, HasKinds, IsCallable};
+ghost use Rattle.kernel.specs.Kernels.{KeepsBoxes};
 
 use crate::from_model::{ask_injection, call_shown, prepare, read_fault};
 use crate::request::Request;
@@ -219,7 +227,8 @@ impl<C: Catalogue> Kernel<C> {
         requires first { AreFirst C.behaviour (world_in SimpleModule-box self.now)
             (seats_held SimpleModule-box waiting.now) }
         ensures { let held = standing (instances_held SimpleModule-box waiting.now) in
-            result ≡ option_map (λ (p : Part). p.id) (missing_part (world_in SimpleModule-box self.now) held) }
+            result ≡ option_map (λ (p : Part). p.id)
+            (missing_part (world_in SimpleModule-box self.now) held) }
     {
         match self.missing_part(waiting) {
             Some((id, _)) => Some(id),
@@ -274,7 +283,8 @@ impl<C: Catalogue> Kernel<C> {
         requires { (world_in SimpleModule-box self.old).next + 1 < 2 ^ 128 }
         ensures boxes { self.new.boxes ≡ self.old.boxes }
         ensures step { IfOk result (λ turn. flow_of turn (world_in SimpleModule-box self.new)
-            ≡ act C.behaviour A.answers occasion id action.now (world_in SimpleModule-box self.old)) }
+            ≡ act C.behaviour A.answers occasion id action.now
+            (world_in SimpleModule-box self.old)) }
         ensures grown { IsGrownFrom self.old.core self.new.core }
     {
         if action.has_large_payload() {
@@ -298,7 +308,8 @@ impl<C: Catalogue> Kernel<C> {
         requires { (world_in SimpleModule-box self.old).next + length actions.now < 2 ^ 128 }
         ensures boxes { self.new.boxes ≡ self.old.boxes }
         ensures step { IfOk result (λ turn. flow_of turn (world_in SimpleModule-box self.new)
-            ≡ act_all C.behaviour A.answers occasion id actions.now (world_in SimpleModule-box self.old)) }
+            ≡ act_all C.behaviour A.answers occasion id actions.now
+            (world_in SimpleModule-box self.old)) }
         ensures grown { IsGrownFrom self.old.core self.new.core }
     {
         for action in actions {
@@ -323,7 +334,8 @@ impl<C: Catalogue> Kernel<C> {
         requires { (world_in SimpleModule-box self.old).next + 1000 < 2 ^ 128 }
         ensures boxes { self.new.boxes ≡ self.old.boxes }
         ensures step { IfOk result (λ turn. flow_of turn (world_in SimpleModule-box self.new)
-            ≡ acted C.behaviour A.answers occasion id actions.now (world_in SimpleModule-box self.old)) }
+            ≡ acted C.behaviour A.answers occasion id actions.now
+            (world_in SimpleModule-box self.old)) }
         ensures grown { IsGrownFrom self.old.core self.new.core }
     {
         if actions.len() > MAX_ACTIONS {
@@ -421,7 +433,8 @@ impl<C: Catalogue> Kernel<C> {
         requires shown { AreShown A.answers (world_in SimpleModule-box self.old).records shown.old }
         ensures kept { KeepsBoxes C.behaviour SimpleModule-box self.old self.new }
         ensures step { IfOk result (λ turn. flow_of turn (world_in SimpleModule-box self.new)
-            ≡ call_at C.behaviour A.answers occasion id prompt (world_in SimpleModule-box self.old)) }
+            ≡ call_at C.behaviour A.answers occasion id prompt
+            (world_in SimpleModule-box self.old)) }
         ensures grown { IsGrownFrom (world_in SimpleModule-box self.old)
             (world_in SimpleModule-box self.new) }
         ensures shown { AreShown A.answers (world_in SimpleModule-box self.new).records shown.new }
@@ -868,7 +881,8 @@ impl<C: Catalogue> Kernel<C> {
         requires kinds { HasKinds C.behaviour SimpleModule-box self.old }
         requires rising { IdsRise 0 position.now.modules }
         requires states { AreStates C.behaviour position.now.modules }
-        ensures kept { let before = staying position.now.modules (boxes_in SimpleModule-box self.old) in
+        ensures kept { let before = staying position.now.modules
+            (boxes_in SimpleModule-box self.old) in
             AreKept C.behaviour before (boxes_in SimpleModule-box self.new) }
         ensures wanted { let before = boxes_in SimpleModule-box self.old in
             IfOk result (λ wanted.
@@ -876,7 +890,8 @@ impl<C: Catalogue> Kernel<C> {
         ensures ok { IfOk result (λ wanted. wanted ≡ None → world_in SimpleModule-box self.new
             ≡ world_back position.now (world_in SimpleModule-box self.old)) }
         ensures waits { IfOk result (λ wanted. IfSome wanted (λ request.
-            IsSameBesideModules (world_in SimpleModule-box self.new) (world_in SimpleModule-box self.old))) }
+            IsSameBesideModules (world_in SimpleModule-box self.new)
+            (world_in SimpleModule-box self.old))) }
         ensures err { OnErr result (IsSameBesideModules (world_in SimpleModule-box self.new)
             (world_in SimpleModule-box self.old)) }
     {
@@ -896,7 +911,8 @@ impl<C: Catalogue> Kernel<C> {
     fn lacking(&self, alloc: Global, position: &Position) -> Result<Option<Request>, NoMemory>
         ensures { let world = world_in SimpleModule-box self.now in
             IfOk result (λ wanted.
-            wanted ≡ option_map (request_for world) (first_without (standing world.modules) (standing position.now.modules))) }
+            wanted ≡ option_map (request_for world)
+            (first_without (standing world.modules) (standing position.now.modules))) }
     {
         match first_lacking(&self.boxes, position.modules.as_slice()) {
             Some(instance) => Ok(Some(Request {
@@ -998,7 +1014,11 @@ fn serve(held: &mut Box<dyn SimpleModule>, alloc: Global, call: &Call) -> Result
 
 /// What the call shows of its module that does not change from one call to the next.
 fn shown_in(call: Call) -> CallView
-    ensures { result ≡ record { path = call.path; parameters = call.parameters; gates = call.gates } }
+    ensures { result ≡ record {
+      path = call.path;
+      parameters = call.parameters;
+      gates = call.gates;
+    } }
 {
     let Call {
         time: _,

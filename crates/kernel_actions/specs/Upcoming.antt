@@ -1,5 +1,6 @@
 -- What comes next in a run, step by step.
-use Rattle.std.specs.Prelude.{◌≡◌, ℕ, ◌+◌, map, Bool, true, false, List, [], ◌∷◌, ◌++◌, Option, Result, Ok, Err}
+use Rattle.std.specs.Prelude.{◌≡◌, ℕ, ◌+◌, map, Bool, true, false, List, [], ◌∷◌, ◌++◌, Option}
+use Rattle.std.specs.Prelude.{Result, Ok, Err}
 use Rattle.model_questions.specs.declared.answer.AskedQuestion.{AskedQuestion}
 use Rattle.model_questions.specs.declared.answer.Question.TheVariants.{InjectionBefore}
 use Rattle.model_questions.specs.Answers.{is_beyond}
@@ -16,11 +17,15 @@ use Rattle.kernel_actions.specs.declared.looks.Next.TheVariants as next
 
 -- the questions that these looks ask, in that event
 abbrev pub asked_in : ℕ → List LookedAt → List AskedQuestion
-asked_in event looks = map (λ (l : LookedAt). record { event = event; question = InjectionBefore l.due l.last }) looks
+asked_in event looks =
+    map (λ (l : LookedAt). record { event = event; question = InjectionBefore l.due l.last }) looks
 
 -- the world in which all is noted that was asked to know what comes next
 abbrev pub looked : World → Look → World
-looked w look = record w { delivered = look.delivered; questions = w.questions ++ asked_in (w.count + 1) look.asked }
+looked w look = record w {
+  delivered = look.delivered;
+  questions = w.questions ++ asked_in (w.count + 1) look.asked;
+}
 
 -- what comes next of a world, in code
 abbrev pub upcoming_of : Next → World → Upcoming

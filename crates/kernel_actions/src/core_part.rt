@@ -1,20 +1,25 @@
 //! A world but for the modules and their states.
 
-ghost use Rattle.std.specs.Prelude.{◌≡◌, ◌+◌, ◌^◌, ◌<◌, OnOk, OnErr, IfOk, Some, true, [], ◌∷◌, ◌++◌, length, slice_get, ◌≤◌};
+ghost use Rattle.std.specs.Prelude.{◌≡◌, ◌+◌, ◌^◌, ◌<◌, OnOk, OnErr, IfOk, Some, true, [], ◌∷◌};
+ghost use Rattle.std.specs.Prelude.{◌++◌, length, slice_get, ◌≤◌};
 ghost use Rattle.model_questions.specs.Questions.{is_of_modules};
 ghost use Rattle.run_question_log.specs.Entries.{noted_in};
 ghost use Rattle.run_semantics.specs.World.{empty, asked, live_of, timed};
-ghost use Rattle.run_semantics.specs.Perform.{flow_of, deed, scheduled_at, ask_all, ask_noted, question_of, broken};
+ghost use Rattle.run_semantics.specs.Perform.{flow_of, deed, scheduled_at, ask_all, ask_noted};
+ghost use Rattle.run_semantics.specs.Perform.{question_of, broken};
 ghost use Rattle.run_semantics.specs.Routes.{arriving, hop_by, is_at, module_at, transmitting};
 ghost use Rattle.run_semantics.specs.Ending.{with_finished};
-ghost use Rattle.kernel_actions.specs.Upcoming.{asked_in, first_is_beyond, looked, with_injection_asked, upcoming_of, Begins};
+ghost use Rattle.kernel_actions.specs.Upcoming.{asked_in, first_is_beyond, looked};
+ghost use Rattle.kernel_actions.specs.Upcoming.{with_injection_asked, upcoming_of, Begins};
 ghost use Rattle.run_semantics.specs.Upcoming.{Comes, first_due, first_of};
 ghost use Rattle.model_injections.specs.Injections.{injection_before};
 ghost use Rattle.model_questions.specs.declared.answer.Question.TheVariants.{BeyondLimit};
-ghost use Rattle.run_semantics.specs.Run.{rooted, created, room_in, unless_many, with_submodules, with_started};
+ghost use Rattle.run_semantics.specs.Run.{rooted, created, room_in, unless_many, with_submodules};
+ghost use Rattle.run_semantics.specs.Run.{with_started};
 ghost use Rattle.run_semantics.specs.Ending.{to_finish};
 ghost use Rattle.run_semantics.specs.Subtree.{outer_first};
-ghost use Rattle.kernel_actions.specs.Positions.{lengths_of, position_of, cut_to, core_back, IsGrownFrom};
+ghost use Rattle.kernel_actions.specs.Positions.{lengths_of, position_of, cut_to, core_back};
+ghost use Rattle.kernel_actions.specs.Positions.{IsGrownFrom};
 
 use crate::classes::{copy_class, is_among};
 use crate::events::delivery_at;

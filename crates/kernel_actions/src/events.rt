@@ -40,7 +40,8 @@ pub fn delivery_at(
     gate: &PlacedGate,
     message: &Outgoing,
 ) -> Result<Delivery, AllocError>
-    ensures { IfOk result (λ delivery. arrives.Delivery delivery ≡ delivery_at gate.now message.now) }
+    ensures { IfOk result
+        (λ delivery. arrives.Delivery delivery ≡ delivery_at gate.now message.now) }
 {
     let payload = message.payload.copy(alloc)?;
     let name = gate.name.copy(alloc)?;

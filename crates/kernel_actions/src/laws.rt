@@ -7,7 +7,8 @@ ghost use Rattle.run_semantics.specs.Ending.{ending};
 ghost use Rattle.run_semantics.specs.Run.{after, run_to, world_at};
 ghost use Rattle.run_semantics.specs.World.{World};
 ghost use Rattle.kernel_actions.specs.declared.position.Position.{Position};
-ghost use Rattle.kernel_actions.specs.Positions.{position_of, cut_to, world_back, IsGrownFrom, AreWithin};
+ghost use Rattle.kernel_actions.specs.Positions.{position_of, cut_to, world_back, IsGrownFrom};
+ghost use Rattle.kernel_actions.specs.Positions.{AreWithin};
 
 /// A position stays good while a run goes on: going back from any world whose lists have grown
 /// since gives the world of which it was taken.

@@ -1,6 +1,7 @@
 //! The modules that were created, found by where they stand.
 
-ghost use Rattle.std.specs.Prelude.{◌≡◌, ◌+◌, ◌^◌, ◌<◌, ◌∷◌, ◌++◌, [], IfOk, OnOk, OnErr, length, take, Some};
+ghost use Rattle.std.specs.Prelude.{◌≡◌, ◌+◌, ◌^◌, ◌<◌, ◌∷◌, ◌++◌, [], IfOk, OnOk, OnErr, length};
+ghost use Rattle.std.specs.Prelude.{take, Some};
 ghost use Rattle.std.specs.Bool.{Decides};
 ghost use Rattle.std.specs.HashMap.{get};
 ghost use Rattle.model_questions.specs.Hops.{neighbour_id};

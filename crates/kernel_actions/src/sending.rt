@@ -36,7 +36,8 @@ fn complete(
     found: &Travel,
 ) -> Result<(), NoMemory>
     requires { core.old.next + 1 < 2 ^ 128 }
-    ensures done { OnOk result (core.new ≡ completed message.now from.now end.now core.old found.now) }
+    ensures done { OnOk result (core.new
+        ≡ completed message.now from.now end.now core.old found.now) }
     ensures grown { IsGrownFrom core.old core.new }
 {
     match found {
@@ -56,7 +57,8 @@ fn depart_late(
     channels: &[Channel],
 ) -> Result<EventFlow, NoMemory>
     ensures { IfOk result (λ turn. flow_of turn core.now
-        ≡ broken id (if nat_lt 1 (transmissions channels.now) then faults.TwoTransmissionChannels else faults.TimeOverflow) core.now) }
+        ≡ broken id (if nat_lt 1 (transmissions channels.now) then faults.TwoTransmissionChannels
+        else faults.TimeOverflow) core.now) }
 {
     if transmissions(channels) > 1 {
         return core.broken(alloc, id, RunFault::TwoTransmissionChannels);

@@ -9,7 +9,8 @@ use Rattle.run_semantics.specs.declared.traces.Instance.{Instance}
 use Rattle.run_semantics.specs.Event.{with_state}
 use Rattle.run_semantics.specs.Laws.{AreStates}
 use Rattle.run_semantics.specs.Run.{standing}
-use Rattle.kernel_boxes.specs.Seats.{BoxAt, instance_of, module_in, with_module, AreOfKinds, Members, seat_of}
+use Rattle.kernel_boxes.specs.Seats.{BoxAt, instance_of, module_in, with_module, AreOfKinds}
+use Rattle.kernel_boxes.specs.Seats.{Members, seat_of}
 
 module _ {X : Type 0} {Y : X → Type 0} where
   -- what the boxes of a tree are, by rising ids

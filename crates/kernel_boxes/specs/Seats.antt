@@ -1,5 +1,6 @@
 -- Boxes, by the ids of their modules.
-use Rattle.std.specs.Prelude.{◌≡◌, ℕ, ◌==◌, ◌<◌, List, [], ◌∷◌, Option, Some, None, map, if◌then◌else◌}
+use Rattle.std.specs.Prelude.{◌≡◌, ℕ, ◌==◌, ◌<◌, List, [], ◌∷◌, Option, Some, None, map}
+use Rattle.std.specs.Prelude.{if◌then◌else◌}
 use Rattle.std.proofs.Common.{Global}
 use Rattle.std.specs.declared.dyn_box.DynBox.{DynBox}
 use Rattle.module_api.specs.declared.simple_module.SimpleModule.{Ghosts}
@@ -36,7 +37,8 @@ module_in id (s ∷ ss) = if s.id == id then Some s.box else module_in id ss
 -- it is another
 abbrev pub with_module : ℕ → Module → List BoxAt → List BoxAt
 with_module id box [] = []
-with_module id box (s ∷ ss) = if s.id == id then record { id = s.id; box = box } ∷ ss else s ∷ with_module id box ss
+with_module id box (s ∷ ss) = if s.id == id then record { id = s.id; box = box } ∷ ss
+    else s ∷ with_module id box ss
 
 -- the ids of all that stand are below this one
 abbrev pub AreBelow : ℕ → List Instance → Type 0

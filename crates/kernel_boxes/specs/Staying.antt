@@ -1,5 +1,6 @@
 -- Which boxes stay where a run goes back.
-use Rattle.std.specs.Prelude.{ℕ, suc, ◌==◌, ◌≤◌, ◌&&◌, bytes_eq, Bool, true, false, List, [], ◌∷◌, Option, Some, None, if◌then◌else◌}
+use Rattle.std.specs.Prelude.{ℕ, suc, ◌==◌, ◌≤◌, ◌&&◌, bytes_eq, Bool, true, false, List, [], ◌∷◌}
+use Rattle.std.specs.Prelude.{Option, Some, None, if◌then◌else◌}
 use Rattle.std.specs.List.{filter, list_any}
 use Rattle.module_api.specs.Meaning.{Module}
 use Rattle.run_semantics.specs.declared.traces.Instance.{Instance}

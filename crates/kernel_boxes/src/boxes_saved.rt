@@ -5,7 +5,8 @@ ghost use Rattle.module_api.specs.Behaviour.{Behaviour};
 ghost use Rattle.module_api.specs.Meaning.{IsSameModule};
 ghost use Rattle.run_semantics.specs.Event.{with_state};
 ghost use Rattle.kernel_boxes.specs.Seats.{module_in, AreOfKinds, AreKept};
-ghost use Rattle.kernel_boxes.specs.Saved.{seats_held, instances_held, instance_at, listed, Takes, IsLoaded};
+ghost use Rattle.kernel_boxes.specs.Saved.{seats_held, instances_held, instance_at, listed, Takes};
+ghost use Rattle.kernel_boxes.specs.Saved.{IsLoaded};
 
 use module_api::simple_module::SimpleModule;
 use module_tree::Tree;

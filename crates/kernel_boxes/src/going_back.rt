@@ -6,7 +6,8 @@ ghost use Rattle.std.specs.Option.{option_copied};
 ghost use Rattle.run_semantics.specs.Run.{part_of, standing};
 ghost use Rattle.kernel_boxes.specs.Seats.{module_in};
 ghost use Rattle.kernel_boxes.specs.Saved.{instances_held, seats_held};
-ghost use Rattle.kernel_boxes.specs.Staying.{after_id, first_without, is_first, is_held, staying, stays_at, IdsRise};
+ghost use Rattle.kernel_boxes.specs.Staying.{after_id, first_without, is_first, is_held, staying};
+ghost use Rattle.kernel_boxes.specs.Staying.{stays_at, IdsRise};
 
 use module_api::simple_module::SimpleModule;
 use module_tree::Tree;
@@ -16,7 +17,8 @@ use run_semantics::traces::Instance;
 /// ids.
 pub fn drop_others(boxes: &mut Tree<Box<dyn SimpleModule>>, saved: &[Instance])
     requires { IdsRise 0 saved.now }
-    ensures { seats_held SimpleModule-box boxes.new ≡ staying saved.now (seats_held SimpleModule-box boxes.old) }
+    ensures { seats_held SimpleModule-box boxes.new
+        ≡ staying saved.now (seats_held SimpleModule-box boxes.old) }
 {
     let mut left = saved;
     for index in 0..boxes.room() {
@@ -27,7 +29,8 @@ pub fn drop_others(boxes: &mut Tree<Box<dyn SimpleModule>>, saved: &[Instance])
 
 /// Drops the box of that id, unless it is of the first of these modules.
 fn drop_other(boxes: &mut Tree<Box<dyn SimpleModule>>, id: u32, saved: &[Instance])
-    ensures seats { seats_held SimpleModule-box boxes.new ≡ filter (stays_at id saved.now) (seats_held SimpleModule-box boxes.old) }
+    ensures seats { seats_held SimpleModule-box boxes.new
+        ≡ filter (stays_at id saved.now) (seats_held SimpleModule-box boxes.old) }
     ensures room { boxes.new.room ≡ boxes.old.room }
 {
     let _ids_rise = boxes.room();
@@ -42,7 +45,8 @@ pub fn first_lacking<'a>(
     saved: &'a [Instance],
 ) -> Option<&'a Instance>
     ensures { option_map part_of (option_copied result)
-        ≡ first_without (standing (instances_held SimpleModule-box boxes.now)) (standing saved.now) }
+        ≡ first_without (standing (instances_held SimpleModule-box boxes.now))
+        (standing saved.now) }
 {
     for instance in saved {
         if !holds(boxes, instance.id) {
@@ -64,7 +68,8 @@ fn holds(boxes: &Tree<Box<dyn SimpleModule>>, id: u32) -> bool
 
 /// Whether the box of that id is of the first of these modules.
 fn is_first(boxes: &Tree<Box<dyn SimpleModule>>, id: u32, saved: &[Instance]) -> bool
-    ensures { result ≡ is_first id saved.now (module_in id (seats_held SimpleModule-box boxes.now)) }
+    ensures { result
+        ≡ is_first id saved.now (module_in id (seats_held SimpleModule-box boxes.now)) }
 {
     match boxes.get(id) {
         Some(held) => is_of_first(held, id, saved),

@@ -1,5 +1,6 @@
 -- What calls show of modules, and tables of it.
-use Rattle.std.specs.Prelude.{◌≡◌, ℕ, zero, suc, ◌==◌, Bool, true, false, List, [], ◌∷◌, ◌++◌, Option, Some, None, if◌then◌else◌}
+use Rattle.std.specs.Prelude.{◌≡◌, ℕ, zero, suc, ◌==◌, Bool, true, false, List, [], ◌∷◌, ◌++◌}
+use Rattle.std.specs.Prelude.{Option, Some, None, if◌then◌else◌}
 use Rattle.model_questions.specs.declared.record.Record.{Record}
 use Rattle.model_questions.specs.Answers.{Answers, gates_of, parameters_of}
 use Rattle.model_questions.specs.Records.{path_of, record_at}
@@ -9,7 +10,11 @@ use Rattle.kernel_call_views.specs.declared.CallViews.{CallViews}
 
 -- WHAT CALLS SHOW of the module of that id, but for what changes from one call to the next
 abbrev pub shown_of : Answers → List Record → ℕ → CallView
-shown_of m records id = record { path = path_of records id; parameters = parameters_of m records id; gates = gates_of m records id }
+shown_of m records id = record {
+  path = path_of records id;
+  parameters = parameters_of m records id;
+  gates = gates_of m records id;
+}
 
 -- it is that, and stays so whatever modules are created besides
 abbrev pub IsShown : Answers → List Record → ℕ → CallView → Type 0

@@ -48,7 +48,8 @@ pub fn shown_of<A: Answers>(
 /// more modules are created.
 #[tactic(auto, using(crate::proofs::Showing::whole_lasts))]
 fn lasts(records: &[Record], id: u32) -> bool
-    ensures { result ≡ true → (m : run.Answers) → IsShown m records.now id (shown_of m records.now id) }
+    ensures { result ≡ true → (m : run.Answers)
+        → IsShown m records.now id (shown_of m records.now id) }
 {
     is_whole(MAX_NESTING, records, id)
 }

@@ -1,6 +1,7 @@
 //! Messages that are sent: their hops are asked of the model.
 
-ghost use Rattle.std.specs.Prelude.{◌≡◌, ◌+◌, ◌^◌, ◌<◌, ◌≤◌, [], Bool, true, Option, List, IfOk, OnOk};
+ghost use Rattle.std.specs.Prelude.{◌≡◌, ◌+◌, ◌^◌, ◌<◌, ◌≤◌, [], Bool, true, Option, List, IfOk};
+ghost use Rattle.std.specs.Prelude.{OnOk};
 ghost use Rattle.model_questions.specs.declared.answer.Answer.{Answer};
 ghost use Rattle.model_questions.specs.declared.answer.Question.TheVariants.{GateSize, HopBack};
 ghost use Rattle.model_questions.specs.Questions.{is_of_modules};
@@ -9,8 +10,10 @@ ghost use Rattle.run_semantics.specs.declared.routes.NextHop.{NextHop};
 ghost use Rattle.run_semantics.specs.declared.routes.PassedHop.{PassedHop};
 ghost use Rattle.run_semantics.specs.declared.routes.PlacedGate.{PlacedGate};
 ghost use Rattle.run_semantics.specs.World.{World, asked};
-ghost use Rattle.run_semantics.specs.Routes.{hop_by, is_connected, is_in_gate, is_out_gate, is_simple};
-ghost use Rattle.run_semantics.specs.Perform.{Flow, asking, flow_of, next_hop, chain, most_hops, sent_over, sent, entering, entered, sent_direct};
+ghost use Rattle.run_semantics.specs.Routes.{hop_by, is_connected, is_in_gate, is_out_gate};
+ghost use Rattle.run_semantics.specs.Routes.{is_simple};
+ghost use Rattle.run_semantics.specs.Perform.{Flow, asking, flow_of, next_hop, chain, most_hops};
+ghost use Rattle.run_semantics.specs.Perform.{sent_over, sent, entering, entered, sent_direct};
 ghost use Rattle.kernel_sending.specs.Ways.{after_chain};
 ghost use Rattle.kernel_actions.specs.Positions.{IsGrownFrom};
 
@@ -92,7 +95,8 @@ fn follow<A: Answers>(
     gate: PlacedGate,
 ) -> Result<Way, NoMemory>
     ensures chain { IfOk result (λ way. (reached : List PassedHop → PlacedGate → World → Flow)
-        → chain A.answers id reached most_hops gate [] core.old ≡ after_chain reached way core.new) }
+        → chain A.answers id reached most_hops gate [] core.old
+        ≡ after_chain reached way core.new) }
     ensures next { core.new.next ≡ core.old.next }
     ensures grown { IsGrownFrom core.old core.new }
 {
@@ -152,7 +156,8 @@ fn can_leave<A: Answers>(
     gate: &OwnGate,
 ) -> Result<bool, NoMemory>
     ensures asked { IfOk result (λ can. (next : Bool → World → Flow)
-        → asking A.answers (GateSize id gate.now.name) (λ a v. next (is_out_gate a gate.now.index) v) core.old ≡ next can core.new) }
+        → asking A.answers (GateSize id gate.now.name)
+        (λ a v. next (is_out_gate a gate.now.index) v) core.old ≡ next can core.new) }
     ensures next { core.new.next ≡ core.old.next }
     ensures grown { IsGrownFrom core.old core.new }
 {
@@ -220,7 +225,8 @@ fn is_taken<A: Answers>(
     gate: &PlacedGate,
 ) -> Result<bool, NoMemory>
     ensures asked { IfOk result (λ taken. (next : Bool → World → Flow)
-        → asking A.answers (HopBack gate.now.id gate.now.name gate.now.index) (λ a v. next (is_connected a) v) core.old ≡ next taken core.new) }
+        → asking A.answers (HopBack gate.now.id gate.now.name gate.now.index)
+        (λ a v. next (is_connected a) v) core.old ≡ next taken core.new) }
     ensures next { core.new.next ≡ core.old.next }
     ensures grown { IsGrownFrom core.old core.new }
 {
@@ -263,7 +269,8 @@ fn can_enter<A: Answers>(
     place: &GatePlace,
 ) -> Result<bool, NoMemory>
     ensures asked { IfOk result (λ can. (next : Bool → World → Flow)
-        → asking A.answers (GateSize id place.now.name) (λ a v. next (is_in_gate a place.now.index) v) core.old ≡ next can core.new) }
+        → asking A.answers (GateSize id place.now.name)
+        (λ a v. next (is_in_gate a place.now.index) v) core.old ≡ next can core.new) }
     ensures next { core.new.next ≡ core.old.next }
     ensures grown { IsGrownFrom core.old core.new }
 {

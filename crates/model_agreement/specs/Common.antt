@@ -2,7 +2,9 @@
 use Rattle.std.specs.Prelude.{◌≡◌, Bool, true, false, ◌&&◌, List, [], ◌∷◌}
 use Rattle.model_questions.specs.declared.answer.AskedQuestion.{AskedQuestion}
 use Rattle.model_questions.specs.declared.answer.Question.{Question}
-use Rattle.model_questions.specs.declared.answer.Question.TheVariants.{Root, Build, Param, GateSize, Hop, HopBack, BeyondLimit, InjectionBefore}
+use Rattle.model_questions.specs.declared.answer.Question.TheVariants.{Root, Build, Param, GateSize}
+use Rattle.model_questions.specs.declared.answer.Question.TheVariants.{Hop, HopBack, BeyondLimit}
+use Rattle.model_questions.specs.declared.answer.Question.TheVariants.{InjectionBefore}
 use Rattle.model_questions.specs.Answers.{Answers}
 use Rattle.model_agreement.specs.declared.common.Common.{Common}
 

@@ -1,5 +1,6 @@
 -- Answers that are the same, by what they hold.
-use Rattle.std.specs.Prelude.{ℕ, ◌==◌, Bool, true, false, ◌&&◌, bytes_eq, List, [], ◌∷◌, Option, Some, None}
+use Rattle.std.specs.Prelude.{ℕ, ◌==◌, Bool, true, false, ◌&&◌, bytes_eq, List, [], ◌∷◌, Option}
+use Rattle.std.specs.Prelude.{Some, None}
 use Rattle.std.specs.Bool.{beq}
 use Rattle.std.specs.Ordering.{int_eq}
 use denote.Enum.Bare.{sameb}
@@ -26,7 +27,8 @@ same_value (value.Truth a) (value.Truth b) = beq a b
 same_value (value.Truth a) _ = false
 same_value (value.Text a) (value.Text b) = bytes_eq a b
 same_value (value.Text a) _ = false
-same_value (value.Quantity d a) (value.Quantity e b) = sameb dimension_kind.the_type d e && int_eq a b
+same_value (value.Quantity d a) (value.Quantity e b) =
+    sameb dimension_kind.the_type d e && int_eq a b
 same_value (value.Quantity d a) _ = false
 
 abbrev pub same_class : Option (List ℕ) → Option (List ℕ) → Bool
@@ -42,7 +44,8 @@ same_index (Some a) None = false
 same_index (Some a) (Some b) = a == b
 
 abbrev pub same_built : Built → Built → Bool
-same_built a b = bytes_eq a.name b.name && (same_index a.index b.index && same_class a.class b.class)
+same_built a b = bytes_eq a.name b.name
+    && (same_index a.index b.index && same_class a.class b.class)
 
 abbrev pub same_inside : List Built → List Built → Bool
 same_inside [] [] = true
@@ -57,7 +60,8 @@ abbrev pub same_message : Injection → Injection → Bool
 same_message a b = int_eq a.kind b.kind && ((a.bits == b.bits) && bytes_eq a.payload b.payload)
 
 abbrev pub same_injection : Injection → Injection → Bool
-same_injection a b = (a.number == b.number) && (bytes_eq a.path b.path && (same_due a b && same_message a b))
+same_injection a b =
+    (a.number == b.number) && (bytes_eq a.path b.path && (same_due a b && same_message a b))
 
 abbrev pub same_next : Option Injection → Option Injection → Bool
 same_next None None = true
@@ -72,7 +76,8 @@ same_injections (a ∷ xs) [] = false
 same_injections (a ∷ xs) (b ∷ ys) = same_injection a b && same_injections xs ys
 
 abbrev pub same_gate : Gate → Gate → Bool
-same_gate a b = bytes_eq a.name b.name && (sameb direction_kind.the_type a.direction b.direction && (a.size == b.size))
+same_gate a b = bytes_eq a.name b.name
+    && (sameb direction_kind.the_type a.direction b.direction && (a.size == b.size))
 
 abbrev pub same_neighbour : Neighbour → Neighbour → Bool
 same_neighbour neighbour.Itself neighbour.Itself = true
@@ -85,10 +90,12 @@ same_neighbour (neighbour.Inside a i) (neighbour.Inside b k) = bytes_eq a b && s
 same_neighbour (neighbour.Inside a i) _ = false
 
 abbrev pub same_channel : Channel → Channel → Bool
-same_channel a b = sameb channel_kind.the_type a.kind b.kind && ((a.delay == b.delay) && ((a.datarate == b.datarate) && beq a.disabled b.disabled))
+same_channel a b = sameb channel_kind.the_type a.kind b.kind
+    && ((a.delay == b.delay) && ((a.datarate == b.datarate) && beq a.disabled b.disabled))
 
 abbrev pub same_hop : NextGate → NextGate → Bool
-same_hop a b = same_neighbour a.neighbour b.neighbour && (bytes_eq a.gate b.gate && ((a.index == b.index) && same_channel a.channel b.channel))
+same_hop a b = same_neighbour a.neighbour b.neighbour
+    && (bytes_eq a.gate b.gate && ((a.index == b.index) && same_channel a.channel b.channel))
 
 abbrev pub same_end : Option NextGate → Option NextGate → Bool
 same_end None None = true

@@ -4,7 +4,8 @@ ghost use Rattle.std.specs.Prelude.{◌≡◌, IfOk, Some, None};
 ghost use Rattle.std.specs.Bool.{Decides};
 ghost use Rattle.model_answers.specs.Answering.{answers_of};
 ghost use Rattle.model_questions.specs.Answers.{answer_of};
-ghost use Rattle.model_questions.specs.declared.answer.Question.TheVariants.{BeyondLimit, InjectionBefore};
+ghost use Rattle.model_questions.specs.declared.answer.Question.TheVariants.{BeyondLimit};
+ghost use Rattle.model_questions.specs.declared.answer.Question.TheVariants.{InjectionBefore};
 ghost use Rattle.run_question_log.specs.Entries.{asked_in, noted_in};
 ghost use Rattle.run_semantics.specs.Agreement.{Agrees, IsAgreement};
 ghost use Rattle.model_agreement.specs.Common.{IsCommon};
@@ -32,7 +33,8 @@ fn agrees(
 ) -> Result<bool, NoMemory>
     requires { IsCommon (answers_of one.now) (answers_of other.now) common }
     ensures { IfOk result (λ same. Decides same
-        (answer_of (answers_of one.now) records.now question.now ≡ answer_of (answers_of other.now) records.now question.now)) }
+        (answer_of (answers_of one.now) records.now question.now
+        ≡ answer_of (answers_of other.now) records.now question.now)) }
 {
     if common.is_about(question) {
         return Ok(true);
@@ -55,8 +57,10 @@ fn agrees_on_both(
 ) -> Result<bool, NoMemory>
     requires { IsCommon (answers_of one.now) (answers_of other.now) common }
     ensures { IfOk result (λ same. Decides same
-        ((answer_of (answers_of one.now) records.now (InjectionBefore (Some due) None) ≡ answer_of (answers_of other.now) records.now (InjectionBefore (Some due) None))
-        × (answer_of (answers_of one.now) records.now (BeyondLimit due.time) ≡ answer_of (answers_of other.now) records.now (BeyondLimit due.time)))) }
+        ((answer_of (answers_of one.now) records.now (InjectionBefore (Some due) None)
+        ≡ answer_of (answers_of other.now) records.now (InjectionBefore (Some due) None))
+        × (answer_of (answers_of one.now) records.now (BeyondLimit due.time)
+        ≡ answer_of (answers_of other.now) records.now (BeyondLimit due.time)))) }
 {
     let first = Question::InjectionBefore(Some(due), None);
     if !agrees(alloc, common, one, other, records, &first)? {
@@ -77,7 +81,8 @@ fn agrees_on(
     entry: &LogEntry,
 ) -> Result<bool, NoMemory>
     requires { IsCommon (answers_of one.now) (answers_of other.now) common }
-    ensures { IfOk result (λ same. Decides same (Agrees (answers_of one.now) (answers_of other.now) records.now (asked_in entry.now))) }
+    ensures { IfOk result (λ same. Decides same
+        (Agrees (answers_of one.now) (answers_of other.now) records.now (asked_in entry.now))) }
 {
     if common.is_about_all(entry) {
         return Ok(true);
@@ -116,7 +121,8 @@ fn narrowed(
     valid: u64,
 ) -> Result<Option<u64>, NoMemory>
     requires { IsCommon (answers_of one.now) (answers_of other.now) common }
-    ensures { IfOk result (λ left. Narrows (answers_of one.now) (answers_of other.now) records.now (asked_in entry.now) valid left) }
+    ensures { IfOk result (λ left. Narrows (answers_of one.now) (answers_of other.now) records.now
+        (asked_in entry.now) valid left) }
 {
     let event = entry.event();
     if event > valid {
@@ -141,7 +147,8 @@ fn agreed_up_to(
     asked: &[LogEntry],
     last: u64,
 ) -> Result<Option<u64>, NoMemory>
-    ensures { IfOk result (λ valid. IsAgreement (answers_of one.now) (answers_of other.now) records.now last (noted_in asked.now) valid) }
+    ensures { IfOk result (λ valid. IsAgreement (answers_of one.now) (answers_of other.now)
+        records.now last (noted_in asked.now) valid) }
 {
     let common = common_of(one, other);
     let mut valid = last;
@@ -165,7 +172,8 @@ pub fn agreement(
     asked: &[LogEntry],
     last: u64,
 ) -> Result<Option<u64>, NoMemory>
-    ensures { IfOk result (λ valid. IsAgreement (answers_of one.now) (answers_of other.now) records.now last (noted_in asked.now) valid) }
+    ensures { IfOk result (λ valid. IsAgreement (answers_of one.now) (answers_of other.now)
+        records.now last (noted_in asked.now) valid) }
 {
     let first = PlainAnswers::new(alloc, one)?;
     let second = PlainAnswers::new(alloc, other)?;

@@ -2,7 +2,10 @@
 
 ghost use Rattle.std.specs.Prelude.{◌≡◌, length, true};
 ghost use Rattle.std.specs.Bool.{Decides};
-ghost use Rattle.model_agreement.specs.Same.{same_value, same_class, same_index, same_built, same_inside, same_due, same_message, same_injection, same_injections, same_next, same_gate, same_neighbour, same_channel, same_hop, same_end, same_answer};
+ghost use Rattle.model_agreement.specs.Same.{same_value, same_class, same_index, same_built};
+ghost use Rattle.model_agreement.specs.Same.{same_inside, same_due, same_message, same_injection};
+ghost use Rattle.model_agreement.specs.Same.{same_injections, same_next, same_gate, same_neighbour};
+ghost use Rattle.model_agreement.specs.Same.{same_channel, same_hop, same_end, same_answer};
 
 use model_injections::injection::Injection;
 use model_questions::answer::{Answer, Built, Channel, Neighbour, NextGate};

@@ -1,12 +1,15 @@
 -- What is inside of the modules of a model, the sizes of their gates, and where these lead.
-use Rattle.std.specs.Prelude.{ℕ, List, [], ◌∷◌, ◌++◌, Option, Some, None, Result, Ok, Err, option_map, slice_get, if◌then◌else◌}
+use Rattle.std.specs.Prelude.{ℕ, List, [], ◌∷◌, ◌++◌, Option, Some, None, Result, Ok, Err}
+use Rattle.std.specs.Prelude.{option_map, slice_get, if◌then◌else◌}
 use Rattle.std.specs.Result.{result_ok}
 use Rattle.module_api.specs.declared.call.Gate.{Gate}
 use Rattle.ned_trees.specs.declared.connections.Half.{Half}
 use Rattle.ned_trees.specs.declared.declarations.Submodule.{Submodule}
 use Rattle.ned_trees.specs.declared.declarations.TypeDeclaration.{TypeDeclaration}
 use Rattle.ned_trees.specs.declared.declarations.TypeKind.{TypeKind}
-use Rattle.ned_trees.specs.declared.declarations.TypeKind.TheVariants.{Simple, Module, Network, Channel, ModuleInterface, ChannelInterface}
+use Rattle.ned_trees.specs.declared.declarations.TypeKind.TheVariants.{Simple, Module, Network}
+use Rattle.ned_trees.specs.declared.declarations.TypeKind.TheVariants.{Channel, ModuleInterface}
+use Rattle.ned_trees.specs.declared.declarations.TypeKind.TheVariants.{ChannelInterface}
 use Rattle.inside_parts.specs.declared.fault.InsideFault.{InsideFault}
 use Rattle.inside_parts.specs.declared.gates.TypeGate.{TypeGate}
 use Rattle.inside_parts.specs.declared.parts.Part.{Part}
@@ -50,15 +53,18 @@ abbrev pub connected_answer : ModuleRules → List ℕ → TypeDeclaration → I
 connected_answer s path t i None = answer.Inside (built_parts s.types t.submodules i.parts.parts)
 connected_answer s path t i (Some n) = answer.Fault path Unconnected
 
-abbrev pub built_answer : ModuleRules → List ℕ → TypeDeclaration → Result Found (List ℕ × InsideFault) → Answer
-built_answer s path t (Ok (found.Inside i)) = connected_answer s path t i (unconnected t (settings.type_gates s) i)
+abbrev pub built_answer : ModuleRules → List ℕ → TypeDeclaration
+    → Result Found (List ℕ × InsideFault) → Answer
+built_answer s path t (Ok (found.Inside i)) =
+    connected_answer s path t i (unconnected t (settings.type_gates s) i)
 built_answer s path t (Ok (found.Value v)) = answer.Absent
 built_answer s path t (Ok (found.Carrier c)) = answer.Absent
 built_answer s path t (Err f) = answer.Fault f.0 (told_as f.1)
 
 -- the inside of the module of that path, or its first fault with the path that it is told with
 abbrev pub inside_found : ModuleRules → List ℕ → Result Found (List ℕ × InsideFault)
-inside_found s path = placed (value_at s) (module_at path) (s.stands (module_at path)).around (asking_of s (key (module_at path) what.Inside))
+inside_found s path = placed (value_at s) (module_at path) (s.stands (module_at path)).around
+    (asking_of s (key (module_at path) what.Inside))
 
 abbrev pub inside_by : ModuleRules → List ℕ → TypeDeclaration → TypeKind → Answer
 inside_by s path t Network = built_answer s path t (inside_found s path)
@@ -101,7 +107,8 @@ seat_at t i part = record { of_type = t; inside = i; part = part }
 
 abbrev pub seat_among : Whereabouts → TypeDeclaration → Option Inside → Option Seat
 seat_among stands t None = None
-seat_among stands t (Some i) = option_map (seat_at t i) (result_ok (part_named (submodule_names t) i.parts stands.name stands.index))
+seat_among stands t (Some i) = option_map (seat_at t i)
+    (result_ok (part_named (submodule_names t) i.parts stands.name stands.index))
 
 abbrev pub seat_typed : Whereabouts → Option TypeDeclaration → Option Inside → Option Seat
 seat_typed stands None i = None
@@ -135,7 +142,8 @@ declared_size s path g = size_in (value_of s path (what.Declared g))
 -- the finished size of a gate vector of a module that stands there
 abbrev pub seated_size : ModuleRules → Option Seat → List ℕ → Option ℕ
 seated_size s None g = None
-seated_size s (Some t) g = finished_size (settings.type_gates s) t.inside.parts t.inside.wiring t.part g
+seated_size s (Some t) g =
+    finished_size (settings.type_gates s) t.inside.parts t.inside.wiring t.part g
 
 -- a single gate has the size 1
 abbrev pub size_of : (List ℕ → Option ℕ) → TypeGate → Option ℕ
@@ -143,7 +151,8 @@ size_of vector_size g = if g.kind.is_vector then vector_size g.name else Some 1
 
 abbrev pub with_size : TypeGate → Option ℕ → List Gate
 with_size g None = []
-with_size g (Some size) = record { name = g.name; direction = direction_of g.kind.direction; size = size } ∷ []
+with_size g (Some size) =
+    record { name = g.name; direction = direction_of g.kind.direction; size = size } ∷ []
 
 abbrev pub sized_gates : (List ℕ → Option ℕ) → List TypeGate → List Gate
 sized_gates vector_size [] = []
@@ -169,22 +178,29 @@ gates_answer s path (Some t) = gates_in s path (declarer s (module_at path)) (ga
 -- outwards by the links of the module around
 abbrev pub next_outwards : ModuleRules → Way → List ℕ → ℕ → Option Seat → Option NextGate
 next_outwards s way g index None = None
-next_outwards s way g index (Some t) = next_in (settings.type_gates s) t.of_type.submodules t.inside.parts t.inside.wiring (FromOutside t.part) way g index
+next_outwards s way g index (Some t) = next_in (settings.type_gates s) t.of_type.submodules
+    t.inside.parts t.inside.wiring (FromOutside t.part) way g index
 
 -- inwards by the links of its own inside
-abbrev pub next_inwards : ModuleRules → TypeDeclaration → Way → List ℕ → ℕ → Option Inside → Option NextGate
+abbrev pub next_inwards : ModuleRules → TypeDeclaration → Way → List ℕ → ℕ → Option Inside
+    → Option NextGate
 next_inwards s t way g index None = None
-next_inwards s t way g index (Some i) = next_in (settings.type_gates s) t.submodules i.parts i.wiring FromInside way g index
+next_inwards s t way g index (Some i) =
+    next_in (settings.type_gates s) t.submodules i.parts i.wiring FromInside way g index
 
-abbrev pub next_by : ModuleRules → List ℕ → TypeDeclaration → Way → Half → List ℕ → ℕ → Option NextGate
+abbrev pub next_by : ModuleRules → List ℕ → TypeDeclaration → Way → Half → List ℕ → ℕ
+    → Option NextGate
 next_by s path t way half g index =
-    if is_outwards way half then next_outwards s way g index (seat_of s path) else next_inwards s t way g index (inside_of s path)
+    if is_outwards way half then next_outwards s way g index (seat_of s path)
+    else next_inwards s t way g index (inside_of s path)
 
-abbrev pub hop_by : ModuleRules → List ℕ → TypeDeclaration → Way → ℕ → Option (List ℕ × Half) → Answer
+abbrev pub hop_by : ModuleRules → List ℕ → TypeDeclaration → Way → ℕ
+    → Option (List ℕ × Half) → Answer
 hop_by s path t way index None = answer.Absent
 hop_by s path t way index (Some h) = answer.Next (next_by s path t way h.1 h.0 index)
 
 -- THE NEXT GATE after a gate of the module of that path and type, or the one from which messages
 -- come to it: none where it is not connected
 abbrev pub hop_answer : ModuleRules → Way → List ℕ → Option TypeDeclaration → List ℕ → ℕ → Answer
-hop_answer s way path t name index = typed t (λ u. hop_by s path u way index (half_named name (gates_of_type u)))
+hop_answer s way path t name index =
+    typed t (λ u. hop_by s path u way index (half_named name (gates_of_type u)))

@@ -1,5 +1,6 @@
 -- Values of keys, in a model: types of modules, parameters, and what is wrong with the network.
-use Rattle.std.specs.Prelude.{ℕ, List, [], ◌∷◌, Option, Some, None, Result, Ok, Err, slice_get, if◌then◌else◌}
+use Rattle.std.specs.Prelude.{ℕ, List, [], ◌∷◌, Option, Some, None, Result, Ok, Err, slice_get}
+use Rattle.std.specs.Prelude.{if◌then◌else◌}
 use Rattle.std.specs.Option.{option_and_then}
 use Rattle.std.specs.Result.{result_ok}
 use Rattle.ned_trees.specs.declared.declarations.SectionLine.{SectionLine}
@@ -98,7 +99,8 @@ param_answer s path (Some t) name = value_in s path name
 
 -- the same, where its type declares one of that name
 abbrev pub declared_answer : ModuleRules → List ℕ → Option TypeDeclaration → List ℕ → Answer
-declared_answer s path t name = if is_declared name (names_in (lines_of t)) then param_answer s path t name else answer.Absent
+declared_answer s path t name =
+    if is_declared name (names_in (lines_of t)) then param_answer s path t name else answer.Absent
 
 -- the parameters of the module of that path and type that have values, in the order of their
 -- declaration
@@ -130,7 +132,8 @@ fault_of_lines s path (l ∷ ls) = or_else (fault_of_line s path l) (fault_of_li
 
 -- the fault of the declared size of a gate
 abbrev pub fault_of_size : ModuleRules → List ℕ → TypeGate → Option ModelFault
-fault_of_size s path g = if g.kind.is_vector then fault_in (value_of s path (what.Declared g.name)) else None
+fault_of_size s path g =
+    if g.kind.is_vector then fault_in (value_of s path (what.Declared g.name)) else None
 
 -- the first fault of the declared sizes of these gates
 abbrev pub fault_of_sizes : ModuleRules → List ℕ → List TypeGate → Option ModelFault
@@ -144,12 +147,14 @@ fault_of_misplaced s path (Some name) = fault_in (value_of s path (what.Declared
 
 -- the first fault of the sizes that a type gives its gates
 abbrev pub fault_of_gates : ModuleRules → List ℕ → TypeDeclaration → TypeGates → Option ModelFault
-fault_of_gates s path t gates = or_else (fault_of_misplaced s path (misplaced gates t.gates)) (fault_of_sizes s path gates.gates)
+fault_of_gates s path t gates = or_else (fault_of_misplaced s path (misplaced gates t.gates))
+    (fault_of_sizes s path gates.gates)
 
 -- the first fault of the network of that type: of its parameters, and then of the sizes of its
 -- gates
 abbrev pub fault_of_network : ModuleRules → TypeDeclaration → Option ModelFault
-fault_of_network s t = or_else (fault_of_lines s t.name t.lines) (fault_of_gates s t.name t (type_gates.gates_of t.gates))
+fault_of_network s t = or_else (fault_of_lines s t.name t.lines)
+    (fault_of_gates s t.name t (type_gates.gates_of t.gates))
 
 abbrev pub root_without : TypeDeclaration → Option ModelFault → Answer
 root_without t (Some fault) = answer.Fault t.name fault

@@ -1,5 +1,6 @@
 -- Values of keys, read where they stand.
-use Rattle.std.specs.Prelude.{◌≡◌, ℕ, List, Option, Some, None, Result, Ok, Err, option_map, slice_get}
+use Rattle.std.specs.Prelude.{◌≡◌, ℕ, List, Option, Some, None, Result, Ok, Err, option_map}
+use Rattle.std.specs.Prelude.{slice_get}
 use Rattle.std.specs.Borrow.{Bor}
 use Rattle.ned_trees.specs.declared.declarations.TypeDeclaration.{TypeDeclaration}
 use Rattle.param_engine.specs.Tables.{Entries, IsKept, said, value_at}
@@ -34,7 +35,8 @@ standing_at s own (Kept place) = value_at s.kept.now.entries place
 standing_at s own (Own place) = value_at own place
 
 -- what an answer says
-abbrev pub spotted : Sources → Entries Key Found → Result Spot InsideFault → Option (Result Found InsideFault)
+abbrev pub spotted : Sources → Entries Key Found → Result Spot InsideFault
+    → Option (Result Found InsideFault)
 spotted s own (Ok spot) = said (standing_at s own spot)
 spotted s own (Err f) = Some (Err f)
 
@@ -52,7 +54,8 @@ abbrev pub result_copied : Result (Bor Found) InsideFault → Result Found Insid
 result_copied (Ok r) = Ok r.now
 result_copied (Err f) = Err f
 
-abbrev pub maybe_copied : Option (Result (Bor Found) InsideFault) → Option (Result Found InsideFault)
+abbrev pub maybe_copied : Option (Result (Bor Found) InsideFault)
+    → Option (Result Found InsideFault)
 maybe_copied None = None
 maybe_copied (Some r) = Some (result_copied r)
 
@@ -65,8 +68,10 @@ maybe_seat (Some t) = Some (seat_at t.of_type.now t.inside.now t.part)
 -- where it is, by what was found for it
 abbrev pub sought_seat : Sources → Entries Key Found → Option Sought → Option Seat
 sought_seat from own None = None
-sought_seat from own (Some k) = seat_typed (standing_by k.stands) (type_by k.of_type) (maybe_inside (spotted from own k.inside))
+sought_seat from own (Some k) =
+    seat_typed (standing_by k.stands) (type_by k.of_type) (maybe_inside (spotted from own k.inside))
 
 -- the path of the module of that id, where there is one
 abbrev pub path_at : List Record → ℕ → Option (List ℕ)
-path_at records id = option_map (λ (r : Record). path_of records id) (record_there (place_of records id))
+path_at records id =
+    option_map (λ (r : Record). path_of records id) (record_there (place_of records id))

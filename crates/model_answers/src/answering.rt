@@ -49,7 +49,8 @@ pub fn answer(
     question: &Question,
 ) -> Result<Answer, NoMemory>
     requires { IsRight from }
-    ensures { IfOk result (λ found. found ≡ answer_of (answers_of from.entry.setting.now) records.now question.now) }
+    ensures { IfOk result
+        (λ found. found ≡ answer_of (answers_of from.entry.setting.now) records.now question.now) }
 {
     match question {
         Question::Root => root_answer(alloc, from, from.setting.model().network()),
@@ -112,7 +113,8 @@ fn inside_at(
     id: u32,
 ) -> Result<Answer, NoMemory>
     requires { IsRight from }
-    ensures { IfOk result (λ found. found ≡ insides.inside_answer (settings_of from.entry) (path_of records.now id)
+    ensures { IfOk result
+        (λ found. found ≡ insides.inside_answer (settings_of from.entry) (path_of records.now id)
         (keyed.type_in (settings_of from.entry) (place_of records.now id))) }
 {
     match path_at(alloc, records, id)? {
@@ -130,7 +132,8 @@ fn value_at(
     name: &[u8],
 ) -> Result<Answer, NoMemory>
     requires { IsRight from }
-    ensures { IfOk result (λ found. found ≡ keyed.declared_answer (settings_of from.entry) (path_of records.now id)
+    ensures { IfOk result
+        (λ found. found ≡ keyed.declared_answer (settings_of from.entry) (path_of records.now id)
         (keyed.type_in (settings_of from.entry) (place_of records.now id)) name.now) }
 {
     match path_at(alloc, records, id)? {
@@ -148,7 +151,8 @@ fn size_at(
     name: &[u8],
 ) -> Result<Answer, NoMemory>
     requires { IsRight from }
-    ensures { IfOk result (λ found. found ≡ gate_named name.now (insides.gates_answer (settings_of from.entry) (path_of records.now id)
+    ensures { IfOk result (λ found. found ≡ gate_named name.now
+        (insides.gates_answer (settings_of from.entry) (path_of records.now id)
         (keyed.type_in (settings_of from.entry) (place_of records.now id)))) }
 {
     let gates = gates_at(alloc, from, records, id)?;
@@ -166,7 +170,8 @@ fn hop_at(
     index: u32,
 ) -> Result<Answer, NoMemory>
     requires { IsRight from }
-    ensures { IfOk result (λ found. found ≡ insides.hop_answer (settings_of from.entry) way (path_of records.now id)
+    ensures { IfOk result
+        (λ found. found ≡ insides.hop_answer (settings_of from.entry) way (path_of records.now id)
         (keyed.type_in (settings_of from.entry) (place_of records.now id)) name.now index) }
 {
     match path_at(alloc, records, id)? {
@@ -183,7 +188,8 @@ fn gates_at(
     id: u32,
 ) -> Result<Items<Gate>, NoMemory>
     requires { IsRight from }
-    ensures { IfOk result (λ gates. gates ≡ insides.gates_answer (settings_of from.entry) (path_of records.now id)
+    ensures { IfOk result
+        (λ gates. gates ≡ insides.gates_answer (settings_of from.entry) (path_of records.now id)
         (keyed.type_in (settings_of from.entry) (place_of records.now id))) }
 {
     match path_at(alloc, records, id)? {
@@ -201,7 +207,8 @@ pub fn parameters_of(
     id: u32,
 ) -> Result<Items<Parameter>, NoMemory>
     requires { IsRight from }
-    ensures { IfOk result (λ parameters. parameters ≡ parameters_of (answers_of from.entry.setting.now) records.now id) }
+    ensures { IfOk result (λ parameters. parameters
+        ≡ parameters_of (answers_of from.entry.setting.now) records.now id) }
 {
     match path_at(alloc, records, id)? {
         Some(path) => parameters_by(alloc, from, path.as_bytes()),
@@ -218,7 +225,8 @@ pub fn gates_of(
     id: u32,
 ) -> Result<Items<Gate>, NoMemory>
     requires { IsRight from }
-    ensures { IfOk result (λ gates. gates ≡ gates_of (answers_of from.entry.setting.now) records.now id) }
+    ensures { IfOk result
+        (λ gates. gates ≡ gates_of (answers_of from.entry.setting.now) records.now id) }
 {
     gates_at(alloc, from, records, id)
 }
@@ -231,7 +239,8 @@ pub fn value_of_path(
     name: &[u8],
 ) -> Result<Answer, NoMemory>
     requires { IsRight from }
-    ensures { IfOk result (λ found. found ≡ keyed.value_in (settings_of from.entry) path.now name.now) }
+    ensures { IfOk result
+        (λ found. found ≡ keyed.value_in (settings_of from.entry) path.now name.now) }
 {
     let mut own = own_table(alloc, from);
     value_answer(alloc, from, &mut own, path, name)
@@ -244,7 +253,8 @@ pub fn type_of_path<'a>(
     path: &[u8],
 ) -> Result<Option<&'a TypeDeclaration>, NoMemory>
     requires { IsRight from }
-    ensures { IfOk result (λ found. option_copied found ≡ keyed.type_of (settings_of from.entry) path.now) }
+    ensures { IfOk result
+        (λ found. option_copied found ≡ keyed.type_of (settings_of from.entry) path.now) }
 {
     let mut own = own_table(alloc, from);
     match type_of(alloc, from, &mut own, path)? {
@@ -261,7 +271,8 @@ pub fn type_at<'a>(
     id: u32,
 ) -> Result<Option<&'a TypeDeclaration>, NoMemory>
     requires { IsRight from }
-    ensures { IfOk result (λ found. option_copied found ≡ type_at from.entry.setting.now records.now id) }
+    ensures { IfOk result
+        (λ found. option_copied found ≡ type_at from.entry.setting.now records.now id) }
 {
     match path_at(alloc, records, id)? {
         Some(path) => type_of_path(alloc, from, path.as_bytes()),

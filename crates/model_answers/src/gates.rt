@@ -68,7 +68,8 @@ fn declared_size(
 ) -> Result<Option<u32>, NoMemory>
     requires right { IsRight from }
     requires own { IsKept (rules_of (settings_of from)) own.old.entries }
-    ensures size { IfOk result (λ size. size ≡ insides.declared_size (settings_of from.entry) path.now name.now) }
+    ensures size { IfOk result
+        (λ size. size ≡ insides.declared_size (settings_of from.entry) path.now name.now) }
     ensures kept { IsKept (rules_of (settings_of from.entry)) own.new.entries }
 {
     let what = What::Declared(name.copy(alloc)?);
@@ -82,7 +83,8 @@ fn seated_size(
     seat: Option<PartAt<'_>>,
     name: &Text,
 ) -> Result<Option<u32>, NoMemory>
-    ensures { IfOk result (λ size. size ≡ insides.seated_size (settings_of from.entry) (maybe_seat seat.entry) name.now) }
+    ensures { IfOk result (λ size. size
+        ≡ insides.seated_size (settings_of from.entry) (maybe_seat seat.entry) name.now) }
 {
     match seat {
         Some(seat) => finished_size(
@@ -127,7 +129,8 @@ fn push_seated(
     gate: &TypeGate,
 ) -> Result<(), NoMemory>
     ensures { OnOk result (gates.new ≡ gates.old ++ insides.with_size gate.now
-        (insides.size_of (insides.seated_size (settings_of from.entry) (maybe_seat seat.entry)) gate.now)) }
+        (insides.size_of (insides.seated_size (settings_of from.entry) (maybe_seat seat.entry))
+        gate.now)) }
 {
     if !gate.kind.is_vector {
         return push_gate(gates, alloc, gate, Some(1));
@@ -186,7 +189,8 @@ fn push_all_declared(
 ) -> Result<(), NoMemory>
     requires right { IsRight from }
     requires own { IsKept (rules_of (settings_of from)) own.old.entries }
-    ensures { OnOk result (gates.new ≡ gates.old ++ insides.sized_gates (insides.declared_size (settings_of from.entry) path.now) of_type.now) }
+    ensures { OnOk result (gates.new ≡ gates.old ++ insides.sized_gates
+        (insides.declared_size (settings_of from.entry) path.now) of_type.now) }
 {
     for gate in of_type {
         push_declared(gates, alloc, from, own, path, gate)?;
@@ -196,7 +200,8 @@ fn push_all_declared(
 
 /// The gates of a type, of all types' gates.
 fn gates_at<'a>(gates: &'a [TypeGates], of_type: Typed<'a>) -> &'a [TypeGate]
-    requires { slice_get gates.now of_type.number ≡ Some (own_gates.gates_of of_type.declared.now.gates) }
+    requires { slice_get gates.now of_type.number
+        ≡ Some (own_gates.gates_of of_type.declared.now.gates) }
     ensures { result.now ≡ insides.gates_of_type of_type.entry.declared.now }
 {
     match gates.get(of_type.number) {
@@ -216,7 +221,8 @@ fn gates_seated(
     requires right { IsRight from }
     requires own { IsKept (rules_of (settings_of from)) own.old.entries }
     ensures { IfOk result (λ gates. gates ≡ insides.sized_gates
-        (insides.seated_size (settings_of from.entry) (insides.seat_of (settings_of from.entry) path.now)) of_type.now) }
+        (insides.seated_size (settings_of from.entry)
+        (insides.seat_of (settings_of from.entry) path.now)) of_type.now) }
 {
     let mut gates = Items::new(alloc);
     match seek(alloc, from, own, path)? {
@@ -254,7 +260,8 @@ fn gates_in(
 /// All gates of the module of that path, in the order of their declaration.
 pub fn gates_answer(alloc: Global, from: Sources<'_>, path: &[u8]) -> Result<Items<Gate>, NoMemory>
     requires { IsRight from }
-    ensures { IfOk result (λ gates. gates ≡ insides.gates_answer (settings_of from.entry) path.now (keyed.type_of (settings_of from.entry) path.now)) }
+    ensures { IfOk result (λ gates. gates ≡ insides.gates_answer (settings_of from.entry) path.now
+        (keyed.type_of (settings_of from.entry) path.now)) }
 {
     let mut own = own_table(alloc, from);
     match type_of(alloc, from, &mut own, path)? {
@@ -277,7 +284,8 @@ fn next_outwards(
     gate: &Text,
     index: u32,
 ) -> Result<Option<NextGate>, NoMemory>
-    ensures { IfOk result (λ next. next ≡ insides.next_outwards (settings_of from.entry) way gate.now index (maybe_seat seat.entry)) }
+    ensures { IfOk result (λ next. next ≡ insides.next_outwards (settings_of from.entry) way
+        gate.now index (maybe_seat seat.entry)) }
 {
     let Some(seat) = seat else {
         return Ok(None);
@@ -305,7 +313,8 @@ fn next_inwards(
     gate: &Text,
     index: u32,
 ) -> Result<Option<NextGate>, NoMemory>
-    ensures { IfOk result (λ next. next ≡ insides.next_inwards (settings_of from.entry) declared.now way gate.now index (option_copied inside.entry)) }
+    ensures { IfOk result (λ next. next ≡ insides.next_inwards (settings_of from.entry) declared.now
+        way gate.now index (option_copied inside.entry)) }
 {
     let Some(inside) = inside else {
         return Ok(None);
@@ -335,7 +344,8 @@ fn outwards(
 ) -> Result<Option<NextGate>, NoMemory>
     requires right { IsRight from }
     requires own { IsKept (rules_of (settings_of from)) own.old.entries }
-    ensures { IfOk result (λ next. next ≡ insides.next_outwards (settings_of from.entry) way gate.now index (insides.seat_of (settings_of from.entry) path.now)) }
+    ensures { IfOk result (λ next. next ≡ insides.next_outwards (settings_of from.entry) way
+        gate.now index (insides.seat_of (settings_of from.entry) path.now)) }
 {
     match seek(alloc, from, own, path)? {
         Some(sought) => {
@@ -359,7 +369,8 @@ fn inwards(
 ) -> Result<Option<NextGate>, NoMemory>
     requires right { IsRight from }
     requires own { IsKept (rules_of (settings_of from)) own.old.entries }
-    ensures { IfOk result (λ next. next ≡ insides.next_inwards (settings_of from.entry) declared.now way gate.now index (insides.inside_of (settings_of from.entry) path.now)) }
+    ensures { IfOk result (λ next. next ≡ insides.next_inwards (settings_of from.entry) declared.now
+        way gate.now index (insides.inside_of (settings_of from.entry) path.now)) }
 {
     let found = value_of(alloc, from, own, path, What::Inside)?;
     let inside = inside_in(said(from, own, found));
@@ -381,7 +392,8 @@ fn next_by(
 ) -> Result<Option<NextGate>, NoMemory>
     requires right { IsRight from }
     requires own { IsKept (rules_of (settings_of from)) own.old.entries }
-    ensures { IfOk result (λ next. next ≡ insides.next_by (settings_of from.entry) path.now declared.now way half gate.now index) }
+    ensures { IfOk result (λ next. next ≡ insides.next_by (settings_of from.entry) path.now
+        declared.now way half gate.now index) }
 {
     if is_outwards(way, half) {
         outwards(alloc, from, own, path, way, gate, index)
@@ -401,7 +413,8 @@ pub fn hop_answer(
     index: u32,
 ) -> Result<Answer, NoMemory>
     requires { IsRight from }
-    ensures { IfOk result (λ found. found ≡ insides.hop_answer (settings_of from.entry) way path.now (keyed.type_of (settings_of from.entry) path.now) name.now index) }
+    ensures { IfOk result (λ found. found ≡ insides.hop_answer (settings_of from.entry) way path.now
+        (keyed.type_of (settings_of from.entry) path.now) name.now index) }
 {
     let mut own = own_table(alloc, from);
     let Some(of_type) = type_of(alloc, from, &mut own, path)? else {

@@ -53,7 +53,8 @@ fn connected_answer(
     declared: &TypeDeclaration,
     inside: &Inside,
 ) -> Result<Answer, NoMemory>
-    ensures { IfOk result (λ found. found ≡ insides.connected_answer (settings_of from.entry) path.now declared.now inside.now
+    ensures { IfOk result (λ found. found
+        ≡ insides.connected_answer (settings_of from.entry) path.now declared.now inside.now
         (unconnected declared.now (type_gates (settings_of from.entry)) inside.now)) }
 {
     let lines = declared.submodules.as_slice();
@@ -75,7 +76,8 @@ fn built_answer(
     declared: &TypeDeclaration,
     found: Result<Found, (Text, InsideFault)>,
 ) -> Result<Answer, NoMemory>
-    ensures { IfOk result (λ answer. answer ≡ insides.built_answer (settings_of from.entry) path.now declared.now found) }
+    ensures { IfOk result (λ answer. answer
+        ≡ insides.built_answer (settings_of from.entry) path.now declared.now found) }
 {
     match found {
         Ok(Found::Inside(inside)) => connected_answer(alloc, from, path, declared, &inside),
@@ -93,7 +95,8 @@ fn inside_found(
     path: &[u8],
 ) -> Result<Result<Found, (Text, InsideFault)>, NoMemory>
     requires { IsKept (rules_of (settings_of from)) own.old.entries }
-    ensures { IfOk result (λ found. found ≡ insides.inside_found (settings_of from.entry) path.now) }
+    ensures { IfOk result
+        (λ found. found ≡ insides.inside_found (settings_of from.entry) path.now) }
 {
     let site = module_of(alloc, path)?;
     let stands = from.setting.standing(alloc, &site)?;
@@ -107,7 +110,8 @@ fn kept_inside<'a>(
     path: &[u8],
 ) -> Result<Option<&'a Inside>, NoMemory>
     requires { IsRight from }
-    ensures { IfOk result (λ kept. IfSome kept (λ i. insides.inside_found (settings_of from.entry) path.now ≡ Ok (found_as.Inside i.now))) }
+    ensures { IfOk result (λ kept. IfSome kept (λ i.
+        insides.inside_found (settings_of from.entry) path.now ≡ Ok (found_as.Inside i.now))) }
 {
     let site = module_of(alloc, path)?;
     let what = What::Inside;
@@ -129,7 +133,8 @@ fn built_in(
 ) -> Result<Answer, NoMemory>
     requires right { IsRight from }
     requires own { IsKept (rules_of (settings_of from)) own.old.entries }
-    ensures { IfOk result (λ answer. answer ≡ insides.built_answer (settings_of from.entry) path.now declared.now (insides.inside_found (settings_of from.entry) path.now)) }
+    ensures { IfOk result (λ answer. answer ≡ insides.built_answer (settings_of from.entry) path.now
+        declared.now (insides.inside_found (settings_of from.entry) path.now)) }
 {
     if let Some(inside) = kept_inside(alloc, from, path)? {
         return connected_answer(alloc, from, path, declared, inside);
@@ -141,7 +146,8 @@ fn built_in(
 /// What is inside of the compound module of that path, or its first fault.
 pub fn inside_answer(alloc: Global, from: Sources<'_>, path: &[u8]) -> Result<Answer, NoMemory>
     requires { IsRight from }
-    ensures { IfOk result (λ answer. answer ≡ insides.inside_answer (settings_of from.entry) path.now (keyed.type_of (settings_of from.entry) path.now)) }
+    ensures { IfOk result (λ answer. answer ≡ insides.inside_answer (settings_of from.entry)
+        path.now (keyed.type_of (settings_of from.entry) path.now)) }
 {
     let mut own = own_table(alloc, from);
     let Some(of_type) = type_of(alloc, from, &mut own, path)? else {

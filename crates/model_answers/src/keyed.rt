@@ -9,7 +9,8 @@ ghost use Rattle.inside_keys.specs.Values.{rules_of};
 ghost use Rattle.inside_parts.specs.Gates as type_gates;
 ghost use Rattle.inside_keys.specs.declared.key.What.TheVariants as of;
 ghost use Rattle.model_answers.specs.Keyed as keyed;
-ghost use Rattle.model_answers.specs.Reading.{maybe_copied, result_copied, settings_of, type_by, IsNumbered, IsRight};
+ghost use Rattle.model_answers.specs.Reading.{maybe_copied, result_copied, settings_of, type_by};
+ghost use Rattle.model_answers.specs.Reading.{IsNumbered, IsRight};
 ghost use Rattle.model_questions.specs.Answers.{is_declared, with_value, with_values};
 
 use crate::reading::{Sources, own_table, said, value_of};
@@ -66,7 +67,8 @@ pub struct Typed<'a> {
 /// The type of that number.
 fn typed_at(types: &[TypeDeclaration], number: Option<usize>) -> Option<Typed<'_>>
     ensures value { type_by result ≡ keyed.type_at_number types.now number }
-    ensures there { IfSome result (λ t. keyed.type_at_number types.now (Some t.number) ≡ Some t.declared.now) }
+    ensures there { IfSome result
+        (λ t. keyed.type_at_number types.now (Some t.number) ≡ Some t.declared.now) }
 {
     let number = number?;
     match types.get(number) {
@@ -84,8 +86,10 @@ pub fn type_of<'a>(
 ) -> Result<Option<Typed<'a>>, NoMemory>
     requires right { IsRight from }
     requires own { IsKept (rules_of (settings_of from)) own.old.entries }
-    ensures value { IfOk result (λ found. type_by found ≡ keyed.type_of (settings_of from.entry) path.now) }
-    ensures there { IfOk result (λ found. IfSome found (λ t. IsNumbered (settings_of from.entry) t)) }
+    ensures value { IfOk result
+        (λ found. type_by found ≡ keyed.type_of (settings_of from.entry) path.now) }
+    ensures there { IfOk result
+        (λ found. IfSome found (λ t. IsNumbered (settings_of from.entry) t)) }
     ensures kept { IsKept (rules_of (settings_of from.entry)) own.new.entries }
 {
     let found = value_of(alloc, from, own, path, What::Type)?;
@@ -101,7 +105,8 @@ fn answer_by(
     path: &[u8],
     found: Result<&Found, InsideFault>,
 ) -> Result<Answer, NoMemory>
-    ensures { IfOk result (λ answer. answer ≡ keyed.value_answer path.now (result_copied found.entry)) }
+    ensures { IfOk result
+        (λ answer. answer ≡ keyed.value_answer path.now (result_copied found.entry)) }
 {
     match found {
         Ok(Found::Value(value)) => Ok(Answer::Value(value.copy(alloc)?)),
@@ -120,7 +125,8 @@ pub fn value_answer(
 ) -> Result<Answer, NoMemory>
     requires right { IsRight from }
     requires own { IsKept (rules_of (settings_of from)) own.old.entries }
-    ensures value { IfOk result (λ found. found ≡ keyed.value_answer path.now (keyed.value_of (settings_of from.entry) path.now (of.Param name.now))) }
+    ensures value { IfOk result (λ found. found ≡ keyed.value_answer path.now
+        (keyed.value_of (settings_of from.entry) path.now (of.Param name.now))) }
     ensures kept { IsKept (rules_of (settings_of from.entry)) own.new.entries }
 {
     let what = What::Param(Text::from_bytes(alloc, name)?);
@@ -149,7 +155,8 @@ pub fn param_answer(
     name: &[u8],
 ) -> Result<Answer, NoMemory>
     requires { IsRight from }
-    ensures { IfOk result (λ found. found ≡ keyed.declared_answer (settings_of from.entry) path.now (keyed.type_of (settings_of from.entry) path.now) name.now) }
+    ensures { IfOk result (λ found. found ≡ keyed.declared_answer (settings_of from.entry) path.now
+        (keyed.type_of (settings_of from.entry) path.now) name.now) }
 {
     let mut own = own_table(alloc, from);
     let Some(of_type) = type_of(alloc, from, &mut own, path)? else {
@@ -172,7 +179,8 @@ fn push_parameter(
 ) -> Result<(), NoMemory>
     requires right { IsRight from }
     requires own { IsKept (rules_of (settings_of from)) own.old.entries }
-    ensures pushed { OnOk result (parameters.new ≡ parameters.old ++ with_value name.now (keyed.value_in (settings_of from.entry) path.now name.now) []) }
+    ensures pushed { OnOk result (parameters.new ≡ parameters.old
+        ++ with_value name.now (keyed.value_in (settings_of from.entry) path.now name.now) []) }
     ensures kept { IsKept (rules_of (settings_of from.entry)) own.new.entries }
 {
     match value_answer(alloc, from, own, path, name)? {
@@ -203,7 +211,8 @@ fn push_line(
 ) -> Result<(), NoMemory>
     requires right { IsRight from }
     requires own { IsKept (rules_of (settings_of from)) own.old.entries }
-    ensures pushed { OnOk result (parameters.new ≡ parameters.old ++ with_values (keyed.value_in (settings_of from.entry) path.now) (keyed.names_in (line.now ∷ []))) }
+    ensures pushed { OnOk result (parameters.new ≡ parameters.old ++ with_values
+        (keyed.value_in (settings_of from.entry) path.now) (keyed.names_in (line.now ∷ []))) }
     ensures kept { IsKept (rules_of (settings_of from.entry)) own.new.entries }
 {
     let SectionLine::Declaration(declaration) = line else {
@@ -230,7 +239,8 @@ fn push_lines(
 ) -> Result<(), NoMemory>
     requires right { IsRight from }
     requires own { IsKept (rules_of (settings_of from)) own.old.entries }
-    ensures { OnOk result (parameters.new ≡ parameters.old ++ with_values (keyed.value_in (settings_of from.entry) path.now) (keyed.names_in lines.now)) }
+    ensures { OnOk result (parameters.new ≡ parameters.old ++ with_values
+        (keyed.value_in (settings_of from.entry) path.now) (keyed.names_in lines.now)) }
 {
     for line in lines {
         push_line(parameters, alloc, from, own, path, line)?;
@@ -245,7 +255,8 @@ pub fn parameters_by(
     path: &[u8],
 ) -> Result<Items<Parameter>, NoMemory>
     requires { IsRight from }
-    ensures { IfOk result (λ parameters. parameters ≡ keyed.parameters_by (settings_of from.entry) path.now (keyed.type_of (settings_of from.entry) path.now)) }
+    ensures { IfOk result (λ parameters. parameters ≡ keyed.parameters_by (settings_of from.entry)
+        path.now (keyed.type_of (settings_of from.entry) path.now)) }
 {
     let mut parameters = Items::new(alloc);
     let mut own = own_table(alloc, from);
@@ -279,7 +290,8 @@ fn fault_of(
 ) -> Result<Option<ModelFault>, NoMemory>
     requires right { IsRight from }
     requires own { IsKept (rules_of (settings_of from)) own.old.entries }
-    ensures value { IfOk result (λ fault. fault ≡ keyed.fault_in (keyed.value_of (settings_of from.entry) path.now what)) }
+    ensures value { IfOk result
+        (λ fault. fault ≡ keyed.fault_in (keyed.value_of (settings_of from.entry) path.now what)) }
     ensures kept { IsKept (rules_of (settings_of from.entry)) own.new.entries }
 {
     let found = value_of(alloc, from, own, path, what)?;
@@ -296,7 +308,8 @@ fn fault_of_line(
 ) -> Result<Option<ModelFault>, NoMemory>
     requires right { IsRight from }
     requires own { IsKept (rules_of (settings_of from)) own.old.entries }
-    ensures value { IfOk result (λ fault. fault ≡ keyed.fault_of_line (settings_of from.entry) path.now line.now) }
+    ensures value { IfOk result
+        (λ fault. fault ≡ keyed.fault_of_line (settings_of from.entry) path.now line.now) }
     ensures kept { IsKept (rules_of (settings_of from.entry)) own.new.entries }
 {
     match line {
@@ -318,7 +331,8 @@ fn fault_of_lines(
 ) -> Result<Option<ModelFault>, NoMemory>
     requires right { IsRight from }
     requires own { IsKept (rules_of (settings_of from)) own.old.entries }
-    ensures value { IfOk result (λ fault. fault ≡ keyed.fault_of_lines (settings_of from.entry) path.now lines.now) }
+    ensures value { IfOk result
+        (λ fault. fault ≡ keyed.fault_of_lines (settings_of from.entry) path.now lines.now) }
     ensures kept { OnOk result (IsKept (rules_of (settings_of from.entry)) own.new.entries) }
 {
     for line in lines {
@@ -339,7 +353,8 @@ fn fault_of_size(
 ) -> Result<Option<ModelFault>, NoMemory>
     requires right { IsRight from }
     requires own { IsKept (rules_of (settings_of from)) own.old.entries }
-    ensures value { IfOk result (λ fault. fault ≡ keyed.fault_of_size (settings_of from.entry) path.now gate.now) }
+    ensures value { IfOk result
+        (λ fault. fault ≡ keyed.fault_of_size (settings_of from.entry) path.now gate.now) }
     ensures kept { IsKept (rules_of (settings_of from.entry)) own.new.entries }
 {
     if !gate.kind.is_vector {
@@ -359,7 +374,8 @@ fn fault_of_sizes(
 ) -> Result<Option<ModelFault>, NoMemory>
     requires right { IsRight from }
     requires own { IsKept (rules_of (settings_of from)) own.old.entries }
-    ensures { IfOk result (λ fault. fault ≡ keyed.fault_of_sizes (settings_of from.entry) path.now gates.now) }
+    ensures { IfOk result
+        (λ fault. fault ≡ keyed.fault_of_sizes (settings_of from.entry) path.now gates.now) }
 {
     for gate in gates {
         if let Some(fault) = fault_of_size(alloc, from, own, path, gate)? {
@@ -379,7 +395,8 @@ fn fault_of_misplaced(
 ) -> Result<Option<ModelFault>, NoMemory>
     requires right { IsRight from }
     requires own { IsKept (rules_of (settings_of from)) own.old.entries }
-    ensures value { IfOk result (λ fault. fault ≡ keyed.fault_of_misplaced (settings_of from.entry) path.now (option_copied name.entry)) }
+    ensures value { IfOk result (λ fault. fault ≡ keyed.fault_of_misplaced (settings_of from.entry)
+        path.now (option_copied name.entry)) }
     ensures kept { OnOk result (IsKept (rules_of (settings_of from.entry)) own.new.entries) }
 {
     match name {
@@ -398,7 +415,8 @@ fn fault_of_gates(
 ) -> Result<Option<ModelFault>, NoMemory>
     requires right { IsRight from }
     requires own { IsKept (rules_of (settings_of from)) own.old.entries }
-    ensures { IfOk result (λ fault. fault ≡ keyed.fault_of_gates (settings_of from.entry) path.now declared.now (type_gates.gates_of declared.now.gates)) }
+    ensures { IfOk result (λ fault. fault ≡ keyed.fault_of_gates (settings_of from.entry) path.now
+        declared.now (type_gates.gates_of declared.now.gates)) }
 {
     let gates = gates_of(alloc, declared.gates.as_slice())?;
     let misplaced = misplaced(&gates, declared.gates.as_slice());
@@ -416,7 +434,8 @@ fn fault_of_network(
     network: &TypeDeclaration,
 ) -> Result<Option<ModelFault>, NoMemory>
     requires { IsRight from }
-    ensures { IfOk result (λ fault. fault ≡ keyed.fault_of_network (settings_of from.entry) network.now) }
+    ensures { IfOk result
+        (λ fault. fault ≡ keyed.fault_of_network (settings_of from.entry) network.now) }
 {
     let mut own = own_table(alloc, from);
     let path = network.name.as_bytes();
@@ -433,7 +452,8 @@ pub fn root_answer(
     network: Option<&TypeDeclaration>,
 ) -> Result<Answer, NoMemory>
     requires { IsRight from }
-    ensures { IfOk result (λ found. found ≡ keyed.root_answer (settings_of from.entry) (option_copied network.entry)) }
+    ensures { IfOk result (λ found. found
+        ≡ keyed.root_answer (settings_of from.entry) (option_copied network.entry)) }
 {
     let Some(network) = network else {
         return Ok(Answer::Absent);

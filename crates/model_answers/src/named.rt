@@ -22,7 +22,8 @@ fn is_half(mark: &[u8], name: &[u8], gate: &Gate) -> bool
 
 /// The gate, with that direction.
 fn directed(alloc: Global, gate: &Gate, direction: Direction) -> Result<Answer, NoMemory>
-    ensures { IfOk result (λ answer. answer ≡ named.gate_answer None (Some (record gate.now { direction = direction }))) }
+    ensures { IfOk result (λ answer. answer
+        ≡ named.gate_answer None (Some (record gate.now { direction = direction }))) }
 {
     Ok(Answer::Gate(Gate {
         name: gate.name.copy(alloc)?,
@@ -33,7 +34,8 @@ fn directed(alloc: Global, gate: &Gate, direction: Direction) -> Result<Answer, 
 
 /// What is answered of the half of that name among these gates.
 fn half_named(alloc: Global, name: &[u8], gates: &[Gate]) -> Result<Answer, NoMemory>
-    ensures { IfOk result (λ answer. answer ≡ named.gate_answer None (named.half_of name.now gates.now)) }
+    ensures { IfOk result
+        (λ answer. answer ≡ named.gate_answer None (named.half_of name.now gates.now)) }
 {
     for gate in gates {
         if is_half(b"$i", name, gate) {

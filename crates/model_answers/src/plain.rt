@@ -95,7 +95,8 @@ impl<'m> PlainAnswers<'m> {
         records: &[Record],
         question: &Question,
     ) -> Result<Answer, NoMemory>
-        ensures { IfOk result (λ found. found ≡ answer_of (answers_of self.now) records.now question.now) }
+        ensures { IfOk result
+            (λ found. found ≡ answer_of (answers_of self.now) records.now question.now) }
     {
         answer(alloc, self.sources(), records, question)
     }
@@ -107,7 +108,8 @@ impl<'m> PlainAnswers<'m> {
         records: &[Record],
         id: u32,
     ) -> Result<Items<Parameter>, NoMemory>
-        ensures { IfOk result (λ parameters. parameters ≡ parameters_of (answers_of self.now) records.now id) }
+        ensures { IfOk result
+            (λ parameters. parameters ≡ parameters_of (answers_of self.now) records.now id) }
     {
         parameters_of(alloc, self.sources(), records, id)
     }
@@ -142,14 +144,16 @@ impl<'m> PlainAnswers<'m> {
         alloc: Global,
         path: &[u8],
     ) -> Result<Option<&TypeDeclaration>, NoMemory>
-        ensures { IfOk result (λ found. option_copied found ≡ keyed.type_of (setting_of self.now) path.now) }
+        ensures { IfOk result
+            (λ found. option_copied found ≡ keyed.type_of (setting_of self.now) path.now) }
     {
         type_of_path(alloc, self.sources(), path)
     }
 
     /// The value of a parameter of the module of that path, or its fault.
     pub fn value_at_path(&self, alloc: Global, path: &[u8], name: &[u8]) -> Result<Answer, NoMemory>
-        ensures { IfOk result (λ found. found ≡ keyed.value_in (setting_of self.now) path.now name.now) }
+        ensures { IfOk result
+            (λ found. found ≡ keyed.value_in (setting_of self.now) path.now name.now) }
     {
         value_of_path(alloc, self.sources(), path, name)
     }

@@ -6,7 +6,8 @@ ghost use Rattle.param_engine.specs.Tables.{IsKept};
 ghost use Rattle.inside_keys.specs.Keys as keys;
 ghost use Rattle.inside_keys.specs.Values.{rules_of, value_at};
 ghost use Rattle.model_answers.specs.Keyed as keyed;
-ghost use Rattle.model_answers.specs.Reading.{maybe_copied, settings_of, spotted, standing_at, IsRight};
+ghost use Rattle.model_answers.specs.Reading.{maybe_copied, settings_of, spotted, standing_at};
+ghost use Rattle.model_answers.specs.Reading.{IsRight};
 
 use inside_keys::found::Found;
 use inside_keys::key::{Key, Module, What};
@@ -50,7 +51,8 @@ pub fn find(
 ) -> Result<Result<Spot, InsideFault>, NoMemory>
     requires right { IsRight from }
     requires own { IsKept (rules_of (settings_of from)) own.old.entries }
-    ensures value { IfOk result (λ found. spotted from.entry own.new.entries found ≡ Some (value_at (settings_of from.entry) key)) }
+    ensures value { IfOk result (λ found. spotted from.entry own.new.entries found
+        ≡ Some (value_at (settings_of from.entry) key)) }
     ensures kept { IsKept (rules_of (settings_of from.entry)) own.new.entries }
 {
     if let Some(place) = values::known(from.setting, from.kept, &key) {
@@ -109,7 +111,8 @@ pub fn value_of(
 ) -> Result<Result<Spot, InsideFault>, NoMemory>
     requires right { IsRight from }
     requires own { IsKept (rules_of (settings_of from)) own.old.entries }
-    ensures value { IfOk result (λ found. spotted from.entry own.new.entries found ≡ Some (keyed.value_of (settings_of from.entry) path.now what)) }
+    ensures value { IfOk result (λ found. spotted from.entry own.new.entries found
+        ≡ Some (keyed.value_of (settings_of from.entry) path.now what)) }
     ensures kept { IsKept (rules_of (settings_of from.entry)) own.new.entries }
 {
     let site = module_of(alloc, path)?;

@@ -10,7 +10,8 @@ ghost use Rattle.inside_run.specs.Scenes.{standing_by};
 ghost use Rattle.inside_wiring.specs.Ends.{part_named};
 ghost use Rattle.model_answers.specs.Insides as insides;
 ghost use Rattle.model_answers.specs.Keyed as keyed;
-ghost use Rattle.model_answers.specs.Reading.{maybe_copied, maybe_seat, settings_of, sought_seat, type_by, IsNumbered, IsRight};
+ghost use Rattle.model_answers.specs.Reading.{maybe_copied, maybe_seat, settings_of, sought_seat};
+ghost use Rattle.model_answers.specs.Reading.{type_by, IsNumbered, IsRight};
 
 use crate::keyed::{Typed, type_of};
 use crate::reading::{Sources, Spot, module_of, said, value_of};
@@ -45,7 +46,8 @@ pub struct Sought<'a> {
 
 /// Where the module of that path stands.
 pub fn stands_of(alloc: Global, from: Sources<'_>, path: &[u8]) -> Result<Stands, NoMemory>
-    ensures { IfOk result (λ stands. standing_by stands ≡ (settings_of from.entry).stands (keyed.module_at path.now)) }
+    ensures { IfOk result (λ stands. standing_by stands
+        ≡ (settings_of from.entry).stands (keyed.module_at path.now)) }
 {
     let site = module_of(alloc, path)?;
     from.setting.standing(alloc, &site)
@@ -84,8 +86,10 @@ fn seek_in<'a>(
     requires right { IsRight from }
     requires own { IsKept (rules_of (settings_of from)) own.old.entries }
     ensures sought { IfOk result (λ sought. sought_seat from.entry own.new.entries (Some sought)
-        ≡ insides.seat_typed (standing_by stands) (keyed.type_of (settings_of from.entry) around.now) (insides.inside_of (settings_of from.entry) around.now)) }
-    ensures there { IfOk result (λ sought. IfSome sought.of_type (λ t. IsNumbered (settings_of from.entry) t)) }
+        ≡ insides.seat_typed (standing_by stands) (keyed.type_of (settings_of from.entry)
+        around.now) (insides.inside_of (settings_of from.entry) around.now)) }
+    ensures there { IfOk result
+        (λ sought. IfSome sought.of_type (λ t. IsNumbered (settings_of from.entry) t)) }
     ensures kept { IsKept (rules_of (settings_of from.entry)) own.new.entries }
 {
     let of_type = type_of(alloc, from, own, around)?;
@@ -106,8 +110,10 @@ pub fn seek<'a>(
 ) -> Result<Option<Sought<'a>>, NoMemory>
     requires right { IsRight from }
     requires own { IsKept (rules_of (settings_of from)) own.old.entries }
-    ensures sought { IfOk result (λ sought. sought_seat from.entry own.new.entries sought ≡ insides.seat_of (settings_of from.entry) path.now) }
-    ensures there { IfOk result (λ sought. IfSome sought (λ s. IfSome s.of_type (λ t. IsNumbered (settings_of from.entry) t))) }
+    ensures sought { IfOk result (λ sought. sought_seat from.entry own.new.entries sought
+        ≡ insides.seat_of (settings_of from.entry) path.now) }
+    ensures there { IfOk result (λ sought.
+        IfSome sought (λ s. IfSome s.of_type (λ t. IsNumbered (settings_of from.entry) t))) }
     ensures kept { IsKept (rules_of (settings_of from.entry)) own.new.entries }
 {
     let stands = stands_of(alloc, from, path)?;
@@ -121,7 +127,8 @@ pub fn seek<'a>(
 /// The part of an inside that a module is which stands there, where the submodules have these
 /// names.
 fn part_at(names: &Names, inside: &Inside, stands: &Stands) -> Result<Option<usize>, NoMemory>
-    ensures { IfOk result (λ part. part ≡ result_ok (part_named names.now inside.now.parts stands.now.name stands.now.index)) }
+    ensures { IfOk result (λ part. part
+        ≡ result_ok (part_named names.now inside.now.parts stands.now.name stands.now.index)) }
 {
     match part_named(names, &inside.parts, &stands.name, stands.index) {
         Ok(part) => Ok(Some(part)),
@@ -138,7 +145,8 @@ fn seat_in<'a>(
     inside: &'a Inside,
 ) -> Result<Option<PartAt<'a>>, NoMemory>
     requires { IsNumbered (settings_of from) of_type }
-    ensures { IfOk result (λ seat. maybe_seat seat ≡ insides.seat_among (standing_by stands.now) of_type.entry.declared.now (Some inside.now)) }
+    ensures { IfOk result (λ seat. maybe_seat seat ≡ insides.seat_among (standing_by stands.now)
+        of_type.entry.declared.now (Some inside.now)) }
 {
     let Some(names) = from.setting.submodules(of_type.number) else {
         return Ok(None);
@@ -160,7 +168,8 @@ pub fn seat_of<'a>(
     sought: &Sought<'a>,
 ) -> Result<Option<PartAt<'a>>, NoMemory>
     requires { IfSome sought.now.of_type (λ t. IsNumbered (settings_of from) t) }
-    ensures { IfOk result (λ seat. maybe_seat seat ≡ sought_seat from.entry own.now.entries (Some sought.now)) }
+    ensures { IfOk result
+        (λ seat. maybe_seat seat ≡ sought_seat from.entry own.now.entries (Some sought.now)) }
 {
     let Some(of_type) = sought.of_type else {
         return Ok(None);

@@ -7,7 +7,9 @@ use Rattle.ini_trees.specs.Sections.{entries_along}
 use Rattle.ned_trees.specs.declared.declarations.Submodule.{Submodule}
 use Rattle.ned_trees.specs.declared.declarations.TypeDeclaration.{TypeDeclaration}
 use Rattle.ned_trees.specs.declared.declarations.TypeKind.{TypeKind}
-use Rattle.ned_trees.specs.declared.declarations.TypeKind.TheVariants.{Simple, Module, Network, Channel, ModuleInterface, ChannelInterface}
+use Rattle.ned_trees.specs.declared.declarations.TypeKind.TheVariants.{Simple, Module, Network}
+use Rattle.ned_trees.specs.declared.declarations.TypeKind.TheVariants.{Channel, ModuleInterface}
+use Rattle.ned_trees.specs.declared.declarations.TypeKind.TheVariants.{ChannelInterface}
 use Rattle.ned_types.specs.Types.{type_name, type_named}
 use Rattle.ned_types.specs.Flat.{submodule_named}
 use Rattle.model_data.specs.declared.model.Model.{Model}
@@ -38,7 +40,8 @@ type_by_last_name m name = named_type m (last_name name)
 
 -- the network that is to be run: the one that the first entry of the option `network` names
 abbrev pub network_of : Model → Option TypeDeclaration
-network_of m = option_and_then as_network (option_and_then (type_by_last_name m) (network_entry (entries_in m)))
+network_of m = option_and_then as_network
+    (option_and_then (type_by_last_name m) (network_entry (entries_in m)))
 
 -- the time after which no event is executed, in picoseconds: that of the first entry of the option
 -- `sim-time-limit`

@@ -2,7 +2,8 @@
 
 ghost use Rattle.std.specs.Prelude.{◌≡◌, IfOk, Some};
 ghost use Rattle.std.specs.Option.{option_copied};
-ghost use Rattle.model_data.specs.Models.{network_of, type_at, inner_type, as_network, time_limit_of};
+ghost use Rattle.model_data.specs.Models.{network_of, type_at, inner_type, as_network};
+ghost use Rattle.model_data.specs.Models.{time_limit_of};
 ghost use Rattle.model_questions.specs.Records.{record_at};
 ghost use Rattle.ned_types.specs.Flat.{submodule_named};
 

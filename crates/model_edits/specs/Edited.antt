@@ -1,5 +1,7 @@
 -- The model that an edit makes of a model, and why it makes none.
-use Rattle.std.specs.Prelude.{◌≡◌, ℕ, ℤ, ◌+◌, ◌-◌, ◌^◌, ◌==◌, Bool, ◌||◌, true, false, List, [], ◌∷◌, ◌++◌, length, nat_le, nat_lt, Option, Some, None, IsSome, Err, if◌then◌else◌}
+use Rattle.std.specs.Prelude.{◌≡◌, ℕ, ℤ, ◌+◌, ◌-◌, ◌^◌, ◌==◌, Bool, ◌||◌, true, false, List, []}
+use Rattle.std.specs.Prelude.{◌∷◌, ◌++◌, length, nat_le, nat_lt, Option, Some, None, IsSome, Err}
+use Rattle.std.specs.Prelude.{if◌then◌else◌}
 use Rattle.std.specs.List.{list_any}
 use Rattle.sim_values.specs.Memory.{no_memory}
 use Rattle.ini_config.specs.declared.error.EditError.TheVariants as errors
@@ -74,7 +76,8 @@ parts_of m = record { files = m.files; types = m.types; lines = m.ini }
 -- where nothing changes them
 abbrev pub AreFilesBehind : Option ned.Change → Parts → Parts → Type 0
 AreFilesBehind None old new = (new.files ≡ old.files) × (new.types ≡ old.types)
-AreFilesBehind (Some changed) old new = IsChanged changed old.files new.files × AreTypesOf new.files new.types
+AreFilesBehind (Some changed) old new =
+    IsChanged changed old.files new.files × AreTypesOf new.files new.types
 
 -- the lines are those that the change leaves, or as they were where nothing changes them
 abbrev pub AreLinesBehind : Option change.Edit → List IniLine → List IniLine → Type 0
@@ -83,12 +86,19 @@ AreLinesBehind (Some changed) old lines = IsEdited changed lines
 
 -- the parts after an edit of those that the model has
 abbrev pub AreBehind : Model → Edit → Parts → Type 0
-AreBehind m e parts = AreFilesBehind (file_change_of e) (parts_of m) parts × AreLinesBehind (change_of e m.ini) m.ini parts.lines
+AreBehind m e parts = AreFilesBehind (file_change_of e) (parts_of m) parts
+    × AreLinesBehind (change_of e m.ini) m.ini parts.lines
 
 -- The model is the old one, but for these files, types and lines, this configuration, whose section
 -- is there, and its chain.
 pub record IsWith (m : Model) (parts : Parts) (config : List ℕ) (new : Model) : Type 0 where
-  pub rest : new ≡ record m { files = parts.files; types = parts.types; ini = parts.lines; config = config; chain = new.chain }
+  pub rest : new ≡ record m {
+    files = parts.files;
+    types = parts.types;
+    ini = parts.lines;
+    config = config;
+    chain = new.chain;
+  }
   pub exists : is_section config parts.lines ≡ true
   pub chained : IsChain parts.lines config new.chain
 
@@ -113,13 +123,21 @@ most_injections = 10000
 -- There is no room for one more: its payload is too long, as many are held as may be, or its number
 -- would have more than 32 bits.
 abbrev pub has_no_room : Model → List ℕ → Bool
-has_no_room m payload = nat_lt most_payload (length payload) || (nat_le most_injections (length m.injections) || nat_lt (2 ^ 32 - 2) m.last_injection)
+has_no_room m payload = nat_lt most_payload (length payload)
+    || (nat_le most_injections (length m.injections) || nat_lt (2 ^ 32 - 2) m.last_injection)
 
 -- the injection that is made: its number is the one after the last that was used, be it held still
 -- or not
 abbrev pub next_injection : Model → List ℕ → Due → ℤ → ℕ → List ℕ → Injection
 next_injection m path due kind bits payload =
-    record { number = m.last_injection + 1; path = path; due = due; kind = kind; bits = bits; payload = payload }
+    record {
+      number = m.last_injection + 1;
+      path = path;
+      due = due;
+      kind = kind;
+      bits = bits;
+      payload = payload;
+    }
 
 abbrev pub with_injection : Model → Injection → Model
 with_injection m i = record m { injections = m.injections ++ i ∷ []; last_injection = i.number }
@@ -153,13 +171,17 @@ IsEditOf m (edit.InsertIni line text) new = IsTextEditOf m (edit.InsertIni line 
 IsEditOf m (edit.ReplaceIni line text) new = IsTextEditOf m (edit.ReplaceIni line text) new
 IsEditOf m (edit.RemoveIni line) new = IsTextEditOf m (edit.RemoveIni line) new
 IsEditOf m (edit.ReplaceNed number text) new = IsTextEditOf m (edit.ReplaceNed number text) new
-IsEditOf m (edit.AddConnection name place text) new = IsTextEditOf m (edit.AddConnection name place text) new
-IsEditOf m (edit.RemoveConnection name place) new = IsTextEditOf m (edit.RemoveConnection name place) new
+IsEditOf m (edit.AddConnection name place text) new =
+    IsTextEditOf m (edit.AddConnection name place text) new
+IsEditOf m (edit.RemoveConnection name place) new =
+    IsTextEditOf m (edit.RemoveConnection name place) new
 IsEditOf m (edit.SelectConfig name) new = IsTextEditOf m (edit.SelectConfig name) new
 IsEditOf m (edit.Inject path due kind bits payload) new =
-    (has_no_room m payload ≡ false) × (new ≡ with_injection m (next_injection m path due kind bits payload))
+    (has_no_room m payload ≡ false)
+    × (new ≡ with_injection m (next_injection m path due kind bits payload))
 IsEditOf m (edit.Withdraw number) new =
-    (list_any (is_numbered number) m.injections ≡ true) × (new ≡ record m { injections = without number m.injections })
+    (list_any (is_numbered number) m.injections ≡ true)
+    × (new ≡ record m { injections = without number m.injections })
 
 -- ---- refusals
 
@@ -168,17 +190,21 @@ abbrev pub RefusesChange : Option change.Edit → Refusal → Type 0
 RefusesChange None r = ⊥
 RefusesChange (Some changed) refusal.TooLarge = Refused changed (Err errors.TooLarge)
 RefusesChange (Some changed) refusal.NoSuchLine = Refused changed (Err errors.NoSuchLine)
-RefusesChange (Some changed) (refusal.IniSyntax line reason) = Refused changed (Err (errors.IniSyntax line reason))
+RefusesChange (Some changed) (refusal.IniSyntax line reason) =
+    Refused changed (Err (errors.IniSyntax line reason))
 RefusesChange (Some changed) (refusal.NoMemory _) = Unit {0}
 RefusesChange (Some changed) _ = ⊥
 
 -- why there is no model with these parts and this configuration: it has no section; it has no
 -- chain; there is no network to run
 abbrev pub RefusesParts : Model → Parts → List ℕ → Refusal → Type 0
-RefusesParts m parts config (refusal.Config configs.NoSuchConfig) = is_section config parts.lines ≡ false
+RefusesParts m parts config (refusal.Config configs.NoSuchConfig) =
+    is_section config parts.lines ≡ false
 RefusesParts m parts config (refusal.Config configs.ChainFault) =
-    (is_section config parts.lines ≡ true) × ((chain : List (List ℕ)) → IsChain parts.lines config chain → ⊥)
-RefusesParts m parts config (refusal.Config configs.NoSuchNetwork) = (new : Model) × IsWith m parts config new × (network_of new ≡ None)
+    (is_section config parts.lines ≡ true)
+    × ((chain : List (List ℕ)) → IsChain parts.lines config chain → ⊥)
+RefusesParts m parts config (refusal.Config configs.NoSuchNetwork) =
+    (new : Model) × IsWith m parts config new × (network_of new ≡ None)
 RefusesParts m parts config (refusal.NoMemory _) = Unit {0}
 RefusesParts m parts config _ = ⊥
 
@@ -192,7 +218,8 @@ pub record HasNoModel (m : Model) (e : Edit) (r : Refusal) : Type 0 where
 abbrev pub RefusesText : Model → Edit → Refusal → Type 0
 RefusesText m e refusal.TooLarge = RefusesChange (change_of e m.ini) refusal.TooLarge
 RefusesText m e refusal.NoSuchLine = RefusesChange (change_of e m.ini) refusal.NoSuchLine
-RefusesText m e (refusal.IniSyntax line reason) = RefusesChange (change_of e m.ini) (refusal.IniSyntax line reason)
+RefusesText m e (refusal.IniSyntax line reason) =
+    RefusesChange (change_of e m.ini) (refusal.IniSyntax line reason)
 RefusesText m e (refusal.Config why) = HasNoModel m e (refusal.Config why)
 RefusesText m e (refusal.NoMemory _) = Unit {0}
 RefusesText m e _ = ⊥
@@ -215,7 +242,8 @@ RefusesInjection m payload (refusal.NoMemory _) = Unit {0}
 RefusesInjection m payload _ = ⊥
 
 abbrev pub RefusesWithdrawal : Model → ℕ → Refusal → Type 0
-RefusesWithdrawal m number refusal.NoSuchInjection = list_any (is_numbered number) m.injections ≡ false
+RefusesWithdrawal m number refusal.NoSuchInjection =
+    list_any (is_numbered number) m.injections ≡ false
 RefusesWithdrawal m number (refusal.NoMemory _) = Unit {0}
 RefusesWithdrawal m number _ = ⊥
 
@@ -224,9 +252,12 @@ abbrev pub Refuses : Model → Edit → Refusal → Type 0
 Refuses m (edit.InsertIni line text) r = RefusesText m (edit.InsertIni line text) r
 Refuses m (edit.ReplaceIni line text) r = RefusesText m (edit.ReplaceIni line text) r
 Refuses m (edit.RemoveIni line) r = RefusesText m (edit.RemoveIni line) r
-Refuses m (edit.ReplaceNed number text) r = RefusesFiles m (edit.ReplaceNed number text) (ned.Replaced number text) r
-Refuses m (edit.AddConnection name place text) r = RefusesFiles m (edit.AddConnection name place text) (ned.Inserted name place text) r
-Refuses m (edit.RemoveConnection name place) r = RefusesFiles m (edit.RemoveConnection name place) (ned.Removed name place) r
+Refuses m (edit.ReplaceNed number text) r =
+    RefusesFiles m (edit.ReplaceNed number text) (ned.Replaced number text) r
+Refuses m (edit.AddConnection name place text) r =
+    RefusesFiles m (edit.AddConnection name place text) (ned.Inserted name place text) r
+Refuses m (edit.RemoveConnection name place) r =
+    RefusesFiles m (edit.RemoveConnection name place) (ned.Removed name place) r
 Refuses m (edit.SelectConfig name) r = RefusesText m (edit.SelectConfig name) r
 Refuses m (edit.Inject path due kind bits payload) r = RefusesInjection m payload r
 Refuses m (edit.Withdraw number) r = RefusesWithdrawal m number r

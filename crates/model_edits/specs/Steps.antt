@@ -18,14 +18,16 @@ use Rattle.file_edits.specs.declared.changes.TypedFiles.{TypedFiles}
 use Rattle.file_edits.specs.declared.error.FileError.{FileError}
 use Rattle.file_edits.specs.declared.error.FileError.TheVariants as file_errors
 use Rattle.ned_trees.specs.declared.declarations.TypeDeclaration.{TypeDeclaration}
-use Rattle.model_edits.specs.Edited.{IsEditOf, IsOnlyEditOf, IsRuledOut, IsTextEditOf, IsWith, Parts, Refuses, RefusesFiles, RefusesParts, RefusesText}
+use Rattle.model_edits.specs.Edited.{IsEditOf, IsOnlyEditOf, IsRuledOut, IsTextEditOf, IsWith}
+use Rattle.model_edits.specs.Edited.{Parts, Refuses, RefusesFiles, RefusesParts, RefusesText}
 use Rattle.file_edits.specs.Changes as ned
 use Rattle.sim_values.specs.Memory.{no_memory}
 
 -- whether the option `network` names a network among these types, in these lines along this chain
 abbrev pub has_network : List TypeDeclaration → List IniLine → List (List ℕ) → Bool
 has_network types lines chain =
-    is_some (option_and_then as_network (option_and_then (λ name. type_named (last_name name) types) (network_entry (entries_along chain lines))))
+    is_some (option_and_then as_network (option_and_then (λ name. type_named (last_name name) types)
+    (network_entry (entries_along chain lines))))
 
 -- these files, types and lines
 abbrev pub parts : List NedFile → List TypeDeclaration → List IniLine → Parts
@@ -70,7 +72,8 @@ Takes m parts config new (Ok u) = IsWith m parts config new × IsSome (network_o
 Takes m parts config new (Err r) = (new ≡ m) × RefusesParts m parts config r
 
 -- the same of lines that were changed, or could not be
-abbrev pub TakesMade : Model → Result (List IniLine) EditError → Model → Result Unit Refusal → Type 0
+abbrev pub TakesMade : Model → Result (List IniLine) EditError → Model
+    → Result Unit Refusal → Type 0
 TakesMade m (Ok lines) new result = Takes m (with_lines m lines) m.config new result
 TakesMade m (Err e) new result = (new ≡ m) × (result ≡ Err (told_as e))
 
@@ -81,13 +84,17 @@ TakesChanged m (Err e) new result = (new ≡ m) × (result ≡ Err (told_of e))
 
 -- what comes of an edit of the NED files that changes this of them
 abbrev pub ComesOfFiles : Model → Edit → ned.Change → Model → Result Unit Refusal → Type 0
-ComesOfFiles m e c new (Ok u) = IsTextEditOf m e new × ((other : Model) → IsTextEditOf m e other → other ≡ new)
-ComesOfFiles m e c new (Err r) = (new ≡ m) × RefusesFiles m e c r × ((other : Model) → IsTextEditOf m e other → r ≡ refusal.NoMemory no_memory)
+ComesOfFiles m e c new (Ok u) =
+    IsTextEditOf m e new × ((other : Model) → IsTextEditOf m e other → other ≡ new)
+ComesOfFiles m e c new (Err r) = (new ≡ m) × RefusesFiles m e c r
+    × ((other : Model) → IsTextEditOf m e other → r ≡ refusal.NoMemory no_memory)
 
 -- what comes of an edit of the ini text or of the configuration
 abbrev pub ComesOfText : Model → Edit → Model → Result Unit Refusal → Type 0
-ComesOfText m e new (Ok u) = IsTextEditOf m e new × ((other : Model) → IsTextEditOf m e other → other ≡ new)
-ComesOfText m e new (Err r) = (new ≡ m) × RefusesText m e r × ((other : Model) → IsTextEditOf m e other → r ≡ refusal.NoMemory no_memory)
+ComesOfText m e new (Ok u) =
+    IsTextEditOf m e new × ((other : Model) → IsTextEditOf m e other → other ≡ new)
+ComesOfText m e new (Err r) = (new ≡ m) × RefusesText m e r
+    × ((other : Model) → IsTextEditOf m e other → r ≡ refusal.NoMemory no_memory)
 
 -- WHAT COMES OF AN EDIT: the one model that it makes; or the model is what it was, and this refusal
 -- is due

@@ -1,13 +1,18 @@
 //! Edits of a model.
 
-ghost use Rattle.std.specs.Prelude.{◌≡◌, ◌<◌, List, true, length, position, IfOk, IfErr, IfSome, OnOk, OnErr, is_some};
+ghost use Rattle.std.specs.Prelude.{◌≡◌, ◌<◌, List, true, length, position, IfOk, IfErr, IfSome};
+ghost use Rattle.std.specs.Prelude.{OnOk, OnErr, is_some};
 ghost use Rattle.std.specs.Option.{option_and_then, option_copied};
 ghost use Rattle.ini_trees.specs.Sections.{IsChain, is_section};
 ghost use Rattle.model_data.specs.Models.{as_network};
 ghost use Rattle.ned_trees.specs.declared.declarations.NedFile.{NedFile};
-ghost use Rattle.model_edits.specs.Edited.{has_no_room, is_numbered, number_given, parts_of, IsEditOf, IsOnlyEditOf, IsRuledOut, Refuses, RefusesParts};
+ghost use Rattle.model_edits.specs.Edited.{has_no_room, is_numbered, number_given, parts_of};
+ghost use Rattle.model_edits.specs.Edited.{IsEditOf, IsOnlyEditOf, IsRuledOut, Refuses};
+ghost use Rattle.model_edits.specs.Edited.{RefusesParts};
 ghost use Rattle.model_edits.specs.declared.edit.Edit.TheVariants as edits;
-ghost use Rattle.model_edits.specs.Steps.{has_network, parts, told_as, told_of, with_files, with_lines, Comes, RefusesChain, Takes, TakesChanged, TakesMade};
+ghost use Rattle.model_edits.specs.Steps.{has_network, parts, told_as, told_of, with_files};
+ghost use Rattle.model_edits.specs.Steps.{with_lines, Comes, RefusesChain, Takes, TakesChanged};
+ghost use Rattle.model_edits.specs.Steps.{TakesMade};
 
 use file_edits::changes::{TypedFiles, with_connection, with_file, without_connection};
 use file_edits::error::FileError;

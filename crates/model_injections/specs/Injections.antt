@@ -1,5 +1,6 @@
 -- Injections: messages from outside, and the order in which they go.
-use Rattle.std.specs.Prelude.{◌≡◌, ◌↔◌, ◌==◌, nat_lt, int_lt, Bool, true, false, List, [], ◌∷◌, Option, Some, None, if◌then◌else◌}
+use Rattle.std.specs.Prelude.{◌≡◌, ◌↔◌, ◌==◌, nat_lt, int_lt, Bool, true, false, List, [], ◌∷◌}
+use Rattle.std.specs.Prelude.{Option, Some, None, if◌then◌else◌}
 use Rattle.model_injections.specs.declared.injection.Due.{Due}
 use Rattle.model_injections.specs.declared.injection.Injection.{Injection}
 use Rattle.model_injections.specs.declared.injection.InjectionTurn.{InjectionTurn}
@@ -10,7 +11,8 @@ due_before a b = if a.time == b.time then int_lt a.priority b.priority else nat_
 
 -- by when they are due, then by number
 abbrev pub goes_before : InjectionTurn → InjectionTurn → Bool
-goes_before a b = if due_before a.due b.due then true else (if due_before b.due a.due then false else nat_lt a.number b.number)
+goes_before a b = if due_before a.due b.due then true
+    else (if due_before b.due a.due then false else nat_lt a.number b.number)
 
 abbrev pub turn_of : Injection → InjectionTurn
 turn_of i = record { due = i.due; number = i.number }
@@ -26,7 +28,8 @@ sooner i None = Some i
 sooner i (Some j) = if goes_before (turn_of j) (turn_of i) then Some j else Some i
 
 -- the same, where it is not delivered
-abbrev pub sooner_undelivered : Option InjectionTurn → Injection → Option Injection → Option Injection
+abbrev pub sooner_undelivered : Option InjectionTurn → Injection → Option Injection
+    → Option Injection
 sooner_undelivered last i other = if is_undelivered last i then sooner i other else other
 
 -- the first that is not delivered, where this one was delivered last
@@ -57,4 +60,5 @@ OfEach P (i ∷ is) = P i × OfEach P is
 
 -- Where the one is delivered after what was, exactly those others are left that were left before.
 abbrev pub DeliversOne : Option InjectionTurn → Injection → Injection → Type 0
-DeliversOne last one i = is_undelivered (Some (turn_of one)) i ≡ true ↔ (is_undelivered last i ≡ true) × (turn_of i ≡ turn_of one → ⊥)
+DeliversOne last one i = is_undelivered (Some (turn_of one)) i ≡ true
+    ↔ (is_undelivered last i ≡ true) × (turn_of i ≡ turn_of one → ⊥)

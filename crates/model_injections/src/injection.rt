@@ -1,7 +1,9 @@
 //! Messages from outside.
 
 ghost use Rattle.std.specs.Prelude.{◌≡◌, IfOk};
-ghost use Rattle.model_injections.specs.Injections.{due_before, goes_before, turn_of, is_undelivered, first_undelivered, sooner, sooner_undelivered, injection_before};
+ghost use Rattle.model_injections.specs.Injections.{due_before, goes_before, turn_of};
+ghost use Rattle.model_injections.specs.Injections.{is_undelivered, first_undelivered, sooner};
+ghost use Rattle.model_injections.specs.Injections.{sooner_undelivered, injection_before};
 ghost use Rattle.std.specs.Option.{option_copied};
 
 use sim_time::SimTime;

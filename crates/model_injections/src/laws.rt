@@ -9,6 +9,7 @@ ghost use Rattle.model_injections.specs.Injections.{first_undelivered, DeliversO
 /// and no other. Delivering the first that is left delivers that one alone.
 #[tactic(auto, using(crate::proofs::Left::one_more))]
 pub fn one_more_is_delivered()
-    ensures { (last : Option InjectionTurn) (is : List Injection) (first : Injection) → first_undelivered last is ≡ Some first
+    ensures { (last : Option InjectionTurn) (is : List Injection) (first : Injection)
+        → first_undelivered last is ≡ Some first
         → OfEach (λ i. DeliversOne last first i) is }
 {}

@@ -1,5 +1,6 @@
 -- Where the gates of an inside lead, and what leads to them.
-use Rattle.std.specs.Prelude.{ℕ, ◌-◌, ◌==◌, Bool, true, false, bytes_eq, List, [], ◌∷◌, ◌++◌, Option, Some, None, nat_lt, option_map, slice_get, if◌then◌else◌}
+use Rattle.std.specs.Prelude.{ℕ, ◌-◌, ◌==◌, Bool, true, false, bytes_eq, List, [], ◌∷◌, ◌++◌}
+use Rattle.std.specs.Prelude.{Option, Some, None, nat_lt, option_map, slice_get, if◌then◌else◌}
 use Rattle.std.specs.Option.{option_and_then}
 use Rattle.ned_trees.specs.declared.connections.Half.{Half}
 use Rattle.ned_trees.specs.declared.connections.Half.TheVariants as half
@@ -43,7 +44,8 @@ abbrev pub half_by : List ℕ → List ℕ → GateDirection → Option Half
 half_by name g direction.Input = half_if (bytes_eq g name) half.Input
 half_by name g direction.Output = half_if (bytes_eq g name) half.Output
 half_by name g direction.Inout =
-    if bytes_eq (g ++ in_mark) name then Some half.Input else if bytes_eq (g ++ out_mark) name then Some half.Output else None
+    if bytes_eq (g ++ in_mark) name then Some half.Input else if bytes_eq (g ++ out_mark) name
+    then Some half.Output else None
 
 abbrev pub half_of : List ℕ → TypeGate → Option Half
 half_of name g = half_by name g.name g.kind.direction
@@ -52,7 +54,8 @@ half_of name g = half_by name g.name g.kind.direction
 -- half
 abbrev pub half_named : List ℕ → List TypeGate → Option (List ℕ × Half)
 half_named name [] = None
-half_named name (g ∷ gs) = or_else (option_map (λ h. (g.name, h)) (half_of name g)) (half_named name gs)
+half_named name (g ∷ gs) =
+    or_else (option_map (λ h. (g.name, h)) (half_of name g)) (half_named name gs)
 
 abbrev pub mark_of : Half → List ℕ
 mark_of half.Input = in_mark
@@ -95,7 +98,12 @@ delay_of ps = if nat_lt 9223372036854775807 ps then 9223372036854775807 else ps
 
 -- the channel of a link
 abbrev pub channel_of : Carrier → Channel
-channel_of c = record { kind = kind_of c.kind; delay = delay_of c.delay; datarate = c.datarate; disabled = c.disabled }
+channel_of c = record {
+  kind = kind_of c.kind;
+  delay = delay_of c.delay;
+  datarate = c.datarate;
+  disabled = c.disabled;
+}
 
 -- ---- the other end, as it is told
 
@@ -103,10 +111,12 @@ channel_of c = record { kind = kind_of c.kind; delay = delay_of c.delay; datarat
 -- compound module whose inside this is
 abbrev pub outside_neighbour : List Submodule → ℕ → ℕ → Part → Neighbour
 outside_neighbour lines own number part =
-    if part.is_own then neighbour.Around else if number == own then neighbour.Itself else neighbour.Beside (name_of_part lines part) part.index
+    if part.is_own then neighbour.Around else if number == own then neighbour.Itself
+    else neighbour.Beside (name_of_part lines part) part.index
 
 abbrev pub inside_neighbour : List Submodule → Part → Neighbour
-inside_neighbour lines part = if part.is_own then neighbour.Itself else neighbour.Inside (name_of_part lines part) part.index
+inside_neighbour lines part =
+    if part.is_own then neighbour.Itself else neighbour.Inside (name_of_part lines part) part.index
 
 abbrev pub neighbour_of : List Submodule → Seen → ℕ → Part → Neighbour
 neighbour_of lines (FromOutside own) number part = outside_neighbour lines own number part
@@ -121,7 +131,8 @@ own_part FromInside = 0
 -- a gate vector of a part, by its number among all: the gate of its type
 abbrev pub gate_in : Part → Option TypeGates → ℕ → Option TypeGate
 gate_in part None vector = None
-gate_in part (Some gates) vector = if nat_lt vector part.first then None else slice_get gates.gates (vector - part.first)
+gate_in part (Some gates) vector =
+    if nat_lt vector part.first then None else slice_get gates.gates (vector - part.first)
 
 abbrev pub told_end : List Submodule → Seen → Way → Link → Part → TypeGate → NextGate
 told_end lines seen way l part g = record {
@@ -132,21 +143,28 @@ told_end lines seen way l part g = record {
 }
 
 -- the other end of a link, of that part
-abbrev pub end_of_part : List TypeGates → List Submodule → Seen → Way → Link → Part → Option NextGate
-end_of_part gates lines seen way l part = option_map (told_end lines seen way l part) (gate_in part (slice_get gates part.of_type) (other_end way l).vector)
+abbrev pub end_of_part : List TypeGates → List Submodule → Seen → Way → Link → Part
+    → Option NextGate
+end_of_part gates lines seen way l part = option_map (told_end lines seen way l part)
+    (gate_in part (slice_get gates part.of_type) (other_end way l).vector)
 
 -- THE OTHER END OF A LINK among the parts of an inside, of a type that declares these submodules,
 -- where the types have these gates
 abbrev pub end_of : List TypeGates → List Submodule → Parts → Seen → Way → Link → Option NextGate
-end_of gates lines ps seen way l = option_and_then (end_of_part gates lines seen way l) (slice_get ps.parts (other_end way l).part)
+end_of gates lines ps seen way l =
+    option_and_then (end_of_part gates lines seen way l) (slice_get ps.parts (other_end way l).part)
 
 -- the next gate from a gate of that vector and index
-abbrev pub next_at : List TypeGates → List Submodule → Parts → Wired → Seen → Way → ℕ → NamedGate → Option NextGate
-next_at gates lines ps w seen way index v = option_and_then (end_of gates lines ps seen way) (link_at way w v.vector index)
+abbrev pub next_at : List TypeGates → List Submodule → Parts → Wired → Seen → Way → ℕ → NamedGate
+    → Option NextGate
+next_at gates lines ps w seen way index v =
+    option_and_then (end_of gates lines ps seen way) (link_at way w v.vector index)
 
 -- THE NEXT GATE from a gate of that name and index, by the links of an inside
-abbrev pub next_in : List TypeGates → List Submodule → Parts → Wired → Seen → Way → List ℕ → ℕ → Option NextGate
-next_in gates lines ps w seen way g index = option_and_then (next_at gates lines ps w seen way index) (vector_of gates ps w (own_part seen) g)
+abbrev pub next_in : List TypeGates → List Submodule → Parts → Wired → Seen → Way → List ℕ → ℕ
+    → Option NextGate
+next_in gates lines ps w seen way g index = option_and_then
+    (next_at gates lines ps w seen way index) (vector_of gates ps w (own_part seen) g)
 
 -- WHICH WAY A HALF LEADS: onwards an output leads outwards and an input inwards; what leads to an
 -- input comes from outside, and what leads to an output from inside

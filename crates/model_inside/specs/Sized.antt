@@ -17,7 +17,8 @@ vector_of gates ps w part g = result_ok (gate_named gates ps (length w.sizes) pa
 
 -- the finished size of a gate vector of a part
 abbrev pub finished_size : List TypeGates → Parts → Wired → ℕ → List ℕ → Option ℕ
-finished_size gates ps w part g = option_map (λ (v : NamedGate). slice_index w.sizes v.vector) (vector_of gates ps w part g)
+finished_size gates ps w part g =
+    option_map (λ (v : NamedGate). slice_index w.sizes v.vector) (vector_of gates ps w part g)
 
 -- the direction of a gate, as a call shows it
 abbrev pub direction_of : GateDirection → Direction

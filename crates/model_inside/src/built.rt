@@ -2,7 +2,8 @@
 
 ghost use Rattle.std.specs.Prelude.{◌≡◌, IfOk, map, slice_get};
 ghost use Rattle.std.specs.Option.{option_and_then};
-ghost use Rattle.model_inside.specs.Built.{built_part, built_parts, class_to_build, name_of_part, submodules_among};
+ghost use Rattle.model_inside.specs.Built.{built_part, built_parts, class_to_build, name_of_part};
+ghost use Rattle.model_inside.specs.Built.{submodules_among};
 
 use inside_parts::parts::Part;
 use model_questions::answer::Built;
@@ -29,7 +30,8 @@ fn class_at(
     types: &[TypeDeclaration],
     number: usize,
 ) -> Result<Option<Text>, NoMemory>
-    ensures { IfOk result (λ class. class ≡ option_and_then class_to_build (slice_get types.now number)) }
+    ensures { IfOk result
+        (λ class. class ≡ option_and_then class_to_build (slice_get types.now number)) }
 {
     match types.get(number) {
         Some(declared) => class_to_build(alloc, declared),

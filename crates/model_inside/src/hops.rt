@@ -94,7 +94,8 @@ pub fn half_named<'g>(name: &[u8], gates: &'g [TypeGate]) -> Option<(&'g Text, H
 
 /// The name of a half of a gate.
 fn name_of_half(alloc: Global, gate: &TypeGate, half: Half) -> Result<Text, NoMemory>
-    ensures { IfOk result (λ name. name ≡ hops.name_of_half gate.now.name gate.now.kind.direction half) }
+    ensures { IfOk result
+        (λ name. name ≡ hops.name_of_half gate.now.name gate.now.kind.direction half) }
 {
     let mut name = Vec::from_slice(alloc, gate.name.as_bytes())?;
     if gate.kind.direction == GateDirection::Inout {
@@ -303,7 +304,8 @@ pub fn next_in(
     gate: &Text,
     index: u32,
 ) -> Result<Option<NextGate>, NoMemory>
-    ensures { IfOk result (λ next. next ≡ hops.next_in gates.now lines.now parts.now wiring.now seen way gate.now index) }
+    ensures { IfOk result (λ next. next
+        ≡ hops.next_in gates.now lines.now parts.now wiring.now seen way gate.now index) }
 {
     let Some(found) = vector_of(gates, parts, wiring, own_part(seen), gate)? else {
         return Ok(None);

@@ -21,7 +21,8 @@ pub fn vector_of(
     part: usize,
     name: &Text,
 ) -> Result<Option<NamedGate>, NoMemory>
-    ensures value { IfOk result (λ found. found ≡ vector_of gates.now parts.now wiring.now part name.now) }
+    ensures value { IfOk result
+        (λ found. found ≡ vector_of gates.now parts.now wiring.now part name.now) }
     ensures within { IfOk result (λ found. IfSome found (λ v. v.vector < length wiring.now.sizes)) }
 {
     let count = wiring.count();
@@ -40,7 +41,8 @@ pub fn finished_size(
     part: usize,
     name: &Text,
 ) -> Result<Option<u32>, NoMemory>
-    ensures { IfOk result (λ size. size ≡ finished_size gates.now parts.now wiring.now part name.now) }
+    ensures { IfOk result
+        (λ size. size ≡ finished_size gates.now parts.now wiring.now part name.now) }
 {
     match vector_of(gates, parts, wiring, part, name)? {
         Some(found) => Ok(Some(wiring.size(found.vector))),

@@ -1,5 +1,6 @@
 -- What a run takes from its model: answers.
-use Rattle.std.specs.Prelude.{ℕ, nat_lt, Bool, true, false, List, [], ◌∷◌, Option, Some, None, bytes_eq, if◌then◌else◌}
+use Rattle.std.specs.Prelude.{ℕ, nat_lt, Bool, true, false, List, [], ◌∷◌, Option, Some, None}
+use Rattle.std.specs.Prelude.{bytes_eq, if◌then◌else◌}
 use Rattle.model_injections.specs.declared.injection.Injection.{Injection}
 use Rattle.model_injections.specs.Injections.{injection_before}
 use Rattle.module_api.specs.declared.call.Gate.{Gate}
@@ -52,7 +53,8 @@ answer_of a records (question.GateSize id name) = gate_named name (a.gates (plac
 answer_of a records (question.Hop id name index) = a.hop (place_of records id) name index
 answer_of a records (question.HopBack id name index) = a.hop_back (place_of records id) name index
 answer_of a records (question.BeyondLimit time) = answer.Beyond (is_beyond a.time_limit time)
-answer_of a records (question.InjectionBefore due last) = answer.Injection (injection_before due last a.injections)
+answer_of a records (question.InjectionBefore due last) =
+    answer.Injection (injection_before due last a.injections)
 
 -- ---- the parameters of a module, as a call shows them
 
@@ -73,7 +75,8 @@ with_values values (n ∷ ns) = with_value n (values n) (with_values values ns)
 
 -- all parameters of a module, in the order of their declaration, each where it has a value
 abbrev pub parameters_of : Answers → List Record → ℕ → List Parameter
-parameters_of a records id = with_values (a.value (place_of records id)) (a.names (place_of records id))
+parameters_of a records id =
+    with_values (a.value (place_of records id)) (a.names (place_of records id))
 
 -- all gates of a module, in the order of their declaration, as a call shows them
 abbrev pub gates_of : Answers → List Record → ℕ → List Gate

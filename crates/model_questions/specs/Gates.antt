@@ -1,5 +1,6 @@
 -- Gates by their names.
-use Rattle.std.specs.Prelude.{ℕ, Bool, true, false, ◌&&◌, bytes_eq, List, [], ◌∷◌, ◌++◌, Option, Some, None, if◌then◌else◌}
+use Rattle.std.specs.Prelude.{ℕ, Bool, true, false, ◌&&◌, bytes_eq, List, [], ◌∷◌, ◌++◌, Option}
+use Rattle.std.specs.Prelude.{Some, None, if◌then◌else◌}
 use Rattle.module_api.specs.declared.call.Direction.{Direction}
 use Rattle.module_api.specs.declared.call.Direction.TheVariants.{Input, Output, Inout}
 use Rattle.module_api.specs.declared.call.Gate.{Gate}
@@ -29,7 +30,8 @@ abbrev pub half_of : List ℕ → List Gate → Option Gate
 half_of name [] = None
 half_of name (g ∷ gs) =
     if is_half in_mark name g then Some (record g { direction = Input })
-    else (if is_half out_mark name g then Some (record g { direction = Output }) else half_of name gs)
+    else (if is_half out_mark name g then Some (record g { direction = Output })
+    else half_of name gs)
 
 abbrev pub gate_answer : Option Gate → Option Gate → Answer
 gate_answer (Some g) half = answer.Gate g

@@ -2,7 +2,8 @@
 use Rattle.std.specs.Prelude.{ℕ, ◌==◌, List, Option, Some, None, if◌then◌else◌}
 use Rattle.std.specs.Option.{option_and_then}
 use Rattle.model_questions.specs.declared.answer.Neighbour.{Neighbour}
-use Rattle.model_questions.specs.declared.answer.Neighbour.TheVariants.{Itself, Around, Beside, Inside}
+use Rattle.model_questions.specs.declared.answer.Neighbour.TheVariants.{Itself, Around, Beside}
+use Rattle.model_questions.specs.declared.answer.Neighbour.TheVariants.{Inside}
 use Rattle.model_questions.specs.declared.record.Record.{Record}
 use Rattle.model_questions.specs.Records.{record_at, built_id}
 
@@ -15,5 +16,6 @@ id_around r = if r.parent == 0 then None else Some r.parent
 abbrev pub neighbour_id : List Record → ℕ → Neighbour → Option ℕ
 neighbour_id records id Itself = Some id
 neighbour_id records id Around = option_and_then id_around (record_at records id)
-neighbour_id records id (Beside name index) = option_and_then (λ (r : Record). built_id records r.parent name index) (record_at records id)
+neighbour_id records id (Beside name index) =
+    option_and_then (λ (r : Record). built_id records r.parent name index) (record_at records id)
 neighbour_id records id (Inside name index) = built_id records id name index

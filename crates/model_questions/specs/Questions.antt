@@ -1,7 +1,9 @@
 -- Questions that are the same.
 use Rattle.std.specs.Prelude.{◌==◌, Bool, true, false, ◌&&◌, bytes_eq}
 use Rattle.model_questions.specs.declared.answer.Question.{Question}
-use Rattle.model_questions.specs.declared.answer.Question.TheVariants.{Root, Build, Param, GateSize, Hop, HopBack, BeyondLimit, InjectionBefore}
+use Rattle.model_questions.specs.declared.answer.Question.TheVariants.{Root, Build, Param, GateSize}
+use Rattle.model_questions.specs.declared.answer.Question.TheVariants.{Hop, HopBack, BeyondLimit}
+use Rattle.model_questions.specs.declared.answer.Question.TheVariants.{InjectionBefore}
 
 -- Whether both ask the same of the model's modules. What is asked of a time is asked of one event,
 -- and never the same.
@@ -14,9 +16,11 @@ same_question (Param id name) (Param other named) = (id == other) && bytes_eq na
 same_question (Param id name) _ = false
 same_question (GateSize id name) (GateSize other named) = (id == other) && bytes_eq name named
 same_question (GateSize id name) _ = false
-same_question (Hop id name index) (Hop other named place) = (id == other) && (bytes_eq name named && (index == place))
+same_question (Hop id name index) (Hop other named place) =
+    (id == other) && (bytes_eq name named && (index == place))
 same_question (Hop id name index) _ = false
-same_question (HopBack id name index) (HopBack other named place) = (id == other) && (bytes_eq name named && (index == place))
+same_question (HopBack id name index) (HopBack other named place) =
+    (id == other) && (bytes_eq name named && (index == place))
 same_question (HopBack id name index) _ = false
 same_question (BeyondLimit time) _ = false
 same_question (InjectionBefore due last) _ = false

@@ -1,5 +1,6 @@
 -- Records of the modules that were created, their lines, and their paths.
-use Rattle.std.specs.Prelude.{ℕ, zero, suc, ◌==◌, ◌&&◌, Bool, true, false, bytes_eq, List, [], ◌∷◌, ◌++◌, Option, Some, None, slice_get, decimal, if◌then◌else◌}
+use Rattle.std.specs.Prelude.{ℕ, zero, suc, ◌==◌, ◌&&◌, Bool, true, false, bytes_eq, List, [], ◌∷◌}
+use Rattle.std.specs.Prelude.{◌++◌, Option, Some, None, slice_get, decimal, if◌then◌else◌}
 use Rattle.model_questions.specs.declared.record.Origin.{Origin}
 use Rattle.model_questions.specs.declared.record.Origin.TheVariants as origin
 use Rattle.model_questions.specs.declared.record.Record.{Record}
@@ -29,7 +30,8 @@ with_those_around around (Some r) = r ∷ around r.parent
 -- the records of a module and of those around it, from the inside outwards, so many at most
 abbrev pub lineage_up : ℕ → List Record → ℕ → List Record
 lineage_up zero records id = []
-lineage_up (suc depth) records id = with_those_around (lineage_up depth records) (record_at records id)
+lineage_up (suc depth) records id =
+    with_those_around (lineage_up depth records) (record_at records id)
 
 -- where the module of that id stands: modules are nested at most 32 deep
 unfoldable pub place_of : List Record → ℕ → Lineage
@@ -85,12 +87,14 @@ is_built origin.Built = true
 
 -- whether a record is of a built submodule of that name and index
 abbrev pub is_named : ℕ → List ℕ → Option ℕ → Record → Bool
-is_named parent name index r = is_built r.origin && ((r.parent == parent) && (bytes_eq r.name name && same_index r.index index))
+is_named parent name index r = is_built r.origin
+    && ((r.parent == parent) && (bytes_eq r.name name && same_index r.index index))
 
 -- the id of the first of these records that is so, where the first of all has that id
 abbrev pub named_from : ℕ → ℕ → List ℕ → Option ℕ → List Record → Option ℕ
 named_from id parent name index [] = None
-named_from id parent name index (r ∷ rs) = if is_named parent name index r then Some id else named_from (suc id) parent name index rs
+named_from id parent name index (r ∷ rs) =
+    if is_named parent name index r then Some id else named_from (suc id) parent name index rs
 
 -- the submodule of that name and index that was built when its parent was: the first of its name
 -- that was built, whatever else was created

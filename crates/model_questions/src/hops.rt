@@ -9,6 +9,7 @@ ghost use Rattle.model_questions.specs.Hops.{neighbour_id};
 /// names are. It does nothing: its contract is the law.
 #[tactic(auto, using(crate::proofs::HopLemmas::neighbour_more))]
 pub fn neighbours_stay()
-    ensures { (records more : List Record) (id found : ℕ) (n : Neighbour) → neighbour_id records id n ≡ Some found
+    ensures { (records more : List Record) (id found : ℕ) (n : Neighbour)
+        → neighbour_id records id n ≡ Some found
         → neighbour_id (records ++ more) id n ≡ Some found }
 {}

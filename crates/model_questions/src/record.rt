@@ -2,7 +2,8 @@
 
 ghost use Rattle.std.specs.Prelude.{◌≡◌, ◌≤◌, ◌∷◌, IfOk, OnOk, ◌++◌, length, take};
 ghost use Rattle.std.specs.Option.{option_copied};
-ghost use Rattle.model_questions.specs.Records.{record_at, lineage_up, own_name, path_along, path_of, path_around, path_under, index_of};
+ghost use Rattle.model_questions.specs.Records.{record_at, lineage_up, own_name, path_along};
+ghost use Rattle.model_questions.specs.Records.{path_of, path_around, path_under, index_of};
 
 use itoa::Buffer;
 use sim_values::text::Text;
@@ -73,7 +74,8 @@ fn push_path(
     records: &[Record],
     created: &Record,
 ) -> Result<(), AllocError>
-    ensures { OnOk result (path.new.items ≡ path.old.items ++ path_along (created.now ∷ lineage_up depth records.now created.now.parent)) }
+    ensures { OnOk result (path.new.items ≡ path.old.items
+        ++ path_along (created.now ∷ lineage_up depth records.now created.now.parent)) }
 {
     if depth == 0 {
         return push_own_name(path, created.name.as_bytes(), created.index);
@@ -128,7 +130,8 @@ impl ModulePath {
 /// The full path of the module of that id, with that of the module around it.
 pub fn module_path(alloc: Global, records: &[Record], id: u32) -> Result<ModulePath, AllocError>
     ensures whole { IfOk result (λ path. path.whole ≡ path_of records.now id) }
-    ensures around { IfOk result (λ path. take path.around path.whole ≡ path_around records.now id) }
+    ensures around { IfOk result
+        (λ path. take path.around path.whole ≡ path_around records.now id) }
 {
     let mut whole = Vec::new(alloc);
     let Some(created) = record_at(records, id) else {
@@ -172,7 +175,8 @@ pub fn submodule_path(
     name: &[u8],
     index: Option<u32>,
 ) -> Result<Text, AllocError>
-    ensures { IfOk result (λ found. found ≡ path_under (path_of records.now parent) (own_name name.now index)) }
+    ensures { IfOk result
+        (λ found. found ≡ path_under (path_of records.now parent) (own_name name.now index)) }
 {
     let mut own = Vec::new(alloc);
     push_own_name(&mut own, name, index)?;

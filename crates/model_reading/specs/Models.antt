@@ -1,5 +1,6 @@
 -- The model that texts make, and why texts make none.
-use Rattle.std.specs.Prelude.{◌≡◌, ℕ, Bool, true, false, ◌||◌, List, [], ◌∷◌, Some, None, IsSome, length, nat_lt, slice_get, take}
+use Rattle.std.specs.Prelude.{◌≡◌, ℕ, Bool, true, false, ◌||◌, List, [], ◌∷◌, Some, None, IsSome}
+use Rattle.std.specs.Prelude.{length, nat_lt, slice_get, take}
 use Rattle.std.specs.List.{list_any}
 use Rattle.sim_values.specs.Memory.{no_memory}
 use Rattle.ini_trees.specs.declared.lines.IniLine.{IniLine}
@@ -71,7 +72,8 @@ pub record IsModelOf (texts : List (List ℕ)) (ini config : List ℕ) (m : Mode
 -- of the file of that number
 abbrev pub RefusesFile : ℕ → List ℕ → BeginFault → Type 0
 RefusesFile number bytes (fault.NedSyntax at line) =
-    (at ≡ number) × IsFirstBadLine file bytes line × ((declared : NedFile) → IsNedFile bytes declared → ⊥)
+    (at ≡ number) × IsFirstBadLine file bytes line
+    × ((declared : NedFile) → IsNedFile bytes declared → ⊥)
 RefusesFile number bytes fault.TooLarge = is_large bytes ≡ true
 RefusesFile number bytes (fault.NoMemory _) = Unit {0}
 RefusesFile number bytes _ = ⊥
@@ -145,9 +147,12 @@ pub record HasNoNetwork (texts : List (List ℕ)) (ini config : List ℕ) : Type
 -- Each refusal but lack of memory has its reason, and no reason that comes before it.
 abbrev pub Refuses : List (List ℕ) → List ℕ → List ℕ → BeginFault → Type 0
 Refuses texts ini config fault.TooLarge = is_too_large texts ini ≡ true
-Refuses texts ini config (fault.NedSyntax at line) = (is_too_large texts ini ≡ false) × IsBlamed texts at line
-Refuses texts ini config (fault.IniSyntax line reason) = (is_too_large texts ini ≡ false) × IsIniBlamed texts ini line
-Refuses texts ini config (fault.Types why) = (is_too_large texts ini ≡ false) × AreApart texts ini why
+Refuses texts ini config (fault.NedSyntax at line) =
+    (is_too_large texts ini ≡ false) × IsBlamed texts at line
+Refuses texts ini config (fault.IniSyntax line reason) =
+    (is_too_large texts ini ≡ false) × IsIniBlamed texts ini line
+Refuses texts ini config (fault.Types why) =
+    (is_too_large texts ini ≡ false) × AreApart texts ini why
 Refuses texts ini config (fault.Config configs.NoSuchConfig) = IsNotSelected texts ini config
 Refuses texts ini config (fault.Config configs.ChainFault) = HasNoChain texts ini config
 Refuses texts ini config (fault.Config configs.NoSuchNetwork) = HasNoNetwork texts ini config
@@ -155,7 +160,8 @@ Refuses texts ini config (fault.NoMemory _) = Unit {0}
 
 -- Where the texts make a model, nothing refuses them but lack of memory.
 abbrev pub IsRuledOut : List (List ℕ) → List ℕ → List ℕ → BeginFault → Type 0
-IsRuledOut texts ini config f = (m : Model) → IsModelOf texts ini config m → f ≡ fault.NoMemory no_memory
+IsRuledOut texts ini config f = (m : Model) → IsModelOf texts ini config m
+    → f ≡ fault.NoMemory no_memory
 
 -- The texts make this model, and no other.
 abbrev pub IsOnlyModelOf : List (List ℕ) → List ℕ → List ℕ → Model → Type 0

@@ -10,7 +10,9 @@ ghost use Rattle.ned_scopes.specs.Scopes.{types_of};
 ghost use Rattle.ned_inheritance.specs.Inheritance.{flat_types};
 ghost use Rattle.ned_inheritance.specs.Building.{fault_of};
 ghost use Rattle.model_reading.specs.Faults.{begin_fault_name};
-ghost use Rattle.model_reading.specs.Models.{AreNedFiles, IsModelOf, IsOnlyModelOf, IsRuledOut, RefusesFile, RefusesFiles, RefusesIni, RefusesTypes, RefusesConfig, Refuses, is_large, is_too_large};
+ghost use Rattle.model_reading.specs.Models.{AreNedFiles, IsModelOf, IsOnlyModelOf, IsRuledOut};
+ghost use Rattle.model_reading.specs.Models.{RefusesFile, RefusesFiles, RefusesIni, RefusesTypes};
+ghost use Rattle.model_reading.specs.Models.{RefusesConfig, Refuses, is_large, is_too_large};
 
 use file_edits::tables;
 use ini_config::error::IniError;

@@ -1,5 +1,7 @@
 -- Where the modules of a model stand, by their paths alone; and all that its values rest on.
-use Rattle.std.specs.Prelude.{◌≡◌, ◌≢◌, ℕ, suc, ◌+◌, ◌-◌, ◌*◌, ◌^◌, ◌<◌, ◌==◌, ◌||◌, pos, Bool, true, nat_lt, List, [], ◌∷◌, Option, Some, None, option_map, length, map, take, drop, if◌then◌else◌}
+use Rattle.std.specs.Prelude.{◌≡◌, ◌≢◌, ℕ, suc, ◌+◌, ◌-◌, ◌*◌, ◌^◌, ◌<◌, ◌==◌, ◌||◌, pos, Bool}
+use Rattle.std.specs.Prelude.{true, nat_lt, List, [], ◌∷◌, Option, Some, None, option_map, length}
+use Rattle.std.specs.Prelude.{map, take, drop, if◌then◌else◌}
 use Rattle.std.specs.List.{All, position}
 use Rattle.std.specs.Option.{option_and_then}
 use Rattle.ini_trees.specs.Entries.{last_name, value_for}
@@ -17,7 +19,8 @@ use Rattle.model_data.specs.Models.{entries_in, network_of}
 -- what stands before the last dot of a path: the path of the module around; none where it has no
 -- dot
 abbrev pub before_last : List ℕ → Option (List ℕ)
-before_last path = if nat_lt (length (last_name path)) (length path) then Some (take (length path - suc (length (last_name path))) path) else None
+before_last path = if nat_lt (length (last_name path)) (length path)
+    then Some (take (length path - suc (length (last_name path))) path) else None
 
 -- where the bracket of an index begins in a module's name
 abbrev pub bracket_of : List ℕ → Option ℕ
@@ -34,7 +37,8 @@ index_after n [] = None
 index_after n (c ∷ cs) =
     if c == 93 then Some n
     else if nat_lt c 48 || nat_lt 57 c then None
-    else if nat_lt (2 ^ 32 - 1) (n * 10 + (c - 48)) then None else index_after (n * 10 + (c - 48)) cs
+    else if nat_lt (2 ^ 32 - 1) (n * 10 + (c - 48)) then None
+    else index_after (n * 10 + (c - 48)) cs
 
 abbrev pub index_behind : List ℕ → Option ℕ → Option ℕ
 index_behind own None = None
@@ -105,7 +109,8 @@ abbrev pub gates_of_types : List TypeDeclaration → List TypeGates
 gates_of_types types = map (λ (t : TypeDeclaration). gates.gates_of t.gates) types
 
 -- what is looked up of these types is theirs
-pub record IsLookedUp (types : List TypeDeclaration) (names : List (List ℕ)) (submodules : List (List (List ℕ))) (gates : List TypeGates) : Type 0 where
+pub record IsLookedUp (types : List TypeDeclaration) (names : List (List ℕ))
+    (submodules : List (List (List ℕ))) (gates : List TypeGates) : Type 0 where
   pub names_are : names ≡ names_of_types types
   pub submodules_are : submodules ≡ submodules_of_types types
   pub gates_are : gates ≡ gates_of_types types
@@ -123,4 +128,5 @@ HasFewBits (Some k) = k < 2 ^ 32
 -- A SUBMODULE STANDS WHERE ITS PATH SAYS: in its parent, under its name and index
 abbrev pub ChildrenStand : Type 0
 ChildrenStand = (m : Module) (name : List ℕ) (index : Option ℕ) → IsPlain name → HasFewBits index
-    → standing_of (child m name index) ≡ record { around = Some m; name = name; index = option_map pos index; is_declared = true }
+    → standing_of (child m name index)
+    ≡ record { around = Some m; name = name; index = option_map pos index; is_declared = true }

@@ -4,7 +4,8 @@ ghost use Rattle.std.specs.Prelude.{◌≡◌, ◌<◌, ◌^◌, IfOk, IfSome, O
 ghost use Rattle.inside_parts.specs.Names.{position_of};
 ghost use Rattle.ned_types.specs.WellFormed.{HaveOwnNames, IsWellFormed};
 ghost use Rattle.inside_keys.specs.Inside.{submodule_names};
-ghost use Rattle.model_settings.specs.Standings.{gates_of_types, names_behind, names_of_types, submodules_of_types};
+ghost use Rattle.model_settings.specs.Standings.{gates_of_types, names_behind, names_of_types};
+ghost use Rattle.model_settings.specs.Standings.{submodules_of_types};
 
 use crate::standings::{around_of, index_in, is_too_deep, name_in};
 use ini_trees::entries::value_for;
@@ -50,7 +51,8 @@ fn add_submodules(
     names: &mut Names,
     submodules: &[Submodule],
 ) -> Result<(), NoMemory>
-    ensures { OnOk result (names.new ≡ names_behind names.old (map (λ (l : Submodule). l.name) submodules.now)) }
+    ensures { OnOk result (names.new
+        ≡ names_behind names.old (map (λ (l : Submodule). l.name) submodules.now)) }
 {
     for submodule in submodules {
         names.push(submodule.name.copy(alloc)?)?;

@@ -2,7 +2,9 @@
 
 ghost use Rattle.std.specs.Prelude.{◌≡◌, ◌<◌, IfOk, IfSome, length};
 ghost use Rattle.std.specs.Option.{option_copied};
-ghost use Rattle.model_settings.specs.Standings.{around_of, before_last, bracket_of, dots_in, index_after, index_behind, index_in, is_too_deep, name_before, name_in};
+ghost use Rattle.model_settings.specs.Standings.{around_of, before_last, bracket_of, dots_in};
+ghost use Rattle.model_settings.specs.Standings.{index_after, index_behind, index_in, is_too_deep};
+ghost use Rattle.model_settings.specs.Standings.{name_before, name_in};
 
 use ini_trees::speaks::last_name;
 use inside_keys::key::Module;

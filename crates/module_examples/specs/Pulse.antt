@@ -1,5 +1,6 @@
 -- What a Pulse is. At the time `wait` it emits `pulse`, once, and is quiet from then on.
-use Rattle.std.specs.Prelude.{pos, Bool, true, false, [], ◌∷◌, codes, Option, Some, None, if◌then◌else◌}
+use Rattle.std.specs.Prelude.{pos, Bool, true, false, [], ◌∷◌, codes, Option, Some, None}
+use Rattle.std.specs.Prelude.{if◌then◌else◌}
 use Rattle.std.specs.Str.{bytes_eq}
 use Rattle.module_api.specs.declared.reply.Action.TheVariants.{Emit}
 use Rattle.module_api.specs.Behaviour.{State}

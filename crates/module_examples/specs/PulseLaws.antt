@@ -23,4 +23,5 @@ pulses = catalogue entries
 
 pub pulses_lawful : IsLawful pulses
 unfolding pulses
-pulses_lawful = catalogue_lawful entries (entry_lawful (codes "Pulse") pulse_script (λ p. Unit {0}) pulse_keeps, tt)
+pulses_lawful = catalogue_lawful entries
+    (entry_lawful (codes "Pulse") pulse_script (λ p. Unit {0}) pulse_keeps, tt)

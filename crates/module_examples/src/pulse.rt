@@ -26,7 +26,8 @@ pub struct Pulse {
 impl Pulse {
     /// Sets its timer.
     fn begin(&self, alloc: Global, call: &Call) -> Result<Reply, NoMemory>
-        ensures { IfOk result (λ reply. told (begun self.now) call.now ≡ record { reply = reply; state = self.now }) }
+        ensures { IfOk result
+            (λ reply. told (begun self.now) call.now ≡ record { reply = reply; state = self.now }) }
     {
         let mut looks = Looks::new(alloc);
         let wait = looks.time(alloc, call, "wait")?;
@@ -37,7 +38,8 @@ impl Pulse {
 
     /// Emits at its first timer.
     fn pulse(&mut self, alloc: Global, call: &Call) -> Result<Reply, NoMemory>
-        ensures { IfOk result (λ reply. told (pulsed self.old.has_pulsed self.old) call.now ≡ record { reply = reply; state = self.new }) }
+        ensures { IfOk result (λ reply. told (pulsed self.old.has_pulsed self.old) call.now
+            ≡ record { reply = reply; state = self.new }) }
     {
         if self.has_pulsed {
             return Ok(nothing(alloc));

@@ -1,6 +1,8 @@
 -- HELD MESSAGES as bytes: from the front, each as kind (2 bytes), priority (2), bits (8), length of
 -- the payload (2) and payload.
-use Rattle.std.specs.Prelude.{ℕ, zero, suc, ◌<◌, ◌^◌, nat_le, nat_lt, ℤ, pos, negsuc, int_le, Bool, ◌&&◌, List, [], ◌∷◌, ◌++◌, length, take, drop, Option, Some, None, if◌then◌else◌}
+use Rattle.std.specs.Prelude.{ℕ, zero, suc, ◌<◌, ◌^◌, nat_le, nat_lt, ℤ, pos, negsuc, int_le, Bool}
+use Rattle.std.specs.Prelude.{◌&&◌, List, [], ◌∷◌, ◌++◌, length, take, drop, Option, Some, None}
+use Rattle.std.specs.Prelude.{if◌then◌else◌}
 use Rattle.std.specs.Int.{w16}
 use Rattle.std.specs.Int.RustNames.{FitsSigned}
 use Rattle.std.specs.List.{flat_map}
@@ -25,7 +27,8 @@ abbrev pub has_sign : ℤ → Bool
 has_sign z = int_le (negsuc 32767) z && int_le z (pos 32767)
 
 abbrev pub can_be_held : Message → Bool
-can_be_held m = (has_sign m.kind && has_sign m.priority) && (nat_lt m.bits (2 ^ 64) && nat_lt (length m.payload) (2 ^ 16))
+can_be_held m = (has_sign m.kind && has_sign m.priority)
+    && (nat_lt m.bits (2 ^ 64) && nat_lt (length m.payload) (2 ^ 16))
 
 -- a message as it is held
 abbrev pub kept : Message → Outgoing
@@ -37,7 +40,12 @@ AllFit (m ∷ ms) = Fits m × AllFit ms
 
 -- what stands before the payload
 abbrev pub header_of : Outgoing → Header
-header_of m = record { kind = without_sign m.kind; priority = without_sign m.priority; bits = m.bits; size = length m.payload }
+header_of m = record {
+  kind = without_sign m.kind;
+  priority = without_sign m.priority;
+  bits = m.bits;
+  size = length m.payload;
+}
 
 unfoldable pub header_bytes : Header → List ℕ
 header_bytes h = word h.kind ++ (word h.priority ++ (long h.bits ++ word h.size))
@@ -50,11 +58,13 @@ bytes_of ms = flat_map message_bytes ms
 
 -- the header at the front of these bytes, and what is after it
 abbrev pub headed : ℕ → ℕ → ℕ → ℕ × List ℕ → Header × List ℕ
-headed kind priority length_in_bits size = (record { kind = kind; priority = priority; bits = length_in_bits; size = size.0 }, size.1)
+headed kind priority length_in_bits size =
+    (record { kind = kind; priority = priority; bits = length_in_bits; size = size.0 }, size.1)
 
 unfoldable pub header_in : State → Option (Header × List ℕ)
 header_in state =
-    option_and_then (λ kind. option_and_then (λ priority. option_and_then (λ length_in_bits. option_map (λ size.
+    option_and_then
+    (λ kind. option_and_then (λ priority. option_and_then (λ length_in_bits. option_map (λ size.
     headed kind.0 priority.0 length_in_bits.0 size)
     (take_word length_in_bits.1)) (take_long priority.1)) (take_word kind.1)) (take_word state)
 
@@ -62,7 +72,15 @@ header_in state =
 abbrev pub with_payload : Header × List ℕ → Option (Outgoing × List ℕ)
 with_payload p =
     if nat_le p.0.size (length p.1) then
-    Some (record { kind = with_sign p.0.kind; priority = with_sign p.0.priority; bits = p.0.bits; payload = take p.0.size p.1 }, drop p.0.size p.1)
+    Some (
+      record {
+        kind = with_sign p.0.kind;
+        priority = with_sign p.0.priority;
+        bits = p.0.bits;
+        payload = take p.0.size p.1;
+      },
+      drop p.0.size p.1,
+    )
     else None
 
 -- the message at the front of these bytes, and what is after it
@@ -71,7 +89,8 @@ front_of state = option_and_then with_payload (header_in state)
 
 -- the messages that these bytes are, of which there are at most so many; none where the bytes are
 -- not just some messages
-abbrev pub behind_front : (State → Option (List Outgoing)) → Option (Outgoing × List ℕ) → Option (List Outgoing)
+abbrev pub behind_front : (State → Option (List Outgoing)) → Option (Outgoing × List ℕ)
+    → Option (List Outgoing)
 behind_front messages None = None
 behind_front messages (Some p) = option_map (λ ms. p.0 ∷ ms) (messages p.1)
 

@@ -43,7 +43,8 @@ served [] = quiet []
 served (front ∷ []) = simply (front_sent (front ∷ [])) []
 served (front ∷ next ∷ rest) =
     reading (time (codes "service") (λ service.
-    does (front ∷ next ∷ rest) (front_sent (front ∷ next ∷ rest) ++ timer_set service (pos 0) ∷ []) (next ∷ rest)))
+    does (front ∷ next ∷ rest) (front_sent (front ∷ next ∷ rest) ++ timer_set service (pos 0) ∷ [])
+    (next ∷ rest)))
 
 -- a message that the bytes of a state can't tell is none that a run has
 abbrev pub joined_if : Bool → List Outgoing → Outgoing → Asking (List Outgoing)

@@ -21,12 +21,14 @@ stripped m rest = record { kind = m.kind; priority = m.priority; bits = m.bits; 
 
 -- through port k, where there is one
 abbrev pub passed : ℕ → ℕ → Outgoing → List Action
-passed size k message = if nat_lt k size then sent (codes "port$o") k message ∷ [] else Fail (codes "route") ∷ []
+passed size k message = if nat_lt k size then sent (codes "port$o") k message ∷ []
+    else Fail (codes "route") ∷ []
 
 -- a message with an empty payload ends here
 abbrev pub routed : Router → Message → List ℕ → Asking Router
 routed r m [] = simply (received m.bits) r
-routed r m (k ∷ rest) = reading (ports (codes "port") (λ size. acts r (passed size k (stripped m rest))))
+routed r m (k ∷ rest) =
+    reading (ports (codes "port") (λ size. acts r (passed size k (stripped m rest))))
 
 -- a timer is no message to route
 abbrev pub routed_unless : Bool → Router → Message → Asking Router

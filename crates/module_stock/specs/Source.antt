@@ -19,7 +19,8 @@ next_timer n count wait = if int_lt (pos n) count then timer_set wait (pos 0) �
 
 -- to initialization: the first timer
 abbrev pub begun : Source → Asking Source
-begun s = reading (whole (codes "count") (λ count. time (codes "start") (λ start. acts s (next_timer 0 count start))))
+begun s = reading (whole (codes "count")
+    (λ count. time (codes "start") (λ start. acts s (next_timer 0 count start))))
 
 abbrev pub message : ℕ → Outgoing
 message length = record { kind = pos 0; priority = pos 0; bits = length; payload = [] }
@@ -27,7 +28,8 @@ message length = record { kind = pos 0; priority = pos 0; bits = length; payload
 -- to timer n: a message, then the next timer
 abbrev pub emitted : Source → ℕ → Asking Source
 emitted s n =
-    reading (whole (codes "count") (λ count. bits (codes "bits") (λ length. time (codes "gap") (λ gap.
+    reading (whole (codes "count")
+    (λ count. bits (codes "bits") (λ length. time (codes "gap") (λ gap.
     does s (sent (codes "out") 0 (message length) ∷ next_timer n count gap) (record { n = n })))))
 
 abbrev pub told_by : Cue → Source → Asking Source

@@ -16,7 +16,8 @@ IsSmall s = s.n < limit
 
 told-small : (c : Cue) (s : Source) → IsSmall s → Leaves IsSmall (told_by c s)
 told-small cue.Start s small = λ count start. small
-told-small cue.Timer s small = λ count bits gap. left-is IsSmall _ s (record { n = next_number s.n }) small (next_number-lt s.n)
+told-small cue.Timer s small = λ count bits gap.
+    left-is IsSmall _ s (record { n = next_number s.n }) small (next_number-lt s.n)
 told-small cue.Other s small = small
 
 pub source_keeps : KeepsOwn source_script IsSmall

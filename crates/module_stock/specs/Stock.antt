@@ -10,7 +10,8 @@ use Rattle.module_stock.specs.Router.{router_script}
 
 abbrev pub entries : List CatalogueEntry
 entries =
-    entry (codes "Tick") tick_script ∷ entry (codes "Source") source_script ∷ entry (codes "Queue") queue_script
+    entry (codes "Tick") tick_script ∷ entry (codes "Source") source_script
+    ∷ entry (codes "Queue") queue_script
     ∷ entry (codes "Sink") sink_script ∷ entry (codes "Router") router_script ∷ []
 
 -- these five, and no other

@@ -45,22 +45,45 @@ stock_lawful = catalogue_lawful entries (
 
 -- ---- a fresh module of each
 
-pub tick_is_fresh : IsFresh stock (codes "Tick") (module_by (codes "Tick") tick_script (record { n = 0 }))
+pub tick_is_fresh : IsFresh stock (codes "Tick")
+    (module_by (codes "Tick") tick_script (record { n = 0 }))
 unfolding stock naming_of tick_script
-tick_is_fresh = record { of_kind = record { known = refl; named = refl }; kind = refl; initial = refl }
+tick_is_fresh = record {
+  of_kind = record { known = refl; named = refl };
+  kind = refl;
+  initial = refl;
+}
 
-pub source_is_fresh : IsFresh stock (codes "Source") (module_by (codes "Source") source_script (record { n = 0 }))
+pub source_is_fresh : IsFresh stock (codes "Source")
+    (module_by (codes "Source") source_script (record { n = 0 }))
 unfolding stock naming_of source_script
-source_is_fresh = record { of_kind = record { known = refl; named = refl }; kind = refl; initial = refl }
+source_is_fresh = record {
+  of_kind = record { known = refl; named = refl };
+  kind = refl;
+  initial = refl;
+}
 
 pub queue_is_fresh : IsFresh stock (codes "Queue") (module_by (codes "Queue") queue_script [])
 unfolding stock naming_of queue_script
-queue_is_fresh = record { of_kind = record { known = refl; named = refl }; kind = refl; initial = refl }
+queue_is_fresh = record {
+  of_kind = record { known = refl; named = refl };
+  kind = refl;
+  initial = refl;
+}
 
 pub sink_is_fresh : IsFresh stock (codes "Sink") (module_by (codes "Sink") sink_script (record {}))
 unfolding stock naming_of sink_script
-sink_is_fresh = record { of_kind = record { known = refl; named = refl }; kind = refl; initial = refl }
+sink_is_fresh = record {
+  of_kind = record { known = refl; named = refl };
+  kind = refl;
+  initial = refl;
+}
 
-pub router_is_fresh : IsFresh stock (codes "Router") (module_by (codes "Router") router_script (record {}))
+pub router_is_fresh : IsFresh stock (codes "Router")
+    (module_by (codes "Router") router_script (record {}))
 unfolding stock naming_of router_script
-router_is_fresh = record { of_kind = record { known = refl; named = refl }; kind = refl; initial = refl }
+router_is_fresh = record {
+  of_kind = record { known = refl; named = refl };
+  kind = refl;
+  initial = refl;
+}

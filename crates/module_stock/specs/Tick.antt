@@ -1,5 +1,6 @@
 -- What a Tick is. It counts its timers in a number n, and stops at `count`.
-use Rattle.std.specs.Prelude.{ℕ, ℤ, pos, Bool, true, false, int_lt, List, [], ◌∷◌, ◌++◌, codes, Option, Some, None, if◌then◌else◌}
+use Rattle.std.specs.Prelude.{ℕ, ℤ, pos, Bool, true, false, int_lt, List, [], ◌∷◌, ◌++◌, codes}
+use Rattle.std.specs.Prelude.{Option, Some, None, if◌then◌else◌}
 use Rattle.std.specs.Option.{option_map}
 use Rattle.std.specs.Ordering.{int_eq}
 use Rattle.module_api.specs.declared.reply.Action.{Action}
@@ -21,7 +22,8 @@ scheduled n count gap p = if int_lt (pos n) count then timer_set gap p ∷ [] el
 -- to initialization: the first timer
 abbrev pub started : Tick → Asking Tick
 started t =
-    reading (whole (codes "count") (λ count. time (codes "gap") (λ gap. priority (codes "priority") (λ p.
+    reading (whole (codes "count")
+    (λ count. time (codes "gap") (λ gap. priority (codes "priority") (λ p.
     acts t (scheduled 0 count gap p)))))
 
 -- the timer that is the late one reads `extra` too, whose value is emitted
@@ -35,12 +37,14 @@ extra_emitted (Some extra) = Emit (codes "extra") extra ∷ []
 
 -- n, then the extra value where it was read, then the next timer
 abbrev pub firing : ℕ → Option ℤ → ℤ → ℕ → ℤ → List Action
-firing n extra count gap p = Emit (codes "fired") (pos n) ∷ (extra_emitted extra ++ scheduled n count gap p)
+firing n extra count gap p =
+    Emit (codes "fired") (pos n) ∷ (extra_emitted extra ++ scheduled n count gap p)
 
 -- to timer n
 abbrev pub fired : Tick → ℕ → Asking Tick
 fired t n =
-    reading (whole (codes "count") (λ count. time (codes "gap") (λ gap. priority (codes "priority") (λ p.
+    reading (whole (codes "count")
+    (λ count. time (codes "gap") (λ gap. priority (codes "priority") (λ p.
     whole (codes "late") (λ late. with_extra (int_eq late (pos n)) (λ extra.
     does t (firing n extra count gap p) (record { n = n })))))))
 

@@ -8,7 +8,8 @@ use Rattle.module_parts.specs.declared.looks.Verdict.{Verdict}
 use Rattle.module_parts.specs.declared.looks.Verdict.TheVariants as verdict
 use Rattle.module_parts.specs.Asking.{Leaves}
 use Rattle.module_parts.specs.Cues.{cue_of}
-use Rattle.module_parts.specs.Looking.{does, value_or, whole_found, time_found, priority_found, judged}
+use Rattle.module_parts.specs.Looking.{does, value_or, whole_found, time_found, priority_found}
+use Rattle.module_parts.specs.Looking.{judged}
 use Rattle.module_parts.specs.LookingLaws.{left-is}
 use Rattle.module_parts.specs.Numbers.{limit, next_number}
 use Rattle.module_parts.specs.NumberLaws.{number_reads_back, number_is_read, next_number-lt}
@@ -19,10 +20,14 @@ use Rattle.module_stock.specs.Tick.{with_extra, firing, fired, told_by, tick_scr
 abbrev pub IsSmall : Tick → Type 0
 IsSmall t = t.n < limit
 
-fires-small : (t : Tick) (n : ℕ) → IsSmall t → n < limit → (is_late : Bool) (count : ℤ) (gap : ℕ) (priority : ℤ) (v : Verdict) →
-    Leaves IsSmall (with_extra is_late (λ extra. does t (firing n extra count gap priority) (record { n = n })) v)
-fires-small t n small next true count gap priority v = λ extra. left-is IsSmall _ t (record { n = n }) small next
-fires-small t n small next false count gap priority v = left-is IsSmall v t (record { n = n }) small next
+fires-small : (t : Tick) (n : ℕ) → IsSmall t → n < limit
+    → (is_late : Bool) (count : ℤ) (gap : ℕ) (priority : ℤ) (v : Verdict) →
+    Leaves IsSmall (with_extra is_late
+    (λ extra. does t (firing n extra count gap priority) (record { n = n })) v)
+fires-small t n small next true count gap priority v =
+    λ extra. left-is IsSmall _ t (record { n = n }) small next
+fires-small t n small next false count gap priority v =
+    left-is IsSmall v t (record { n = n }) small next
 
 -- what the reads make of what they find
 abbrev of_whole : Option Value → ℤ
@@ -30,8 +35,11 @@ of_whole value = value_or (pos 0) (whole_found value)
 
 fired-small : (t : Tick) (n : ℕ) → IsSmall t → n < limit → Leaves IsSmall (fired t n)
 fired-small t n small next = λ count gap priority late.
-    fires-small t n small next (int_eq (of_whole late) (pos n)) (of_whole count) (value_or 0 (time_found gap)) (value_or (pos 0) (priority_found priority))
-    (judged (codes "late") (whole_found late) (judged (codes "priority") (priority_found priority) (judged (codes "gap") (time_found gap) (judged (codes "count") (whole_found count) verdict.Good))))
+    fires-small t n small next (int_eq (of_whole late) (pos n)) (of_whole count)
+    (value_or 0 (time_found gap)) (value_or (pos 0) (priority_found priority))
+    (judged (codes "late") (whole_found late)
+    (judged (codes "priority") (priority_found priority) (judged (codes "gap") (time_found gap)
+    (judged (codes "count") (whole_found count) verdict.Good))))
 
 told-small : (c : Cue) (t : Tick) → IsSmall t → Leaves IsSmall (told_by c t)
 told-small cue.Start t small = λ count gap priority. small

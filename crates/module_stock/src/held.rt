@@ -1,7 +1,9 @@
 //! Held messages as bytes.
 
-ghost use Rattle.std.specs.Prelude.{◌≡◌, ◌<◌, ◌++◌, ◌^◌, length, None, Some, IfOk, IfSome, OnOk, MatchOption};
-ghost use Rattle.module_stock.specs.Held.{kept, can_be_held, Fits, message_bytes, with_payload, front_of};
+ghost use Rattle.std.specs.Prelude.{◌≡◌, ◌<◌, ◌++◌, ◌^◌, length, None, Some, IfOk, IfSome, OnOk};
+ghost use Rattle.std.specs.Prelude.{MatchOption};
+ghost use Rattle.module_stock.specs.Held.{kept, can_be_held, Fits, message_bytes, with_payload};
+ghost use Rattle.module_stock.specs.Held.{front_of};
 
 use module_api::message::{Message, Outgoing};
 use module_parts::bytes::{add_long, add_word, take_long, take_word};
@@ -72,7 +74,8 @@ impl Header {
     /// The header at the front, and what is after it.
     #[tactic(auto, unfolding(crate::specs::Held::header_in, crate::specs::Held::header_bytes))]
     fn read(bytes: &[u8]) -> Option<(Header, &[u8])>
-        ensures value { MatchOption result (header_in bytes.now ≡ None) (λ p. header_in bytes.now ≡ Some (p.0, p.1.now)) }
+        ensures value { MatchOption result (header_in bytes.now ≡ None)
+            (λ p. header_in bytes.now ≡ Some (p.0, p.1.now)) }
         ensures spelled { IfSome result (λ p. header_bytes p.0 ++ p.1.now ≡ bytes.now) }
     {
         let (kind, bytes) = take_word(bytes)?;
@@ -105,8 +108,10 @@ pub fn add_message(bytes: &mut Vec<u8>, message: &Outgoing) -> Result<(), NoMemo
 /// The message at the front, and what is after it.
 #[tactic(auto, unfolding(crate::specs::Held::front_of, crate::specs::Held::message_bytes))]
 pub fn front_of(alloc: Global, bytes: &[u8]) -> Result<Option<(Outgoing, &[u8])>, NoMemory>
-    ensures value { IfOk result (λ front. MatchOption front (front_of bytes.now ≡ None) (λ p. front_of bytes.now ≡ Some (p.0, p.1.now))) }
-    ensures spelled { IfOk result (λ front. IfSome front (λ p. message_bytes p.0 ++ p.1.now ≡ bytes.now)) }
+    ensures value { IfOk result (λ front. MatchOption front (front_of bytes.now ≡ None)
+        (λ p. front_of bytes.now ≡ Some (p.0, p.1.now))) }
+    ensures spelled { IfOk result
+        (λ front. IfSome front (λ p. message_bytes p.0 ++ p.1.now ≡ bytes.now)) }
     ensures fits { IfOk result (λ front. IfSome front (λ p. Fits p.0)) }
 {
     let Some((header, bytes)) = Header::read(bytes) else {

@@ -1,13 +1,15 @@
 //! A module that serves messages one after another.
 
-ghost use Rattle.std.specs.Prelude.{◌≡◌, ◌<◌, [], ◌∷◌, ◌++◌, IsTrue, length, drop, pos, codes, IfOk, OnOk};
+ghost use Rattle.std.specs.Prelude.{◌≡◌, ◌<◌, [], ◌∷◌, ◌++◌, IsTrue, length, drop, pos, codes};
+ghost use Rattle.std.specs.Prelude.{IfOk, OnOk};
 ghost use Rattle.std.specs.Option.{is_some};
 ghost use Rattle.module_api.specs.declared.message.Outgoing.{Outgoing};
 ghost use Rattle.module_parts.specs.Asking.{told};
 ghost use Rattle.module_stock.specs.Held.{Fits, kept, can_be_held, AllFit, bytes_of, read_held};
 ghost use Rattle.module_parts.specs.Looking.{allowed, left};
 ghost use Rattle.module_parts.specs.Replies.{timer_set};
-ghost use Rattle.module_stock.specs.Queue.{length_emitted, joined, joined_if, front_sent, served, queue_script};
+ghost use Rattle.module_stock.specs.Queue.{length_emitted, joined, joined_if, front_sent, served};
+ghost use Rattle.module_stock.specs.Queue.{queue_script};
 
 use crate::held::{add_message, can_be_held, front_of, kept};
 use module_api::call::{Call, CallReason};
@@ -96,7 +98,8 @@ impl Queue {
 
     /// Answers a message that comes.
     fn join(&mut self, alloc: Global, call: &Call, message: &Message) -> Result<Reply, NoMemory>
-        ensures { IfOk result (λ reply. told (joined_if (can_be_held message.now) self.old (kept message.now)) call.now ≡ record { reply = reply; state = self.new }) }
+        ensures { IfOk result (λ reply. told (joined_if (can_be_held message.now) self.old
+            (kept message.now)) call.now ≡ record { reply = reply; state = self.new }) }
     {
         if !can_be_held(message) {
             return Ok(nothing(alloc));
@@ -113,7 +116,8 @@ impl Queue {
     fn begin(&mut self, alloc: Global, call: &Call, message: Outgoing) -> Result<Reply, NoMemory>
         requires empty { self.old ≡ [] }
         requires fits { Fits message }
-        ensures { IfOk result (λ reply. told (joined [] message) call.now ≡ record { reply = reply; state = self.new }) }
+        ensures { IfOk result (λ reply. told (joined [] message) call.now
+            ≡ record { reply = reply; state = self.new }) }
     {
         let mut looks = Looks::new(alloc);
         let _capacity = looks.whole(alloc, call, "capacity")?;
@@ -132,7 +136,8 @@ impl Queue {
     fn line_up(&mut self, alloc: Global, call: &Call, message: Outgoing) -> Result<Reply, NoMemory>
         requires some { 0 < length self.old }
         requires fits { Fits message }
-        ensures { IfOk result (λ reply. told (joined self.old message) call.now ≡ record { reply = reply; state = self.new }) }
+        ensures { IfOk result (λ reply. told (joined self.old message) call.now
+            ≡ record { reply = reply; state = self.new }) }
     {
         let mut looks = Looks::new(alloc);
         let capacity = looks.whole(alloc, call, "capacity")?;
@@ -149,8 +154,13 @@ impl Queue {
     #[tactic(auto, using(crate::specs::HeldLaws::all_fit_push))]
     fn admit(&mut self, alloc: Global, looks: Looks, message: Outgoing) -> Result<Reply, NoMemory>
         requires { Fits message }
-        ensures reply { IfOk result (λ reply. reply ≡ record { reads = looks.reads; actions = allowed looks.verdict (length_emitted (self.old ++ message ∷ []) ∷ []) }) }
-        ensures state { OnOk result (self.new ≡ left looks.verdict self.old (self.old ++ message ∷ [])) }
+        ensures reply { IfOk result (λ reply. reply ≡ record {
+          reads = looks.reads;
+          actions =
+              allowed looks.verdict (length_emitted (self.old ++ message ∷ []) ∷ []);
+        }) }
+        ensures state { OnOk result (self.new
+            ≡ left looks.verdict self.old (self.old ++ message ∷ [])) }
     {
         let mut actions = Items::new(alloc);
         emit(&mut actions, "length", self.held.len() as i64 + 1)?;
@@ -162,7 +172,8 @@ impl Queue {
 
     /// Ends the service of the front.
     fn serve(&mut self, alloc: Global, call: &Call) -> Result<Reply, NoMemory>
-        ensures { IfOk result (λ reply. told (served self.old) call.now ≡ record { reply = reply; state = self.new }) }
+        ensures { IfOk result (λ reply. told (served self.old) call.now
+            ≡ record { reply = reply; state = self.new }) }
     {
         if self.held.len() > 1 {
             self.serve_next(alloc, call)
@@ -174,7 +185,8 @@ impl Queue {
     /// Sends the front on, where no other is held, and does nothing where none is.
     fn serve_last(&mut self, alloc: Global) -> Result<Reply, NoMemory>
         requires { length self.old < 2 }
-        ensures { IfOk result (λ reply. (call : Call) → told (served self.old) call ≡ record { reply = reply; state = self.new }) }
+        ensures { IfOk result (λ reply. (call : Call)
+            → told (served self.old) call ≡ record { reply = reply; state = self.new }) }
     {
         let mut actions = Items::new(alloc);
         if let Some(front) = self.held.pop_front() {
@@ -188,7 +200,8 @@ impl Queue {
     #[tactic(auto, using(crate::specs::QueueLaws::served_more))]
     fn serve_next(&mut self, alloc: Global, call: &Call) -> Result<Reply, NoMemory>
         requires { 1 < length self.old }
-        ensures { IfOk result (λ reply. told (served self.old) call.now ≡ record { reply = reply; state = self.new }) }
+        ensures { IfOk result (λ reply. told (served self.old) call.now
+            ≡ record { reply = reply; state = self.new }) }
     {
         let mut looks = Looks::new(alloc);
         let service = looks.time(alloc, call, "service")?;
@@ -202,7 +215,11 @@ impl Queue {
     /// Sends the front on, and begins the service of the next.
     fn pass(&mut self, alloc: Global, looks: Looks, service: SimTime) -> Result<Reply, NoMemory>
         requires { 1 < length self.old }
-        ensures reply { IfOk result (λ reply. reply ≡ record { reads = looks.reads; actions = allowed looks.verdict (front_sent self.old ++ timer_set service (pos 0) ∷ []) }) }
+        ensures reply { IfOk result (λ reply. reply ≡ record {
+          reads = looks.reads;
+          actions =
+              allowed looks.verdict (front_sent self.old ++ timer_set service (pos 0) ∷ []);
+        }) }
         ensures state { OnOk result (self.new ≡ drop 1 self.old) }
     {
         let front = self.take_front();

@@ -58,7 +58,8 @@ impl Scripted for Router {
 impl Router {
     /// Sends a message on, or ends it.
     fn route(&self, alloc: Global, call: &Call, message: &Message) -> Result<Reply, NoMemory>
-        ensures { IfOk result (λ reply. told (routed self.now message.now message.now.payload) call.now ≡ record { reply = reply; state = self.now }) }
+        ensures { IfOk result (λ reply. told (routed self.now message.now message.now.payload)
+            call.now ≡ record { reply = reply; state = self.now }) }
     {
         match message.payload.as_bytes() {
             [] => Ok(simply(alloc, received(alloc, message.bits)?)),

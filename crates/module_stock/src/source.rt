@@ -71,7 +71,8 @@ impl Source {
 
     /// Sets the first timer.
     fn begin(&self, alloc: Global, call: &Call) -> Result<Reply, NoMemory>
-        ensures { IfOk result (λ reply. told (begun self.now) call.now ≡ record { reply = reply; state = self.now }) }
+        ensures { IfOk result
+            (λ reply. told (begun self.now) call.now ≡ record { reply = reply; state = self.now }) }
     {
         let mut looks = Looks::new(alloc);
         let count = looks.whole(alloc, call, "count")?;
@@ -83,7 +84,8 @@ impl Source {
 
     /// Sends one more message, where the parameters allow it.
     fn emit(&mut self, alloc: Global, call: &Call) -> Result<Reply, NoMemory>
-        ensures { IfOk result (λ reply. told (emitted self.old (next_number self.old.n)) call.now ≡ record { reply = reply; state = self.new }) }
+        ensures { IfOk result (λ reply. told (emitted self.old (next_number self.old.n)) call.now
+            ≡ record { reply = reply; state = self.new }) }
     {
         let n = self.n.next();
         let mut looks = Looks::new(alloc);

@@ -79,7 +79,8 @@ impl Tick {
 
     /// Sets the first timer.
     fn start(&self, alloc: Global, call: &Call) -> Result<Reply, NoMemory>
-        ensures { IfOk result (λ reply. told (started self.now) call.now ≡ record { reply = reply; state = self.now }) }
+        ensures { IfOk result (λ reply. told (started self.now) call.now
+            ≡ record { reply = reply; state = self.now }) }
     {
         let mut looks = Looks::new(alloc);
         let count = looks.whole(alloc, call, "count")?;
@@ -97,7 +98,8 @@ impl Tick {
 
     /// Fires once more, where the parameters allow it.
     fn fire(&mut self, alloc: Global, call: &Call) -> Result<Reply, NoMemory>
-        ensures { IfOk result (λ reply. told (fired self.old (next_number self.old.n)) call.now ≡ record { reply = reply; state = self.new }) }
+        ensures { IfOk result (λ reply. told (fired self.old (next_number self.old.n)) call.now
+            ≡ record { reply = reply; state = self.new }) }
     {
         let n = self.n.next();
         let mut looks = Looks::new(alloc);
@@ -127,7 +129,11 @@ impl Tick {
         extra: Option<i64>,
         pace: Pace,
     ) -> Result<Reply, NoMemory>
-        ensures reply { IfOk result (λ reply. reply ≡ record { reads = looks.reads; actions = allowed looks.verdict (firing n extra pace.count pace.gap pace.priority) }) }
+        ensures reply { IfOk result (λ reply. reply ≡ record {
+          reads = looks.reads;
+          actions =
+              allowed looks.verdict (firing n extra pace.count pace.gap pace.priority);
+        }) }
         ensures state { OnOk result (self.new ≡ left looks.verdict self.old (record { n = n })) }
     {
         let mut actions = Items::new(alloc);
@@ -145,7 +151,8 @@ impl Tick {
 
 /// Sets the next timer, while n is below the count.
 fn schedule(actions: &mut Items<Action>, n: Number, pace: Pace) -> Result<(), NoMemory>
-    ensures { OnOk result (actions.new ≡ actions.old ++ scheduled n pace.count pace.gap pace.priority) }
+    ensures { OnOk result (actions.new
+        ≡ actions.old ++ scheduled n pace.count pace.gap pace.priority) }
 {
     if n.signed() < pace.count {
         set_timer(actions, pace.gap, pace.priority)?;

@@ -1,5 +1,6 @@
 -- The boxes of modules, by their ids.
-use Rattle.std.specs.Prelude.{◌≡◌, ℕ, suc, ◌==◌, ◌≤◌, ◌<◌, ◌^◌, nat_lt, List, [], ◌∷◌, length, Option, Some, None, if◌then◌else◌}
+use Rattle.std.specs.Prelude.{◌≡◌, ℕ, suc, ◌==◌, ◌≤◌, ◌<◌, ◌^◌, nat_lt, List, [], ◌∷◌, length}
+use Rattle.std.specs.Prelude.{Option, Some, None, if◌then◌else◌}
 
 -- a box, and the id of its module
 pub record Seated (X : Type 0) : Type 0 where
@@ -34,7 +35,8 @@ module _ {X : Type 0} where
   -- with one more, before the first of a greater id
   abbrev pub with_box : ℕ → X → List (Seated X) → List (Seated X)
   with_box id x [] = record { id = id; box = x } ∷ []
-  with_box id x (s ∷ ss) = if nat_lt id s.id then record { id = id; box = x } ∷ s ∷ ss else s ∷ with_box id x ss
+  with_box id x (s ∷ ss) = if nat_lt id s.id then record { id = id; box = x } ∷ s ∷ ss
+      else s ∷ with_box id x ss
 
   -- without the one of that id
   abbrev pub without_box : ℕ → List (Seated X) → List (Seated X)

@@ -1,9 +1,11 @@
 //! What holds the boxes of simple modules, each found by the id of its module at once.
 #![tactic(auto)]
 
-ghost use Rattle.std.specs.Prelude.{◌≡◌, [], ◌<◌, ◌≤◌, ◌^◌, length, slice_get, None, OnOk, OnErr, IfErr, IfSome};
+ghost use Rattle.std.specs.Prelude.{◌≡◌, [], ◌<◌, ◌≤◌, ◌^◌, length, slice_get, None, OnOk, OnErr};
+ghost use Rattle.std.specs.Prelude.{IfErr, IfSome};
 ghost use Rattle.std.specs.Option.{option_copied};
-ghost use Rattle.module_tree.specs.Boxes.{box_of, last_id, with_box, without_box, without_boxes, nothing, with_seats, seats_from, AreRising};
+ghost use Rattle.module_tree.specs.Boxes.{box_of, last_id, with_box, without_box, without_boxes};
+ghost use Rattle.module_tree.specs.Boxes.{nothing, with_seats, seats_from, AreRising};
 
 use std::alloc::{AllocError, AllocFailed, Global};
 use std::marker::Model;
@@ -22,7 +24,10 @@ impl<T> Model for Tree<T> {
 
     ghost Value = { Held T };
 
-    ghost view = { λ t. record { seats = seats_from 0 t.slots.items; room = length t.slots.items } };
+    ghost view = { λ t. record {
+      seats = seats_from 0 t.slots.items;
+      room = length t.slots.items;
+    } };
 
     ghost invariant = { λ t. IsCounted t.count t.slots.items };
 }

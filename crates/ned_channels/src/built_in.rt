@@ -2,7 +2,8 @@
 //! See OMNeT++ Simulation Manual, "Channels".
 
 ghost use Rattle.std.specs.Prelude.{◌≡◌, ◌++◌, ◌∷◌, [], IfOk, OnOk};
-ghost use Rattle.ned_types.specs.Channels.{built_in_line, built_in_lines, delay_lines, error_lines, rate_lines, root_lines};
+ghost use Rattle.ned_types.specs.Channels.{built_in_line, built_in_lines, delay_lines, error_lines};
+ghost use Rattle.ned_types.specs.Channels.{rate_lines, root_lines};
 
 use ned_trees::declarations::{Declaration, ParameterValue, ParameterWord, SectionLine};
 use ned_trees::expressions::Expression;
@@ -125,7 +126,8 @@ impl Model for BuiltInChannels {
 
     ghost view = { λ c. tt };
 
-    ghost invariant = { λ c. (c.none ≡ []) × (c.delay ≡ delay_lines) × (c.rate ≡ delay_lines ++ rate_lines) };
+    ghost invariant = { λ c. (c.none ≡ []) × (c.delay ≡ delay_lines)
+        × (c.rate ≡ delay_lines ++ rate_lines) };
 }
 
 impl BuiltInChannels {

@@ -3,7 +3,8 @@
 
 ghost use Rattle.std.specs.Prelude.{◌≡◌};
 ghost use Rattle.std.specs.Option.{option_copied};
-ghost use Rattle.ned_types.specs.Clashes.{channel_name, channel_of_block, lines_of_channel, sets_delay, sets_rate};
+ghost use Rattle.ned_types.specs.Clashes.{channel_name, channel_of_block, lines_of_channel};
+ghost use Rattle.ned_types.specs.Clashes.{sets_delay, sets_rate};
 ghost use Rattle.ned_types.specs.Types.{is_given};
 
 use ned_trees::connections::Channel;

@@ -27,4 +27,5 @@ NamesFirstOfExpression bytes (errors.NedSyntax line) = IsFirstBadLine expression
 
 -- Two meanings of one text are equal.
 abbrev pub IsOneExpression : List ℕ → Type 0
-IsOneExpression bytes = (first second : Expression) → IsExpressionText bytes first → IsExpressionText bytes second → first ≡ second
+IsOneExpression bytes = (first second : Expression) → IsExpressionText bytes first
+    → IsExpressionText bytes second → first ≡ second

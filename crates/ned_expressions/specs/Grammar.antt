@@ -2,13 +2,15 @@
 -- Manual, "NED Language Grammar"). `a ⊗ b` is a and then b; `a ▷ b` the same with the value of b,
 -- `a ◁ b` with that of a.
 use denote.Enum.Bare.{sameb}
-use Rattle.std.specs.Prelude.{ℕ, zero, suc, max, Bool, true, false, ◌&&◌, ◌||◌, not, Option, Some, None, nat_lt, nat_le, ◌==◌, if◌then◌else◌, is_some, codes}
+use Rattle.std.specs.Prelude.{ℕ, zero, suc, max, Bool, true, false, ◌&&◌, ◌||◌, not, Option, Some}
+use Rattle.std.specs.Prelude.{None, nat_lt, nat_le, ◌==◌, if◌then◌else◌, is_some, codes}
 use Rattle.std.specs.Str.{bytes_eq}
 use Rattle.ned_tokens.specs.declared.token.Keyword.TheVariants as k
 use Rattle.ned_tokens.specs.declared.token.Mark.TheVariants as m
 use Rattle.ned_tokens.specs.declared.token.Token.{Token}
 use Rattle.ned_tokens.specs.declared.token.Token.TheVariants as token
-use Rattle.ned_tokens.specs.Rule.{Rule, token as one_token, ◌⊗◌, ◌◁◌, ◌▷◌, made, either, optional, sealed}
+use Rattle.ned_tokens.specs.Rule.{Rule, token as one_token, ◌⊗◌, ◌◁◌, ◌▷◌, made, either, optional}
+use Rattle.ned_tokens.specs.Rule.{sealed}
 use Rattle.ned_tokens.specs.Growth.{grown, never}
 use Rattle.ned_leaves.specs.Grammar.{Bytes, is_mark, literal_of, plain_literal, word, mark, name}
 use Rattle.ned_expressions.specs.contracts.atoms.Kind as kind
@@ -20,7 +22,8 @@ use Rattle.ned_trees.specs.declared.expressions.Choice.{Choice}
 use Rattle.ned_trees.specs.declared.expressions.Choice.TheVariants as choices
 use Rattle.ned_trees.specs.declared.expressions.Scope.{Scope}
 use Rattle.ned_trees.specs.declared.expressions.Scope.TheVariants as scopes
-use Rattle.ned_trees.specs.declared.expressions.Expression.{Expression, out-Expression, fold-Expression}
+use Rattle.ned_trees.specs.declared.expressions.Expression.{Expression, out-Expression}
+use Rattle.ned_trees.specs.declared.expressions.Expression.{fold-Expression}
 use Rattle.ned_trees.specs.declared.expressions.Expression.TheOpen.{Expression-F}
 use Rattle.ned_trees.specs.declared.expressions.Expression.TheVariants as expr
 use Rattle.ned_expressions.specs.declared.levels.GrammarPlace.{GrammarPlace}
@@ -164,7 +167,8 @@ Inner = GrammarPlace → ℕ → Rule Expression
 
 -- `min` and `max` are names that may be called
 abbrev pub choice_named : Bytes → Option Choice
-choice_named text = if bytes_eq text (codes "min") then Some choices.Min else (if bytes_eq text (codes "max") then Some choices.Max else None)
+choice_named text = if bytes_eq text (codes "min") then Some choices.Min
+    else (if bytes_eq text (codes "max") then Some choices.Max else None)
 
 abbrev pub kind_of_name : Option Choice → Kind
 kind_of_name None = kinds.Named
@@ -244,11 +248,13 @@ tail e = sealed begins_tail nothing (either member (element e))
 
 -- "(" expression "," expression ")"
 unfoldable pub pair : Rule Expression → Rule ChoiceTail
-pair e = made (λ x. choice_tails.Pair x.0 x.1) (mark m.LeftParen ▷ (e ⊗ (mark m.Comma ▷ (e ◁ mark m.RightParen))))
+pair e = made (λ x. choice_tails.Pair x.0 x.1)
+    (mark m.LeftParen ▷ (e ⊗ (mark m.Comma ▷ (e ◁ mark m.RightParen))))
 
 -- what stands after `min` or `max`
 unfoldable pub choice_tail : Inner → GrammarPlace → Rule ChoiceTail
-choice_tail inner p = sealed is_tail nothing (either (pair (inner place.Anywhere 0)) (made choice_tails.Plain (tail (inner p 0))))
+choice_tail inner p = sealed is_tail nothing
+    (either (pair (inner place.Anywhere 0)) (made choice_tails.Plain (tail (inner p 0))))
 
 abbrev pub choice_of : Token → Option Choice
 choice_of (token.Name text) = choice_named text
@@ -282,11 +288,13 @@ flat_named = made (λ x. with_tail x.0 x.1) (name ⊗ optional member)
 
 -- name [tail], where the name is neither `min` nor `max`
 unfoldable pub named : Inner → GrammarPlace → Rule Expression
-named inner p = made (λ x. with_tail x.0 x.1) (one_token plain_name_of ⊗ optional (tail (inner p 0)))
+named inner p =
+    made (λ x. with_tail x.0 x.1) (one_token plain_name_of ⊗ optional (tail (inner p 0)))
 
 -- ("min" | "max") [choice_tail]
 unfoldable pub chosen : Inner → GrammarPlace → Rule Expression
-chosen inner p = made (λ x. with_choice_tail x.0 x.1) (one_token choice_of ⊗ optional (choice_tail inner p))
+chosen inner p =
+    made (λ x. with_choice_tail x.0 x.1) (one_token choice_of ⊗ optional (choice_tail inner p))
 
 -- "(" ")"
 unfoldable pub no_arguments : Rule (Unit {0})
@@ -318,7 +326,8 @@ exists_or_at text (Some e) = expr.ExistsAt text e
 
 -- "exists" "(" name ["[" expression "]"] ")"
 unfoldable pub exists_rule : Rule Expression → Rule Expression
-exists_rule at = made (λ x. exists_or_at x.0 x.1) (word k.Exists ▷ (mark m.LeftParen ▷ ((name ⊗ optional at) ◁ mark m.RightParen)))
+exists_rule at = made (λ x. exists_or_at x.0 x.1)
+    (word k.Exists ▷ (mark m.LeftParen ▷ ((name ⊗ optional at) ◁ mark m.RightParen)))
 
 -- "(" expression ")"
 unfoldable pub group : Inner → Rule Expression
@@ -358,13 +367,15 @@ operand inner at p =
 
 -- flat_index | flat_named | scoped | literal: an operand without depth
 unfoldable pub atom : Rule Expression
-atom = either (of_kind kinds.Index flat_index) (either (sealed is_named is_tail flat_named) (either (of_kind kinds.Scoped scoped) any_literal))
+atom = either (of_kind kinds.Index flat_index)
+    (either (sealed is_named is_tail flat_named) (either (of_kind kinds.Scoped scoped) any_literal))
 
 -- ---- operators between operands
 
 -- "?" expression ":" expression
 unfoldable pub conditional_step : Inner → GrammarPlace → Rule ChainStep
-conditional_step inner p = made (λ x. steps.Conditional x.0 x.1) (mark m.Question ▷ (inner p 0 ⊗ (mark m.Colon ▷ inner p 1)))
+conditional_step inner p = made (λ x. steps.Conditional x.0 x.1)
+    (mark m.Question ▷ (inner p 0 ⊗ (mark m.Colon ▷ inner p 1)))
 
 -- operator expression
 unfoldable pub binary_step : Inner → GrammarPlace → ℕ → Rule ChainStep
@@ -381,7 +392,8 @@ put e (steps.Conditional a b) = expr.Conditional e a b
 -- after e an operator of this level may stand, where the whole is at most this deep and has no
 -- looser operator than `least`
 abbrev pub may : ℕ → ℕ → Expression → ℕ → Bool
-may deepest least e l = nat_le least l && (nat_le (left_level l) (tightness e) && nat_lt (depth e) deepest)
+may deepest least e l =
+    nat_le least l && (nat_le (left_level l) (tightness e) && nat_lt (depth e) deepest)
 
 abbrev pub filtered : (ℕ → Bool) → Option ℕ → Option ℕ
 filtered p None = None
@@ -428,12 +440,14 @@ unfoldable mutual
   deep zero p least = atom
   deep (suc d) p least =
       let inner : Inner = λ q l. sealed begins_expression (continues q l) (deep d q l) in
-      grown (operand inner (element_index d) p) (follows p (suc d) least) (step inner p) put (continues p least)
+      grown (operand inner (element_index d) p) (follows p (suc d) least) (step inner p) put
+      (continues p least)
 
   -- an index in brackets, at most this deep
   pub element_index : ℕ → Rule Expression
   element_index zero = one_token never
-  element_index (suc d) = brackets (sealed begins_expression (continues place.Anywhere 0) (deep d place.Anywhere 0))
+  element_index (suc d) =
+      brackets (sealed begins_expression (continues place.Anywhere 0) (deep d place.Anywhere 0))
 
 abbrev pub expression_within : ℕ → GrammarPlace → ℕ → Rule Expression
 expression_within d p least = sealed begins_expression (continues p least) (deep d p least)

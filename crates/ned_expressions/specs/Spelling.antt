@@ -67,20 +67,29 @@ operator_mark op.Power = m.Caret
 abbrev pub tokens_at : Expression-F (List Token) → List Token
 tokens_at (Expression-F.Literal v) = literal_tokens v
 tokens_at (Expression-F.Name x) = token.Name x ∷ []
-tokens_at (Expression-F.Scoped s x) = token.Word (scope_word s) ∷ token.Mark m.Dot ∷ token.Name x ∷ []
+tokens_at (Expression-F.Scoped s x) =
+    token.Word (scope_word s) ∷ token.Mark m.Dot ∷ token.Name x ∷ []
 tokens_at (Expression-F.Member x y) = token.Name x ∷ token.Mark m.Dot ∷ token.Name y ∷ []
-tokens_at (Expression-F.Element x e y) = token.Name x ∷ token.Mark m.LeftBracket ∷ (e ++ token.Mark m.RightBracket ∷ token.Mark m.Dot ∷ token.Name y ∷ [])
+tokens_at (Expression-F.Element x e y) = token.Name x ∷ token.Mark m.LeftBracket
+    ∷ (e ++ token.Mark m.RightBracket ∷ token.Mark m.Dot ∷ token.Name y ∷ [])
 tokens_at Expression-F.Index = token.Word k.Index ∷ []
-tokens_at Expression-F.IndexCall = token.Word k.Index ∷ token.Mark m.LeftParen ∷ token.Mark m.RightParen ∷ []
-tokens_at Expression-F.ParentIndex = token.Word k.ParentIndex ∷ token.Mark m.LeftParen ∷ token.Mark m.RightParen ∷ []
-tokens_at (Expression-F.Sizeof x) = token.Word k.Sizeof ∷ token.Mark m.LeftParen ∷ token.Name x ∷ token.Mark m.RightParen ∷ []
-tokens_at (Expression-F.Exists x) = token.Word k.Exists ∷ token.Mark m.LeftParen ∷ token.Name x ∷ token.Mark m.RightParen ∷ []
-tokens_at (Expression-F.ExistsAt x e) = token.Word k.Exists ∷ token.Mark m.LeftParen ∷ token.Name x ∷ token.Mark m.LeftBracket ∷ (e ++ token.Mark m.RightBracket ∷ token.Mark m.RightParen ∷ [])
-tokens_at (Expression-F.Chosen c a b) = token.Name (choice_text c) ∷ token.Mark m.LeftParen ∷ (a ++ token.Mark m.Comma ∷ (b ++ token.Mark m.RightParen ∷ []))
+tokens_at Expression-F.IndexCall =
+    token.Word k.Index ∷ token.Mark m.LeftParen ∷ token.Mark m.RightParen ∷ []
+tokens_at Expression-F.ParentIndex =
+    token.Word k.ParentIndex ∷ token.Mark m.LeftParen ∷ token.Mark m.RightParen ∷ []
+tokens_at (Expression-F.Sizeof x) =
+    token.Word k.Sizeof ∷ token.Mark m.LeftParen ∷ token.Name x ∷ token.Mark m.RightParen ∷ []
+tokens_at (Expression-F.Exists x) =
+    token.Word k.Exists ∷ token.Mark m.LeftParen ∷ token.Name x ∷ token.Mark m.RightParen ∷ []
+tokens_at (Expression-F.ExistsAt x e) = token.Word k.Exists ∷ token.Mark m.LeftParen ∷ token.Name x
+    ∷ token.Mark m.LeftBracket ∷ (e ++ token.Mark m.RightBracket ∷ token.Mark m.RightParen ∷ [])
+tokens_at (Expression-F.Chosen c a b) = token.Name (choice_text c) ∷ token.Mark m.LeftParen
+    ∷ (a ++ token.Mark m.Comma ∷ (b ++ token.Mark m.RightParen ∷ []))
 tokens_at (Expression-F.Group e) = token.Mark m.LeftParen ∷ (e ++ token.Mark m.RightParen ∷ [])
 tokens_at (Expression-F.Signed s e) = token.Mark (sign_mark s) ∷ e
 tokens_at (Expression-F.Binary o a b) = a ++ token.Mark (operator_mark o) ∷ b
-tokens_at (Expression-F.Conditional c a b) = c ++ token.Mark m.Question ∷ (a ++ token.Mark m.Colon ∷ b)
+tokens_at (Expression-F.Conditional c a b) =
+    c ++ token.Mark m.Question ∷ (a ++ token.Mark m.Colon ∷ b)
 
 -- THE STANDARD SPELLING, as tokens
 abbrev pub expression_tokens : Expression → List Token
@@ -89,7 +98,8 @@ expression_tokens e = fold-Expression (List Token) tokens_at e
 -- What a text says is spelled by its own tokens: parentheses stand in the value, so that value and
 -- tokens determine each other.
 abbrev pub IsSpelledByItself : List ℕ → Type 0
-IsSpelledByItself bytes = (e : Expression) → IsExpressionText bytes e → tokens_of bytes ≡ expression_tokens e
+IsSpelledByItself bytes = (e : Expression) → IsExpressionText bytes e
+    → tokens_of bytes ≡ expression_tokens e
 
 -- What a text says is at most 64 deep.
 abbrev pub IsShallow : List ℕ → Type 0
@@ -97,8 +107,10 @@ IsShallow bytes = (e : Expression) → IsExpressionText bytes e → depth e ≤ 
 
 -- The standard spelling of what a text says is read as that.
 abbrev pub IsReadBack : List ℕ → Type 0
-IsReadBack bytes = (e : Expression) → IsExpressionText bytes e → all_read expression (expression_tokens e) ≡ Ok e
+IsReadBack bytes = (e : Expression) → IsExpressionText bytes e
+    → all_read expression (expression_tokens e) ≡ Ok e
 
 -- Of what texts say, what is spelled the same is the same.
 abbrev pub SpellingDecides : List ℕ → List ℕ → Type 0
-SpellingDecides first second = (e f : Expression) → IsExpressionText first e → IsExpressionText second f → expression_tokens e ≡ expression_tokens f → e ≡ f
+SpellingDecides first second = (e f : Expression) → IsExpressionText first e
+    → IsExpressionText second f → expression_tokens e ≡ expression_tokens f → e ≡ f

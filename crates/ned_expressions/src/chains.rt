@@ -82,7 +82,8 @@ fn conditional_step(
     tokens: &[Token],
 ) -> Result<(ChainStep, &[Token]), Refusal>
     requires { depth < 64 }
-    ensures { Reads (grammar.conditional_step (grammar.expression_within depth) place) tokens.now result }
+    ensures { Reads (grammar.conditional_step (grammar.expression_within depth) place)
+        tokens.now result }
 {
     let rest = read!(mark(Mark::Question, tokens));
     let (a, rest) = read!(boxed_within(alloc, depth, place, 0, rest));
@@ -103,7 +104,8 @@ fn binary_step(
 ) -> Result<(ChainStep, &[Token]), Refusal>
     requires shallow { depth < 64 }
     requires known { level < 12 }
-    ensures { Reads (grammar.binary_step (grammar.expression_within depth) place level) tokens.now result }
+    ensures { Reads (grammar.binary_step (grammar.expression_within depth) place level)
+        tokens.now result }
 {
     let (operator, rest) = read!(operator(place, level, tokens));
     let (right, rest) = read!(boxed_within(alloc, depth, place, right_level(level), rest));

@@ -1,7 +1,8 @@
 //! What holds of the definitions themselves.
 
 ghost use Rattle.ned_expressions.specs.ExpressionText.{IsOneExpression};
-ghost use Rattle.ned_expressions.specs.Spelling.{IsSpelledByItself, IsShallow, IsReadBack, SpellingDecides};
+ghost use Rattle.ned_expressions.specs.Spelling.{IsSpelledByItself, IsShallow, IsReadBack};
+ghost use Rattle.ned_expressions.specs.Spelling.{SpellingDecides};
 
 /// Two expressions that one text is are equal.
 pub fn one_meaning(bytes: &[u8])

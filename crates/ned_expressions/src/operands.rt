@@ -99,7 +99,8 @@ fn optional_tail(
     tokens: &[Token],
 ) -> Result<(Option<Tail>, &[Token]), Refusal>
     requires { depth < 64 }
-    ensures { Reads (optional (grammar.tail (grammar.expression_within depth place 0))) tokens.now result }
+    ensures { Reads (optional (grammar.tail (grammar.expression_within depth place 0)))
+        tokens.now result }
 {
     if !begins_tail(tokens) {
         return Ok((None, tokens));
@@ -144,7 +145,8 @@ fn named(
 #[cycle(exprs)]
 fn pair(alloc: Global, depth: u32, tokens: &[Token]) -> Result<(ChoiceTail, &[Token]), Refusal>
     requires { depth < 64 }
-    ensures { Reads (grammar.pair (grammar.expression_within depth GrammarPlace.Anywhere 0)) tokens.now result }
+    ensures { Reads (grammar.pair (grammar.expression_within depth GrammarPlace.Anywhere 0))
+        tokens.now result }
 {
     let rest = read!(mark(Mark::LeftParen, tokens));
     let (a, rest) = read!(boxed_within(alloc, depth, GrammarPlace::Anywhere, 0, rest));
@@ -168,7 +170,8 @@ fn choice_tail(
     tokens: &[Token],
 ) -> Result<(ChoiceTail, &[Token]), Refusal>
     requires { depth < 64 }
-    ensures { Reads (grammar.choice_tail (grammar.expression_within depth) place) tokens.now result }
+    ensures { Reads (grammar.choice_tail (grammar.expression_within depth) place)
+        tokens.now result }
 {
     if begins_mark(Mark::LeftParen, tokens) {
         return pair(alloc, depth, tokens);
@@ -199,7 +202,8 @@ fn optional_choice_tail(
     tokens: &[Token],
 ) -> Result<(Option<ChoiceTail>, &[Token]), Refusal>
     requires { depth < 64 }
-    ensures { Reads (optional (grammar.choice_tail (grammar.expression_within depth) place)) tokens.now result }
+    ensures { Reads (optional (grammar.choice_tail (grammar.expression_within depth) place))
+        tokens.now result }
 {
     if !is_tail(tokens) {
         return Ok((None, tokens));
@@ -341,7 +345,8 @@ fn any_index(
     tokens: &[Token],
 ) -> Result<(Option<Boxed<Expression>>, &[Token]), Refusal>
     requires { depth < 64 }
-    ensures { Reads (optional (grammar.brackets (grammar.expression_within depth GrammarPlace.Anywhere 0))) tokens.now result }
+    ensures { Reads (optional (grammar.brackets
+        (grammar.expression_within depth GrammarPlace.Anywhere 0))) tokens.now result }
 {
     if !begins_mark(Mark::LeftBracket, tokens) {
         return Ok((None, tokens));
@@ -434,7 +439,8 @@ pub(crate) fn operand(
     tokens: &[Token],
 ) -> Result<(Expression, &[Token]), Refusal>
     requires { depth < 64 }
-    ensures { Reads (grammar.operand (grammar.expression_within depth) (grammar.element_index depth) place) tokens.now result }
+    ensures { Reads (grammar.operand (grammar.expression_within depth) (grammar.element_index depth)
+        place) tokens.now result }
 {
     let [token, ..] = tokens else {
         return literal(alloc, tokens);

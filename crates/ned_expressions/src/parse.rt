@@ -3,7 +3,8 @@
 ghost use Rattle.std.specs.Prelude.{◌≡◌, ◌<◌, length, IfOk, IfErr, Err};
 ghost use Rattle.sim_values.specs.Limits.{max_length};
 ghost use Rattle.ned_leaves.specs.Answers.{Answers};
-ghost use Rattle.ned_expressions.specs.ExpressionText.{IsExpressionText, ExplainsExpression, NamesFirstOfExpression};
+ghost use Rattle.ned_expressions.specs.ExpressionText.{IsExpressionText, ExplainsExpression};
+ghost use Rattle.ned_expressions.specs.ExpressionText.{NamesFirstOfExpression};
 ghost use Rattle.ned_trees.specs.declared.expressions.Expression.{Expression};
 
 use crate::chains::whole_expression;
@@ -19,7 +20,8 @@ pub fn parse_expression(alloc: Global, bytes: &[u8]) -> Result<Expression, NedEr
     // What is read is what the text says.
     ensures accepted { IfOk result (λ expression. IsExpressionText bytes.now expression) }
     // What the text says is read, unless memory runs out.
-    ensures complete { (expression : Expression) → IsExpressionText bytes.now expression → Answers expression result }
+    ensures complete { (expression : Expression) → IsExpressionText bytes.now expression
+        → Answers expression result }
     // Each refusal has its reason.
     ensures explained { IfErr result (λ e. ExplainsExpression bytes.now e) }
     // A line that is named is that of the first token that can't go on.

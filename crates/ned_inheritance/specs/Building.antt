@@ -1,29 +1,40 @@
 -- Why declared types make no model, and the table of those that do.
-use Rattle.std.specs.Prelude.{◌≡◌, ◌⊎◌, ℕ, true, false, ◌||◌, List, [], Option, Some, None, Result, Ok, Err, if◌then◌else◌}
+use Rattle.std.specs.Prelude.{◌≡◌, ◌⊎◌, ℕ, true, false, ◌||◌, List, [], Option, Some, None, Result}
+use Rattle.std.specs.Prelude.{Ok, Err, if◌then◌else◌}
 use Rattle.ned_trees.specs.declared.declarations.TypeDeclaration.{TypeDeclaration}
 use Rattle.ned_trees.specs.declared.declarations.TypeKind.{TypeKind}
-use Rattle.ned_trees.specs.declared.declarations.TypeKind.TheVariants.{Simple, Module, Network, Channel, ModuleInterface, ChannelInterface}
+use Rattle.ned_trees.specs.declared.declarations.TypeKind.TheVariants.{Simple, Module, Network}
+use Rattle.ned_trees.specs.declared.declarations.TypeKind.TheVariants.{Channel, ModuleInterface}
+use Rattle.ned_trees.specs.declared.declarations.TypeKind.TheVariants.{ChannelInterface}
 use Rattle.ned_inheritance.specs.declared.table.TypeFault.{TypeFault}
-use Rattle.ned_inheritance.specs.declared.table.TypeFault.TheVariants.{DuplicateType, UnknownType, InheritanceCircle, KindClash, Interface}
+use Rattle.ned_inheritance.specs.declared.table.TypeFault.TheVariants.{DuplicateType, UnknownType}
+use Rattle.ned_inheritance.specs.declared.table.TypeFault.TheVariants.{InheritanceCircle, KindClash}
+use Rattle.ned_inheritance.specs.declared.table.TypeFault.TheVariants.{Interface}
 use Rattle.ned_inheritance.specs.declared.table.BuildError.{BuildError}
 use Rattle.ned_inheritance.specs.declared.table.BuildError.TheVariants.{Fault, NoMemory}
 use Rattle.ned_inheritance.specs.declared.places.FaultPlace.{FaultPlace}
-use Rattle.ned_inheritance.specs.Places.{duplicate_from, IsClashPlace, lacked_in, other_in, place_from, unknown_in}
+use Rattle.ned_inheritance.specs.Places.{duplicate_from, IsClashPlace, lacked_in, other_in}
+use Rattle.ned_inheritance.specs.Places.{place_from, unknown_in}
 use Rattle.ned_types.specs.Clashes.{has_clash, has_unknown_channels}
-use Rattle.ned_types.specs.Types.{has_duplicate, has_inner_network, has_unknown, is_built_in, is_inner_name}
+use Rattle.ned_types.specs.Types.{has_duplicate, has_inner_network, has_unknown, is_built_in}
+use Rattle.ned_types.specs.Types.{is_inner_name}
 use Rattle.ned_types.specs.Flat.{or_else}
-use Rattle.ned_inheritance.specs.Interfaces.{has_broken, has_other_interface, has_unknown_interface, can_keep}
+use Rattle.ned_inheritance.specs.Interfaces.{has_broken, has_other_interface, has_unknown_interface}
+use Rattle.ned_inheritance.specs.Interfaces.{can_keep}
 use Rattle.ned_inheritance.specs.Circles.{ExtendsItself}
-use Rattle.ned_inheritance.specs.Inheritance.{has_unknown_base, has_circle, has_other_base, flat_types}
+use Rattle.ned_inheritance.specs.Inheritance.{has_unknown_base, has_circle, has_other_base}
+use Rattle.ned_inheritance.specs.Inheritance.{flat_types}
 use Rattle.ned_types.specs.WellFormed.{IsAmong, IsTypeOf, IsWellFormed}
 
 -- the faults of names and bases, in their order
 abbrev pub base_fault : List TypeDeclaration → Option TypeFault
 base_fault types =
     if has_duplicate types then Some DuplicateType
-    else (if has_unknown types || (has_unknown_base types || (has_unknown_interface types || has_unknown_channels types)) then Some UnknownType
+    else (if has_unknown types || (has_unknown_base types
+    || (has_unknown_interface types || has_unknown_channels types)) then Some UnknownType
     else (if has_circle types then Some InheritanceCircle
-    else (if has_inner_network types || (has_other_base types || has_other_interface types) then Some KindClash else None)))
+    else (if has_inner_network types || (has_other_base types || has_other_interface types)
+    then Some KindClash else None)))
 
 -- the faults of flat types: a clash in one of them, and then a member of an interface that one
 -- lacks
@@ -64,7 +75,8 @@ Builds types (Err (Fault fault place)) = (fault_of types ≡ Some fault) × IsPl
 abbrev pub AreFaultless : List TypeDeclaration → Result (List TypeDeclaration) BuildError → Type 0
 AreFaultless types (Ok table) = (table ≡ types) × (flat_fault types ≡ None)
 AreFaultless types (Err (NoMemory _)) = Unit {0}
-AreFaultless types (Err (Fault fault place)) = (flat_fault types ≡ Some fault) × IsFlatPlace types fault place
+AreFaultless types (Err (Fault fault place)) =
+    (flat_fault types ≡ Some fault) × IsFlatPlace types fault place
 
 -- the first fault of flat types and its place, or that there is none
 abbrev pub TellsFlat : List TypeDeclaration → Option (TypeFault × FaultPlace) → Type 0
@@ -91,11 +103,15 @@ MayExtend ChannelInterface name types = ⊥
 pub record KeepRules (types : List TypeDeclaration) : Type 0 where
   -- what is extended is among these and of the kind of what extends it, or a built-in channel that
   -- a channel extends;
-  pub bases : (t : TypeDeclaration) → IsAmong t types → (name : List ℕ) → t.base ≡ Some name → MayExtend t.kind name types
+  pub bases : (t : TypeDeclaration) → IsAmong t types → (name : List ℕ) → t.base ≡ Some name
+      → MayExtend t.kind name types
   -- each interface is among these too, and one for types of that kind;
-  pub interfaces : (t : TypeDeclaration) → IsAmong t types → (name : List ℕ) → IsAmong name t.interfaces → (i : TypeDeclaration) × IsAmong i types × (i.name ≡ name) × (can_keep t.kind i.kind ≡ true)
+  pub interfaces : (t : TypeDeclaration) → IsAmong t types → (name : List ℕ)
+      → IsAmong name t.interfaces → (i : TypeDeclaration) × IsAmong i types × (i.name ≡ name)
+      × (can_keep t.kind i.kind ≡ true)
   -- a network stands within no other;
-  pub networks : (t : TypeDeclaration) → IsAmong t types → t.kind ≡ Network → is_inner_name t.name ≡ false
+  pub networks : (t : TypeDeclaration) → IsAmong t types → t.kind ≡ Network
+      → is_inner_name t.name ≡ false
   -- no type extends itself, perhaps by way of others;
   pub roots : ExtendsItself types → ⊥
   -- and the flat types keep the rules of types.

@@ -8,12 +8,14 @@ use Rattle.ned_types.specs.WellFormed.{IsAmong}
 
 -- a type extends another: that is its base, or one of the interfaces of an interface
 abbrev pub Extends : TypeDeclaration → TypeDeclaration → Type 0
-Extends t u = (t.base ≡ Some u.name) ⊎ ((is_interface_kind t.kind ≡ true) × IsAmong u.name t.interfaces)
+Extends t u = (t.base ≡ Some u.name)
+    ⊎ ((is_interface_kind t.kind ≡ true) × IsAmong u.name t.interfaces)
 
 -- a way among the types from one to another, each of which extends the next, with so many between
 abbrev pub LeadsTo : ℕ → List TypeDeclaration → TypeDeclaration → TypeDeclaration → Type 0
 LeadsTo zero types t u = IsAmong u types × Extends t u
-LeadsTo (suc n) types t u = (v : TypeDeclaration) × (IsAmong v types × Extends t v) × LeadsTo n types v u
+LeadsTo (suc n) types t u = (v : TypeDeclaration) × (IsAmong v types × Extends t v)
+    × LeadsTo n types v u
 
 -- one of the types extends itself, perhaps by way of others
 abbrev pub ExtendsItself : List TypeDeclaration → Type 0

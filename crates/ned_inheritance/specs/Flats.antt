@@ -1,5 +1,6 @@
 -- Flat types, made from those of their bases.
-use Rattle.std.specs.Prelude.{◌≡◌, ℕ, true, false, ◌&&◌, List, [], ◌++◌, drop, is_some, unwrap_or, Option, Some, None, if◌then◌else◌}
+use Rattle.std.specs.Prelude.{◌≡◌, ℕ, true, false, ◌&&◌, List, [], ◌++◌, drop, is_some, unwrap_or}
+use Rattle.std.specs.Prelude.{Option, Some, None, if◌then◌else◌}
 use Rattle.std.specs.Borrow.{Bor}
 use Rattle.std.specs.Map.{lookup}
 use Rattle.std.specs.Str.{bytes_eq}
@@ -8,7 +9,8 @@ use Rattle.ned_trees.specs.declared.declarations.TypeDeclaration.{TypeDeclaratio
 use Rattle.ned_types.specs.Flat.{class_in, class_of, named_or}
 use Rattle.ned_types.specs.Types.{has_duplicate, is_interface_kind, is_simple_kind, is_type_named}
 use Rattle.ned_types.specs.WellFormed.{IsAmong}
-use Rattle.ned_inheritance.specs.Inheritance.{class_lines, flat_type, has_other_base, joined_connections, no_connections, with_members}
+use Rattle.ned_inheritance.specs.Inheritance.{class_lines, flat_type, has_other_base}
+use Rattle.ned_inheritance.specs.Inheritance.{joined_connections, no_connections, with_members}
 use Rattle.ned_inheritance.specs.Named.{flat_by_lines, HaveLines, StandBehind}
 
 -- a type of that class that extends another, before it has any member
@@ -27,7 +29,8 @@ bare_derived_with class t = record {
 -- the lines of a flat type, but for that of its class, which stands before the others where it is a
 -- simple type that extends another
 abbrev pub own_lines : TypeDeclaration → List SectionLine
-own_lines flat = if is_simple_kind flat.kind && is_some flat.base then drop 1 flat.lines else flat.lines
+own_lines flat = if is_simple_kind flat.kind && is_some flat.base then drop 1 flat.lines
+    else flat.lines
 
 -- a type with all that a flat type has after its own
 abbrev pub with_inherited : TypeDeclaration → TypeDeclaration → TypeDeclaration
@@ -44,7 +47,8 @@ with_inherited flat base = record {
 
 -- the flat type of a type whose base has this flat type
 abbrev pub derived_over : TypeDeclaration → TypeDeclaration → TypeDeclaration
-derived_over base t = with_members (with_inherited (bare_derived_with (named_or (class_in t.lines) (class_of base)) t) base) t
+derived_over base t = with_members
+    (with_inherited (bare_derived_with (named_or (class_in t.lines) (class_of base)) t) base) t
 
 -- the same of a type whose base is none of the types, as a built-in channel
 abbrev pub derived_alone : TypeDeclaration → TypeDeclaration
@@ -66,8 +70,10 @@ flat_by_base entries t None = t
 flat_by_base entries t (Some name) = derived_by (flat_at entries name) t
 
 -- the flat type of a type, where these are those of all that it extends, and lines of interfaces
-abbrev pub flat_behind : List (Bor (List ℕ) × List TypeDeclaration) → FlatEntries → TypeDeclaration → TypeDeclaration
-flat_behind lines entries t = if is_interface_kind t.kind then flat_by_lines lines t else flat_by_base entries t t.base
+abbrev pub flat_behind : List (Bor (List ℕ) × List TypeDeclaration) → FlatEntries → TypeDeclaration
+    → TypeDeclaration
+flat_behind lines entries t = if is_interface_kind t.kind then flat_by_lines lines t
+    else flat_by_base entries t t.base
 
 -- the flat type that stands at the name of a type; the type itself where there is none
 abbrev pub found_at : FlatEntries → TypeDeclaration → TypeDeclaration
@@ -75,15 +81,19 @@ found_at entries t = unwrap_or (flat_at entries t.name) t
 
 -- a flat type was added at the name of a type
 abbrev pub AddsFlat : FlatEntries → FlatEntries → TypeDeclaration → TypeDeclaration → Type 0
-AddsFlat before after t flat = (name : List ℕ) → flat_at after name ≡ (if bytes_eq t.name name then Some flat else flat_at before name)
+AddsFlat before after t flat = (name : List ℕ)
+    → flat_at after name ≡ (if bytes_eq t.name name then Some flat else flat_at before name)
 
 -- at the name of each type that was seen stands its flat type, and at other names none
 abbrev pub HaveFlats : FlatEntries → List TypeDeclaration → List TypeDeclaration → Type 0
 HaveFlats entries types seen =
-    ((t : TypeDeclaration) → IsAmong t types → is_type_named t.name seen ≡ true → flat_at entries t.name ≡ Some (flat_type types t))
+    ((t : TypeDeclaration) → IsAmong t types → is_type_named t.name seen ≡ true
+    → flat_at entries t.name ≡ Some (flat_type types t))
     × ((name : List ℕ) → is_type_named name seen ≡ false → flat_at entries name ≡ None)
 
 -- the flat types of an order, where each type stands after all that it extends
-abbrev pub FlatsAlong : List (Bor (List ℕ) × List TypeDeclaration) → FlatEntries → List TypeDeclaration → Type 0
+abbrev pub FlatsAlong : List (Bor (List ℕ) × List TypeDeclaration) → FlatEntries
+    → List TypeDeclaration → Type 0
 FlatsAlong lines entries order =
-    (types : List TypeDeclaration) → has_duplicate types ≡ false → has_other_base types ≡ false → HaveLines lines types → StandBehind types [] order → HaveFlats entries types order
+    (types : List TypeDeclaration) → has_duplicate types ≡ false → has_other_base types ≡ false
+    → HaveLines lines types → StandBehind types [] order → HaveFlats entries types order

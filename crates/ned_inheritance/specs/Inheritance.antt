@@ -1,6 +1,7 @@
 -- Types that extend others: the bases of a type, and what it has with all that they have.
 -- OMNeT++ Simulation Manual, "Inheritance".
-use Rattle.std.specs.Prelude.{ℕ, zero, suc, Bool, true, false, not, ◌||◌, ◌&&◌, List, [], ◌∷◌, ◌++◌, length, map, Option, Some, None, if◌then◌else◌}
+use Rattle.std.specs.Prelude.{ℕ, zero, suc, Bool, true, false, not, ◌||◌, ◌&&◌, List, [], ◌∷◌, ◌++◌}
+use Rattle.std.specs.Prelude.{length, map, Option, Some, None, if◌then◌else◌}
 use Rattle.std.specs.Borrow.{Bor}
 use Rattle.std.specs.List.{filter, list_any}
 use Rattle.std.specs.Option.{option_and_then}
@@ -9,8 +10,11 @@ use Rattle.ned_trees.specs.declared.declarations.SectionLine.{SectionLine}
 use Rattle.ned_trees.specs.declared.declarations.SectionLine.TheVariants as line
 use Rattle.ned_trees.specs.declared.declarations.TypeDeclaration.{TypeDeclaration}
 use Rattle.ned_trees.specs.declared.declarations.TypeKind.{TypeKind}
-use Rattle.ned_trees.specs.declared.declarations.TypeKind.TheVariants.{Simple, Module, Network, Channel, ModuleInterface, ChannelInterface}
-use Rattle.ned_types.specs.Types.{type_named, is_built_in, is_type_named, is_simple_kind, is_network_kind, is_channel_kind, is_interface_kind}
+use Rattle.ned_trees.specs.declared.declarations.TypeKind.TheVariants.{Simple, Module, Network}
+use Rattle.ned_trees.specs.declared.declarations.TypeKind.TheVariants.{Channel, ModuleInterface}
+use Rattle.ned_trees.specs.declared.declarations.TypeKind.TheVariants.{ChannelInterface}
+use Rattle.ned_types.specs.Types.{type_named, is_built_in, is_type_named, is_simple_kind}
+use Rattle.ned_types.specs.Types.{is_network_kind, is_channel_kind, is_interface_kind}
 use Rattle.ned_types.specs.Channels.{root_lines}
 use Rattle.ned_types.specs.Flat.{class_in, class_of, named_or}
 
@@ -43,7 +47,8 @@ is_one_among types names = list_any (λ n. is_type_named n types) names
 
 -- whether a type extends one of these; what an interface extends are its interfaces
 abbrev pub extends_one : List TypeDeclaration → TypeDeclaration → Bool
-extends_one types t = is_base_among types t.base || (is_interface_kind t.kind && is_one_among types t.interfaces)
+extends_one types t =
+    is_base_among types t.base || (is_interface_kind t.kind && is_one_among types t.interfaces)
 
 -- those of the types that extend one of them
 abbrev pub heirs : List TypeDeclaration → List TypeDeclaration
@@ -108,7 +113,8 @@ is_channel_of kind name = is_channel_kind kind && is_built_in name
 -- whether what is extended isn't of the kind of the type that extends it
 abbrev pub extends_other : List TypeDeclaration → TypeKind → Option (List ℕ) → Bool
 extends_other types kind None = false
-extends_other types kind (Some name) = not (is_channel_of kind name || is_base kind (type_named name types))
+extends_other types kind (Some name) =
+    not (is_channel_of kind name || is_base kind (type_named name types))
 
 abbrev pub has_other_base : List TypeDeclaration → Bool
 has_other_base types = list_any (λ t. extends_other types t.kind t.base) types
@@ -122,7 +128,10 @@ no_connections = record { allow_unconnected = false; items = [] }
 -- the connections of two sections, those of the first one first; gates may stay unconnected where
 -- one of them says so
 abbrev pub joined_connections : ConnectionSection → ConnectionSection → ConnectionSection
-joined_connections c d = record { allow_unconnected = c.allow_unconnected || d.allow_unconnected; items = c.items ++ d.items }
+joined_connections c d = record {
+  allow_unconnected = c.allow_unconnected || d.allow_unconnected;
+  items = c.items ++ d.items;
+}
 
 -- a type with the members of another one after its own; those begin with what a built-in channel
 -- has that the other extends
@@ -199,9 +208,11 @@ joined_behind line (more ∷ others) = joined_behind (all_behind line more) othe
 
 -- an interface after all that it extends, where this says the same of each name; nothing where
 -- there is none
-abbrev pub behind_all : (List ℕ → List TypeDeclaration) → Option TypeDeclaration → List TypeDeclaration
+abbrev pub behind_all : (List ℕ → List TypeDeclaration) → Option TypeDeclaration
+    → List TypeDeclaration
 behind_all line None = []
-behind_all line (Some t) = if is_interface_kind t.kind then once_behind (joined_behind [] (map line t.interfaces)) t else []
+behind_all line (Some t) = if is_interface_kind t.kind
+    then once_behind (joined_behind [] (map line t.interfaces)) t else []
 
 -- the interface of that name after all that it extends by ways of fewer than so many steps
 abbrev pub reached : ℕ → List TypeDeclaration → List ℕ → List TypeDeclaration
@@ -220,14 +231,33 @@ gathered flat (t ∷ ts) = gathered (with_members flat t) ts
 
 -- a type without members
 abbrev pub bare : TypeDeclaration → TypeDeclaration
-bare t = record { kind = t.kind; name = t.name; base = None; interfaces = []; lines = []; gates = []; submodules = []; connections = no_connections }
+bare t = record {
+  kind = t.kind;
+  name = t.name;
+  base = None;
+  interfaces = [];
+  lines = [];
+  gates = [];
+  submodules = [];
+  connections = no_connections;
+}
 
 abbrev pub without_interfaces : TypeDeclaration → TypeDeclaration
-without_interfaces t = record { kind = t.kind; name = t.name; base = t.base; interfaces = []; lines = t.lines; gates = t.gates; submodules = t.submodules; connections = t.connections }
+without_interfaces t = record {
+  kind = t.kind;
+  name = t.name;
+  base = t.base;
+  interfaces = [];
+  lines = t.lines;
+  gates = t.gates;
+  submodules = t.submodules;
+  connections = t.connections;
+}
 
 -- an interface with all that it extends, each once: its own members are the last
 abbrev pub flat_interface : List TypeDeclaration → TypeDeclaration → TypeDeclaration
-flat_interface types t = without_interfaces (with_members (gathered (bare t) (interfaces_behind types t.interfaces)) t)
+flat_interface types t =
+    without_interfaces (with_members (gathered (bare t) (interfaces_behind types t.interfaces)) t)
 
 -- ---- flat types of all kinds
 

@@ -1,6 +1,7 @@
 -- Interfaces: what types may keep, and whether they do.
 -- OMNeT++ Simulation Manual, "Module Interfaces and Channel Interfaces".
-use Rattle.std.specs.Prelude.{ℕ, Bool, true, false, not, ◌||◌, ◌&&◌, List, Option, Some, None, if◌then◌else◌}
+use Rattle.std.specs.Prelude.{ℕ, Bool, true, false, not, ◌||◌, ◌&&◌, List, Option, Some, None}
+use Rattle.std.specs.Prelude.{if◌then◌else◌}
 use Rattle.std.specs.List.{list_any}
 use Rattle.std.specs.Str.{bytes_eq}
 use Rattle.ned_trees.specs.declared.declarations.Declaration.{Declaration}
@@ -16,8 +17,11 @@ use Rattle.ned_trees.specs.declared.declarations.SectionLine.{SectionLine}
 use Rattle.ned_trees.specs.declared.declarations.SectionLine.TheVariants as line
 use Rattle.ned_trees.specs.declared.declarations.TypeDeclaration.{TypeDeclaration}
 use Rattle.ned_trees.specs.declared.declarations.TypeKind.{TypeKind}
-use Rattle.ned_trees.specs.declared.declarations.TypeKind.TheVariants.{Simple, Module, Network, Channel, ModuleInterface, ChannelInterface}
-use Rattle.ned_types.specs.Types.{type_named, is_built_in, is_type_named, is_module_interface, is_channel_interface, is_vector}
+use Rattle.ned_trees.specs.declared.declarations.TypeKind.TheVariants.{Simple, Module, Network}
+use Rattle.ned_trees.specs.declared.declarations.TypeKind.TheVariants.{Channel, ModuleInterface}
+use Rattle.ned_trees.specs.declared.declarations.TypeKind.TheVariants.{ChannelInterface}
+use Rattle.ned_types.specs.Types.{type_named, is_built_in, is_type_named, is_module_interface}
+use Rattle.ned_types.specs.Types.{is_channel_interface, is_vector}
 
 -- ---- names of interfaces
 
@@ -43,7 +47,8 @@ is_interface_for kind (Some t) = can_keep kind t.kind
 
 -- whether one of the names is not that of an interface for that kind
 abbrev pub keeps_other : List TypeDeclaration → TypeKind → List (List ℕ) → Bool
-keeps_other types kind names = list_any (λ n. not (is_interface_for kind (type_named n types))) names
+keeps_other types kind names =
+    list_any (λ n. not (is_interface_for kind (type_named n types))) names
 
 abbrev pub has_other_interface : List TypeDeclaration → Bool
 has_other_interface types = list_any (λ t. keeps_other types t.kind t.interfaces) types
@@ -121,7 +126,8 @@ are_alike a b = if is_vector a then is_vector b else not (is_vector b)
 
 -- whether the line declares a gate of that name and direction, a vector where that is one
 abbrev pub declares_gate_as : GateDeclaration → GateLine → Bool
-declares_gate_as d (gate.Declaration e) = bytes_eq e.name d.name && (is_direction e.direction d.direction && are_alike e.size d.size)
+declares_gate_as d (gate.Declaration e) =
+    bytes_eq e.name d.name && (is_direction e.direction d.direction && are_alike e.size d.size)
 declares_gate_as d (gate.Refinement r) = false
 
 abbrev pub has_gate : List GateLine → GateDeclaration → Bool
@@ -134,7 +140,8 @@ lacks_gate gates (gate.Refinement r) = false
 
 -- whether a type lacks a member of an interface
 abbrev pub lacks_members : TypeDeclaration → TypeDeclaration → Bool
-lacks_members t i = list_any (λ l. lacks_parameter t.lines l) i.lines || list_any (λ g. lacks_gate t.gates g) i.gates
+lacks_members t i = list_any (λ l. lacks_parameter t.lines l) i.lines
+    || list_any (λ g. lacks_gate t.gates g) i.gates
 
 abbrev pub lacks_any : TypeDeclaration → Option TypeDeclaration → Bool
 lacks_any t None = false

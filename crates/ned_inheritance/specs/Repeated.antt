@@ -7,4 +7,5 @@ use Rattle.ned_inheritance.specs.Seen.{is_in}
 
 -- a type lacks no member of the interfaces of these names
 abbrev pub LacksNothingOf : List TypeDeclaration → TypeDeclaration → List (List ℕ) → Type 0
-LacksNothingOf types t names = (name : List ℕ) → is_in name names ≡ true → (n : ℕ) → lacked_of_any t n (type_named name types) ≡ None
+LacksNothingOf types t names = (name : List ℕ) → is_in name names ≡ true → (n : ℕ)
+    → lacked_of_any t n (type_named name types) ≡ None

@@ -58,4 +58,5 @@ sets_undeclared names l = is_some (value_in l) && not (is_in (name_in l) names)
 -- whether the line can't stand in a body over lines that declare parameters of the first names, and
 -- fix those of the second
 abbrev pub is_unfit_over : List (List ℕ) → List (List ℕ) → SectionLine → Bool
-is_unfit_over declared fixed l = is_declaration l || (sets_undeclared declared l || gives_seen fixed l)
+is_unfit_over declared fixed l =
+    is_declaration l || (sets_undeclared declared l || gives_seen fixed l)

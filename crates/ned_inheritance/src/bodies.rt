@@ -1,7 +1,9 @@
 //! What the bodies of submodules may say.
 
 ghost use Rattle.std.specs.Prelude.{◌≡◌, [], is_some, IfOk};
-ghost use Rattle.ned_types.specs.Types.{bodies_clash, bodies_declare, declares_gates, has_unfit_body, body_clashes, has_unfit, is_gate_declaration};
+ghost use Rattle.ned_types.specs.Types.{bodies_clash, bodies_declare, declares_gates};
+ghost use Rattle.ned_types.specs.Types.{has_unfit_body, body_clashes, has_unfit};
+ghost use Rattle.ned_types.specs.Types.{is_gate_declaration};
 ghost use Rattle.std.specs.List.{list_any};
 ghost use Rattle.ned_inheritance.specs.Seen.{names_in, is_unfit_over};
 
@@ -133,7 +135,8 @@ fn first_unfit_by(
     fixed: &IndexSet<&[u8]>,
     body: &[SectionLine],
 ) -> Option<usize>
-    ensures { is_some result ≡ list_any (is_unfit_over (names_in declared.now.keys) (names_in fixed.now.keys)) body.now }
+    ensures { is_some result
+        ≡ list_any (is_unfit_over (names_in declared.now.keys) (names_in fixed.now.keys)) body.now }
 {
     for (at, line) in body.iter().enumerate() {
         if is_unfit(declared, fixed, line) {
@@ -145,7 +148,8 @@ fn first_unfit_by(
 
 /// Whether a line can't stand in a body over such lines.
 fn is_unfit(declared: &IndexSet<&[u8]>, fixed: &IndexSet<&[u8]>, line: &SectionLine) -> bool
-    ensures { result ≡ is_unfit_over (names_in declared.now.keys) (names_in fixed.now.keys) line.now }
+    ensures { result
+        ≡ is_unfit_over (names_in declared.now.keys) (names_in fixed.now.keys) line.now }
 {
     is_declaration(line) || sets_undeclared(declared, line) || gives_seen(fixed, line)
 }

@@ -6,9 +6,13 @@ ghost use Rattle.std.specs.List.{list_any};
 ghost use Rattle.std.specs.Option.{option_copied, option_map};
 ghost use Rattle.ned_inheritance.specs.declared.places.Member.TheVariants as member;
 ghost use Rattle.ned_types.specs.Channels.{built_in_lines};
-ghost use Rattle.ned_types.specs.Clashes.{block_clashes, channel_lines, channel_name, channel_of_block, connections_clash, connections_of, is_channel_unknown, line_clashes, lines_of_channel, sets_delay, sets_rate};
+ghost use Rattle.ned_types.specs.Clashes.{block_clashes, channel_lines, channel_name};
+ghost use Rattle.ned_types.specs.Clashes.{channel_of_block, connections_clash, connections_of};
+ghost use Rattle.ned_types.specs.Clashes.{is_channel_unknown, line_clashes, lines_of_channel};
+ghost use Rattle.ned_types.specs.Clashes.{sets_delay, sets_rate};
 ghost use Rattle.ned_types.specs.Types.{body_clashes, is_given};
-ghost use Rattle.ned_inheritance.specs.Places.{first_from, unknown_channel_from, unknown_channel_of};
+ghost use Rattle.ned_inheritance.specs.Places.{first_from, unknown_channel_from};
+ghost use Rattle.ned_inheritance.specs.Places.{unknown_channel_of};
 
 use crate::bodies::{Misfit, first_misfit};
 use crate::faults::{is_built_in, is_taken};
@@ -51,7 +55,8 @@ fn first_unknown_line(named: &NamedTypes<'_>, lines: &[ConnectionLine]) -> Optio
 
 /// The same of the connections of an item.
 fn first_unknown_in(named: &NamedTypes<'_>, item: &ConnectionItem) -> Option<usize>
-    ensures { result ≡ first_from (λ l. is_channel_unknown named.now l) 0 (connections_of item.now) }
+    ensures { result
+        ≡ first_from (λ l. is_channel_unknown named.now l) 0 (connections_of item.now) }
 {
     match item {
         ConnectionItem::Line(line) => {
@@ -122,7 +127,8 @@ fn misfit_over(
     block: &[SectionLine],
 ) -> Result<Option<Misfit>, AllocError>
     requires { lines.old ≡ [] }
-    ensures { IfOk result (λ misfit. is_some misfit ≡ body_clashes (built_in_lines name.now) block.now) }
+    ensures { IfOk result
+        (λ misfit. is_some misfit ≡ body_clashes (built_in_lines name.now) block.now) }
 {
     add_built_in(alloc, lines, name)?;
     first_misfit(alloc, lines.as_slice(), block)
@@ -134,7 +140,8 @@ fn built_in_misfit(
     name: &[u8],
     block: &[SectionLine],
 ) -> Result<Option<Misfit>, AllocError>
-    ensures { IfOk result (λ misfit. is_some misfit ≡ body_clashes (built_in_lines name.now) block.now) }
+    ensures { IfOk result
+        (λ misfit. is_some misfit ≡ body_clashes (built_in_lines name.now) block.now) }
 {
     let mut lines = Items::new(alloc);
     misfit_over(alloc, &mut lines, name, block)
@@ -190,7 +197,8 @@ fn lines_clash(
     item: usize,
     lines: &[ConnectionLine],
 ) -> Result<Option<Member>, AllocError>
-    ensures { IfOk result (λ member. is_some member ≡ list_any (λ l. line_clashes named.now l) lines.now) }
+    ensures { IfOk result
+        (λ member. is_some member ≡ list_any (λ l. line_clashes named.now l) lines.now) }
 {
     let mut number = 0usize;
     let mut rest = lines;

@@ -2,14 +2,19 @@
 
 ghost use Rattle.std.specs.Prelude.{◌≡◌, ◌||◌, false, not, is_some, None, IfOk, map};
 ghost use Rattle.ned_types.specs.Clashes.{clashes, has_clash};
-ghost use Rattle.ned_types.specs.Types.{has_duplicate, is_built_in, is_type_named, names_unknown, has_inner_network, is_inner_name, is_inner_network, is_submodule_known, submodules_clash, is_submodule_suited, suits_kind, repeats_submodule, has_other_kind};
+ghost use Rattle.ned_types.specs.Types.{has_duplicate, is_built_in, is_type_named, names_unknown};
+ghost use Rattle.ned_types.specs.Types.{has_inner_network, is_inner_name, is_inner_network};
+ghost use Rattle.ned_types.specs.Types.{is_submodule_known, submodules_clash, is_submodule_suited};
+ghost use Rattle.ned_types.specs.Types.{suits_kind, repeats_submodule, has_other_kind};
 ghost use Rattle.ned_inheritance.specs.Inheritance.{flat_type, flat_types, types_in};
 ghost use Rattle.ned_inheritance.specs.Order.{IsOrder};
-ghost use Rattle.ned_inheritance.specs.Building.{Builds, AnswersTable, AreFaultless, KeepRules, TellsFlat};
+ghost use Rattle.ned_inheritance.specs.Building.{Builds, AnswersTable, AreFaultless, KeepRules};
+ghost use Rattle.ned_inheritance.specs.Building.{TellsFlat};
 ghost use Rattle.ned_types.specs.WellFormed.{IsWellFormed};
 ghost use Rattle.std.specs.List.{list_any};
 ghost use Rattle.ned_inheritance.specs.Named.{is_other_named, is_unknown_named};
-ghost use Rattle.ned_inheritance.specs.Places.{first_from, other_in, place_from, placed, unknown_in};
+ghost use Rattle.ned_inheritance.specs.Places.{first_from, other_in, place_from, placed};
+ghost use Rattle.ned_inheritance.specs.Places.{unknown_in};
 ghost use Rattle.ned_inheritance.specs.Seen.{is_one_named, names_in};
 
 use crate::bodies::{body_clash, declared_in_body};
@@ -347,7 +352,8 @@ fn repeats_seen<'a>(
     submodules: &'a [Submodule],
 ) -> Result<Option<usize>, AllocError>
     ensures { IfOk result (λ at. is_some at
-        ≡ (is_one_named (names_in seen.old.keys) submodules.now || repeats_submodule submodules.now)) }
+        ≡ (is_one_named (names_in seen.old.keys) submodules.now
+        || repeats_submodule submodules.now)) }
 {
     let mut at = 0usize;
     let mut rest = submodules;

@@ -4,8 +4,11 @@ ghost use Rattle.std.specs.Prelude.{◌≡◌, ◌++◌, [], false, drop, map, I
 ghost use Rattle.std.specs.Option.{option_copied};
 ghost use Rattle.ned_types.specs.Flat.{class_in, class_of, named_or};
 ghost use Rattle.ned_types.specs.Types.{has_duplicate, is_simple_kind};
-ghost use Rattle.ned_inheritance.specs.Flats.{bare_derived_with, flat_behind, flat_by_base, found_at, derived_alone, derived_by, derived_over, own_lines, with_inherited, AddsFlat, FlatsAlong};
-ghost use Rattle.ned_inheritance.specs.Inheritance.{class_lines, flat_type, has_other_base, types_in};
+ghost use Rattle.ned_inheritance.specs.Flats.{bare_derived_with, flat_behind, flat_by_base};
+ghost use Rattle.ned_inheritance.specs.Flats.{found_at, derived_alone, derived_by, derived_over};
+ghost use Rattle.ned_inheritance.specs.Flats.{own_lines, with_inherited, AddsFlat, FlatsAlong};
+ghost use Rattle.ned_inheritance.specs.Inheritance.{class_lines, flat_type, has_other_base};
+ghost use Rattle.ned_inheritance.specs.Inheritance.{types_in};
 ghost use Rattle.ned_inheritance.specs.Named.{HaveLines};
 ghost use Rattle.ned_inheritance.specs.Order.{IsOrder};
 
@@ -183,7 +186,8 @@ fn flat_by_base(
     flats: &Flats<'_>,
     declared: &TypeDeclaration,
 ) -> Result<TypeDeclaration, AllocError>
-    ensures { IfOk result (λ flat. flat ≡ flat_by_base flats.now.entries declared.now declared.now.base) }
+    ensures { IfOk result
+        (λ flat. flat ≡ flat_by_base flats.now.entries declared.now declared.now.base) }
 {
     match &declared.base {
         Some(name) => derived_by(alloc, flats.get(name.as_bytes()), declared),
@@ -198,7 +202,8 @@ fn flat_behind<'a>(
     flats: &Flats<'a>,
     declared: &'a TypeDeclaration,
 ) -> Result<TypeDeclaration, AllocError>
-    ensures { IfOk result (λ flat. flat ≡ flat_behind lines.now.entries flats.now.entries declared.now) }
+    ensures { IfOk result
+        (λ flat. flat ≡ flat_behind lines.now.entries flats.now.entries declared.now) }
 {
     if is_interface_kind(declared.kind) {
         flat_interface(alloc, lines, declared)
@@ -214,7 +219,8 @@ fn add_flat<'a>(
     flats: &mut Flats<'a>,
     declared: &'a TypeDeclaration,
 ) -> Result<(), AllocError>
-    ensures { OnOk result (AddsFlat flats.old.entries flats.new.entries declared.now (flat_behind lines.now.entries flats.old.entries declared.now)) }
+    ensures { OnOk result (AddsFlat flats.old.entries flats.new.entries declared.now
+        (flat_behind lines.now.entries flats.old.entries declared.now)) }
 {
     let flat = flat_behind(alloc, lines, flats, declared)?;
     flats.insert(declared.name.as_bytes(), flat)?;
@@ -245,7 +251,8 @@ fn flats_of<'a>(
     lines: &Lines<'a>,
     order: &[&'a TypeDeclaration],
 ) -> Result<Flats<'a>, AllocError>
-    ensures { IfOk result (λ flats. FlatsAlong lines.now.entries flats.entries (types_in order.now)) }
+    ensures { IfOk result
+        (λ flats. FlatsAlong lines.now.entries flats.entries (types_in order.now)) }
 {
     let mut flats = IndexMap::new(alloc);
     let done = add_flats(alloc, lines, &mut flats, order);

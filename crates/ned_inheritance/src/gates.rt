@@ -2,7 +2,8 @@
 
 ghost use Rattle.std.specs.Prelude.{◌≡◌, ◌||◌, ◌++◌, false, not, is_some, IfOk, OnOk};
 ghost use Rattle.ned_types.specs.Types.{redeclares_gate};
-ghost use Rattle.ned_inheritance.specs.Seen.{declared_gate, declares_one, is_one_gate_named, names_in};
+ghost use Rattle.ned_inheritance.specs.Seen.{declared_gate, declares_one, is_one_gate_named};
+ghost use Rattle.ned_inheritance.specs.Seen.{names_in};
 
 use indexmap::IndexSet;
 use ned_trees::declarations::GateLine;

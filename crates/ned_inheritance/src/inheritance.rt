@@ -2,7 +2,10 @@
 
 ghost use Rattle.std.specs.Prelude.{◌≡◌, [], map, IfOk, OnOk};
 ghost use Rattle.std.specs.Option.{option_copied};
-ghost use Rattle.ned_inheritance.specs.Inheritance.{extends_unknown, extends_other, can_extend, is_base, is_channel_of, with_members, bare, gathered, is_compound_kind, joined_behind, joined_connections, no_connections, types_in};
+ghost use Rattle.ned_inheritance.specs.Inheritance.{extends_unknown, extends_other, can_extend};
+ghost use Rattle.ned_inheritance.specs.Inheritance.{is_base, is_channel_of, with_members, bare};
+ghost use Rattle.ned_inheritance.specs.Inheritance.{gathered, is_compound_kind, joined_behind};
+ghost use Rattle.ned_inheritance.specs.Inheritance.{joined_connections, no_connections, types_in};
 ghost use Rattle.ned_inheritance.specs.Named.{flat_by_lines, line_at};
 
 use crate::faults::{is_built_in, is_taken};

@@ -3,8 +3,12 @@
 
 ghost use Rattle.std.specs.Prelude.{◌≡◌, [], true, not, None, IfOk};
 ghost use Rattle.std.specs.Option.{option_copied};
-ghost use Rattle.ned_inheritance.specs.Interfaces.{can_keep, is_interface_for, is_word, declares_as, has_parameter, lacks_parameter, is_direction, are_alike, declares_gate_as, has_gate, lacks_gate};
-ghost use Rattle.ned_inheritance.specs.Places.{first_from, is_known, lacked_from, lacked_in, lacked_of, lacked_of_any, place_from};
+ghost use Rattle.ned_inheritance.specs.Interfaces.{can_keep, is_interface_for, is_word};
+ghost use Rattle.ned_inheritance.specs.Interfaces.{declares_as, has_parameter, lacks_parameter};
+ghost use Rattle.ned_inheritance.specs.Interfaces.{is_direction, are_alike, declares_gate_as};
+ghost use Rattle.ned_inheritance.specs.Interfaces.{has_gate, lacks_gate};
+ghost use Rattle.ned_inheritance.specs.Places.{first_from, is_known, lacked_from, lacked_in};
+ghost use Rattle.ned_inheritance.specs.Places.{lacked_of, lacked_of_any, place_from};
 ghost use Rattle.ned_inheritance.specs.Repeated.{LacksNothingOf};
 ghost use Rattle.ned_inheritance.specs.Seen.{names_in};
 ghost use Rattle.ned_types.specs.Types.{is_vector, type_named};
@@ -69,7 +73,8 @@ pub(crate) fn first_other_interface(
     kind: TypeKind,
     names: &[Text],
 ) -> Option<usize>
-    ensures { result ≡ first_from (λ n. not (is_interface_for kind (type_named n named.now))) 0 names.now }
+    ensures { result
+        ≡ first_from (λ n. not (is_interface_for kind (type_named n named.now))) 0 names.now }
 {
     for (at, name) in names.iter().enumerate() {
         if !is_interface_for(kind, named.find(name.as_bytes())) {
@@ -304,8 +309,10 @@ fn lacked_once<'a>(
     name: &'a [u8],
 ) -> Result<Option<Member>, AllocError>
     requires { LacksNothingOf named.now declared.now (names_in seen.old.keys) }
-    ensures member { IfOk result (λ member. member ≡ lacked_of_any declared.now number (type_named name.now named.now)) }
-    ensures kept { IfOk result (λ member. member ≡ None → LacksNothingOf named.now declared.now (names_in seen.new.keys)) }
+    ensures member { IfOk result
+        (λ member. member ≡ lacked_of_any declared.now number (type_named name.now named.now)) }
+    ensures kept { IfOk result
+        (λ member. member ≡ None → LacksNothingOf named.now declared.now (names_in seen.new.keys)) }
 {
     if !see(seen, name)? {
         return Ok(None);

@@ -1,7 +1,10 @@
 //! Laws of types.
 
 ghost use Rattle.ned_inheritance.specs.Circles.{CirclesAreFound};
-ghost use Rattle.ned_inheritance.specs.Example.{ExampleBodies, ExampleChannels, ExampleExtending, ExampleFaults, ExampleGates, ExampleInsides, ExampleInterfaces, ExampleIsFlat, ExampleNetworks, ExampleParts};
+ghost use Rattle.ned_inheritance.specs.Example.{ExampleBodies, ExampleChannels, ExampleExtending};
+ghost use Rattle.ned_inheritance.specs.Example.{ExampleFaults, ExampleGates, ExampleInsides};
+ghost use Rattle.ned_inheritance.specs.Example.{ExampleInterfaces, ExampleIsFlat, ExampleNetworks};
+ghost use Rattle.ned_inheritance.specs.Example.{ExampleParts};
 
 /// The flat types of small examples, their faults, and those of bodies of submodules.
 pub fn examples()

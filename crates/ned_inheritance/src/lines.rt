@@ -2,7 +2,8 @@
 
 ghost use Rattle.std.specs.Prelude.{◌≡◌, [], map, IfOk, OnOk};
 ghost use Rattle.std.specs.Option.{option_copied};
-ghost use Rattle.ned_inheritance.specs.Inheritance.{all_behind, joined_behind, once_behind, types_in};
+ghost use Rattle.ned_inheritance.specs.Inheritance.{all_behind, joined_behind, once_behind};
+ghost use Rattle.ned_inheritance.specs.Inheritance.{types_in};
 ghost use Rattle.ned_inheritance.specs.Named.{AddsLine, LinesAlong, is_bare, kept_behind, line_at};
 
 use crate::named::NamedTypes;
@@ -86,7 +87,8 @@ pub(crate) fn add_lines_of<'a>(
     line: &mut NamedTypes<'a>,
     names: &[Text],
 ) -> Result<(), AllocError>
-    ensures { OnOk result (line.new ≡ joined_behind line.old (map (line_at lines.now.entries) names.now)) }
+    ensures { OnOk result (line.new
+        ≡ joined_behind line.old (map (line_at lines.now.entries) names.now)) }
 {
     let mut rest = names;
     'names: while let Some((name, after)) = rest.split_first() {

@@ -92,9 +92,11 @@ impl<'a> NamedTypes<'a> {
     /// Adds a type after the others, unless there is one of its name: then it stands in that one's
     /// place.
     pub(crate) fn add(&mut self, declared: &'a TypeDeclaration) -> Result<bool, AllocError>
-        ensures added { IfOk result (λ added. added ≡ not (is_type_named declared.now.name self.old)) }
+        ensures added { IfOk result
+            (λ added. added ≡ not (is_type_named declared.now.name self.old)) }
         ensures names { OnOk result (AddsName self.old self.new declared.now) }
-        ensures types { OnOk result (is_type_named declared.now.name self.old ≡ false → self.new ≡ self.old ++ declared.now ∷ []) }
+        ensures types { OnOk result (is_type_named declared.now.name self.old ≡ false
+            → self.new ≡ self.old ++ declared.now ∷ []) }
     {
         let before = self.types.insert(declared.name.as_bytes(), declared)?;
         Ok(before.is_none())

@@ -1,8 +1,10 @@
 //! The order in which types stand after all that they extend.
 
-ghost use Rattle.std.specs.Prelude.{◌≡◌, ◌++◌, ◌<◌, [], true, false, is_none, length, IfOk, IfSome, OnOk};
+ghost use Rattle.std.specs.Prelude.{◌≡◌, ◌++◌, ◌<◌, [], true, false, is_none, length, IfOk, IfSome};
+ghost use Rattle.std.specs.Prelude.{OnOk};
 ghost use Rattle.ned_inheritance.specs.Inheritance.{has_circle, types_in};
-ghost use Rattle.ned_inheritance.specs.Order.{are_ready, is_base_ready, is_name_ready, is_ready, AreAmong, AreStuck, IsOrder, IsUnderWay, TakesOne};
+ghost use Rattle.ned_inheritance.specs.Order.{are_ready, is_base_ready, is_name_ready, is_ready};
+ghost use Rattle.ned_inheritance.specs.Order.{AreAmong, AreStuck, IsOrder, IsUnderWay, TakesOne};
 ghost use Rattle.ned_types.specs.Types.{has_duplicate, is_interface_kind};
 
 use crate::named::NamedTypes;
@@ -127,7 +129,8 @@ fn take_one<'a>(
     waiting: &mut Vec<&'a TypeDeclaration>,
     declared: &'a TypeDeclaration,
 ) -> Result<bool, AllocError>
-    ensures { IfOk result (TakesOne named.now order.old order.new (types_in waiting.old.items) (types_in waiting.new.items) declared.now) }
+    ensures { IfOk result (TakesOne named.now order.old order.new (types_in waiting.old.items)
+        (types_in waiting.new.items) declared.now) }
 {
     if order.has(declared.name.as_bytes()) {
         return Ok(false);
@@ -151,8 +154,10 @@ fn take_ready<'a>(
     requires none { waiting.old.items ≡ [] }
     requires way { IsUnderWay named.now order.old (types_in types.now) }
     ensures way { OnOk result (IsUnderWay named.now order.new (types_in waiting.new.items)) }
-    ensures stuck { IfOk result (λ taken. taken ≡ false → AreStuck named.now order.new (types_in waiting.new.items)) }
-    ensures fewer { IfOk result (λ taken. taken ≡ true → length waiting.new.items < length types.now) }
+    ensures stuck { IfOk result
+        (λ taken. taken ≡ false → AreStuck named.now order.new (types_in waiting.new.items)) }
+    ensures fewer { IfOk result
+        (λ taken. taken ≡ true → length waiting.new.items < length types.now) }
 {
     let mut taken = false;
     let mut rest = types;
@@ -200,7 +205,8 @@ pub(crate) fn ordered<'a>(
     requires names { named.now ≡ types.now }
     requires apart { has_duplicate types.now ≡ false }
     ensures circle { IfOk result (λ order. is_none order ≡ has_circle types.now) }
-    ensures order { IfOk result (λ order. IfSome order (λ refs. IsOrder types.now (types_in refs.items))) }
+    ensures order { IfOk result
+        (λ order. IfSome order (λ refs. IsOrder types.now (types_in refs.items))) }
 {
     let mut order = NamedTypes::new(alloc);
     if take_all(alloc, named, &mut order, types)? {

@@ -4,8 +4,11 @@
 ghost use Rattle.std.specs.Prelude.{◌≡◌, ◌||◌, [], not, is_some, IfOk, OnOk};
 ghost use Rattle.std.specs.List.{list_any};
 ghost use Rattle.std.specs.Str.{bytes_eq};
-ghost use Rattle.ned_types.specs.Types.{section_clashes, is_declaration, declares, is_declared, redeclares, gives_fixed, is_fixed_in, sets_fixed_again, gives_undeclared};
-ghost use Rattle.ned_inheritance.specs.Seen.{names_in, is_in, AddsNames, redeclares_seen, gives_seen, sets_undeclared};
+ghost use Rattle.ned_types.specs.Types.{section_clashes, is_declaration, declares, is_declared};
+ghost use Rattle.ned_types.specs.Types.{redeclares, gives_fixed, is_fixed_in, sets_fixed_again};
+ghost use Rattle.ned_types.specs.Types.{gives_undeclared};
+ghost use Rattle.ned_inheritance.specs.Seen.{names_in, is_in, AddsNames, redeclares_seen};
+ghost use Rattle.ned_inheritance.specs.Seen.{gives_seen, sets_undeclared};
 
 use crate::places::Member;
 use indexmap::IndexSet;
@@ -31,7 +34,8 @@ pub(crate) fn section_clash(
 /// The first line that declares a parameter a second time, or else that gives a value to one that
 /// isn't declared.
 fn misdeclared(alloc: Global, lines: &[SectionLine]) -> Result<Option<Member>, AllocError>
-    ensures { IfOk result (λ member. is_some member ≡ (redeclares lines.now || gives_undeclared lines.now)) }
+    ensures { IfOk result
+        (λ member. is_some member ≡ (redeclares lines.now || gives_undeclared lines.now)) }
 {
     let mut declared = IndexSet::new(alloc);
     misdeclared_by(&mut declared, lines)
@@ -43,7 +47,8 @@ fn misdeclared_by<'a>(
     lines: &'a [SectionLine],
 ) -> Result<Option<Member>, AllocError>
     requires { declared.old.keys ≡ [] }
-    ensures { IfOk result (λ member. is_some member ≡ (redeclares lines.now || gives_undeclared lines.now)) }
+    ensures { IfOk result
+        (λ member. is_some member ≡ (redeclares lines.now || gives_undeclared lines.now)) }
 {
     let again = declared_again(see_declared(declared, lines)?);
     if again.is_some() {
@@ -99,8 +104,10 @@ pub(crate) fn see_declared<'a>(
     lines: &'a [SectionLine],
 ) -> Result<Option<usize>, AllocError>
     ensures again { IfOk result (λ again. is_some again
-        ≡ (list_any (redeclares_seen (names_in declared.old.keys)) lines.now || redeclares lines.now)) }
-    ensures names { OnOk result (AddsNames (names_in declared.old.keys) (λ n. is_declared n lines.now) (names_in declared.new.keys)) }
+        ≡ (list_any (redeclares_seen (names_in declared.old.keys)) lines.now
+        || redeclares lines.now)) }
+    ensures names { OnOk result (AddsNames (names_in declared.old.keys)
+        (λ n. is_declared n lines.now) (names_in declared.new.keys)) }
 {
     let mut again = None;
     let mut at = 0usize;
@@ -120,8 +127,10 @@ fn see_declaration<'a>(
     declared: &mut IndexSet<&'a [u8]>,
     line: &'a SectionLine,
 ) -> Result<bool, AllocError>
-    ensures again { IfOk result (λ again. again ≡ redeclares_seen (names_in declared.old.keys) line.now) }
-    ensures names { OnOk result (AddsNames (names_in declared.old.keys) (λ n. declares n line.now) (names_in declared.new.keys)) }
+    ensures again { IfOk result
+        (λ again. again ≡ redeclares_seen (names_in declared.old.keys) line.now) }
+    ensures names { OnOk result (AddsNames (names_in declared.old.keys) (λ n. declares n line.now)
+        (names_in declared.new.keys)) }
 {
     if !is_declaration(line) {
         return Ok(false);
@@ -135,7 +144,8 @@ pub(crate) fn see_fixed<'a>(
     fixed: &mut IndexSet<&'a [u8]>,
     lines: &'a [SectionLine],
 ) -> Result<(), AllocError>
-    ensures { OnOk result (AddsNames (names_in fixed.old.keys) (λ n. is_fixed_in n lines.now) (names_in fixed.new.keys)) }
+    ensures { OnOk result (AddsNames (names_in fixed.old.keys) (λ n. is_fixed_in n lines.now)
+        (names_in fixed.new.keys)) }
 {
     let mut rest = lines;
     'lines: while let Some((line, after)) = rest.split_first() {
@@ -147,7 +157,8 @@ pub(crate) fn see_fixed<'a>(
 
 /// Adds the name of the parameter that the line gives a fixed value, if it gives one.
 fn see_fixing<'a>(fixed: &mut IndexSet<&'a [u8]>, line: &'a SectionLine) -> Result<(), AllocError>
-    ensures { OnOk result (AddsNames (names_in fixed.old.keys) (λ n. gives_fixed n line.now) (names_in fixed.new.keys)) }
+    ensures { OnOk result (AddsNames (names_in fixed.old.keys) (λ n. gives_fixed n line.now)
+        (names_in fixed.new.keys)) }
 {
     if fixes(line) {
         see(fixed, name_in(line))?;
@@ -158,7 +169,8 @@ fn see_fixing<'a>(fixed: &mut IndexSet<&'a [u8]>, line: &'a SectionLine) -> Resu
 /// Adds a name. Answers whether it is new.
 pub(crate) fn see<'a>(seen: &mut IndexSet<&'a [u8]>, name: &'a [u8]) -> Result<bool, AllocError>
     ensures new { IfOk result (λ new. new ≡ not (is_in name.now (names_in seen.old.keys))) }
-    ensures names { OnOk result (AddsNames (names_in seen.old.keys) (λ n. bytes_eq name.now n) (names_in seen.new.keys)) }
+    ensures names { OnOk result
+        (AddsNames (names_in seen.old.keys) (λ n. bytes_eq name.now n) (names_in seen.new.keys)) }
 {
     Ok(seen.insert(name)?)
 }
@@ -178,7 +190,8 @@ fn one_gives_seen<'a>(
     lines: &'a [SectionLine],
 ) -> Result<Option<usize>, AllocError>
     ensures { IfOk result (λ at. is_some at
-        ≡ (list_any (gives_seen (names_in seen.old.keys)) lines.now || sets_fixed_again lines.now)) }
+        ≡ (list_any (gives_seen (names_in seen.old.keys)) lines.now
+        || sets_fixed_again lines.now)) }
 {
     let mut at = 0usize;
     let mut rest = lines;

@@ -1,7 +1,8 @@
 -- The grammar of what NED texts and ini texts share, over tokens (OMNeT++ Simulation Manual, "NED
 -- Language Grammar").
 use denote.Enum.Bare.{sameb}
-use Rattle.std.specs.Prelude.{ℕ, pos, Bool, true, false, List, Option, Some, None, if◌then◌else◌, codes}
+use Rattle.std.specs.Prelude.{ℕ, pos, Bool, true, false, List, Option, Some, None, if◌then◌else◌}
+use Rattle.std.specs.Prelude.{codes}
 use Rattle.std.specs.Str.{bytes_eq}
 use Rattle.sim_values.specs.declared.value.Value.{Value}
 use Rattle.sim_values.specs.declared.value.Value.TheVariants as values

@@ -24,7 +24,8 @@ use Rattle.ned_trees.specs.declared.connections.ConnectionItem.TheVariants as it
 use Rattle.ned_trees.specs.declared.connections.ConnectionSection.{ConnectionSection}
 use Rattle.ned_connections.specs.Grammar.{arrow_mark}
 use Rattle.ned_expressions.specs.Spelling.{expression_tokens}
-use Rattle.ned_read_back.specs.Sections.{listed_tokens, section_tokens, bracket_tokens, refined_size_tokens, in_braces}
+use Rattle.ned_read_back.specs.Sections.{listed_tokens, section_tokens, bracket_tokens}
+use Rattle.ned_read_back.specs.Sections.{refined_size_tokens, in_braces}
 
 -- `$i` or `$o`, where it is a half
 abbrev pub half_tokens : Option Half → List Token
@@ -45,7 +46,8 @@ end_gate_tokens g = token.Name g.name ∷ (half_tokens g.half ++ index_tokens g.
 -- the gate of a submodule, or of the module itself
 abbrev pub owned_tokens : Option Owner → Gate → List Token
 owned_tokens None g = end_gate_tokens g
-owned_tokens (Some o) g = token.Name o.name ∷ (refined_size_tokens o.index ++ token.Mark m.Dot ∷ end_gate_tokens g)
+owned_tokens (Some o) g =
+    token.Name o.name ∷ (refined_size_tokens o.index ++ token.Mark m.Dot ∷ end_gate_tokens g)
 
 -- an end
 abbrev pub end_tokens : End → List Token
@@ -64,15 +66,18 @@ channel_tokens (Some text) (line ∷ ls) = token.Name text ∷ block_tokens (lin
 -- [channel arrow] end
 abbrev pub behind_tokens : Arrow → Option Channel → End → List Token
 behind_tokens a None e = end_tokens e
-behind_tokens a (Some c) e = channel_tokens c.type_name c.lines ++ token.Mark (arrow_mark a) ∷ end_tokens e
+behind_tokens a (Some c) e =
+    channel_tokens c.type_name c.lines ++ token.Mark (arrow_mark a) ∷ end_tokens e
 
 -- end arrow [channel arrow] end
 abbrev pub connection_tokens : Connection → List Token
-connection_tokens c = end_tokens c.left ++ token.Mark (arrow_mark c.arrow) ∷ behind_tokens c.arrow c.channel c.right
+connection_tokens c =
+    end_tokens c.left ++ token.Mark (arrow_mark c.arrow) ∷ behind_tokens c.arrow c.channel c.right
 
 -- a loop or a condition
 abbrev pub clause_tokens : Clause → List Token
-clause_tokens (clauses_are.For l) = token.Word k.For ∷ token.Name l.variable ∷ token.Mark m.Equals ∷ (expression_tokens l.first ++ token.Mark m.DotDot ∷ expression_tokens l.last)
+clause_tokens (clauses_are.For l) = token.Word k.For ∷ token.Name l.variable ∷ token.Mark m.Equals
+    ∷ (expression_tokens l.first ++ token.Mark m.DotDot ∷ expression_tokens l.last)
 clause_tokens (clauses_are.If e) = token.Word k.If ∷ expression_tokens e
 
 -- "," clause
@@ -86,12 +91,14 @@ clauses_tokens (c ∷ cs) = clause_tokens c ++ listed_tokens next_clause_tokens 
 
 -- connection [clauses] ";"
 abbrev pub connection_line_tokens : ConnectionLine → List Token
-connection_line_tokens l = (connection_tokens l.connection ++ clauses_tokens l.clauses) ++ token.Mark m.Semi ∷ []
+connection_line_tokens l =
+    (connection_tokens l.connection ++ clauses_tokens l.clauses) ++ token.Mark m.Semi ∷ []
 
 -- an item
 abbrev pub item_tokens : ConnectionItem → List Token
 item_tokens (items.Line l) = connection_line_tokens l
-item_tokens (items.Group g) = clauses_tokens g.clauses ++ in_braces (listed_tokens connection_line_tokens g.lines)
+item_tokens (items.Group g) =
+    clauses_tokens g.clauses ++ in_braces (listed_tokens connection_line_tokens g.lines)
 
 -- `allowunconnected`, where gates may stay unconnected
 abbrev pub allowance_tokens : Bool → List Token
@@ -100,7 +107,8 @@ allowance_tokens false = []
 
 -- "connections" ["allowunconnected"] ":" { item }
 abbrev pub written_tokens : ConnectionSection → List Token
-written_tokens s = token.Word k.Connections ∷ (allowance_tokens s.allow_unconnected ++ token.Mark m.Colon ∷ listed_tokens item_tokens s.items)
+written_tokens s = token.Word k.Connections ∷ (allowance_tokens s.allow_unconnected
+    ++ token.Mark m.Colon ∷ listed_tokens item_tokens s.items)
 
 -- A section that says what none says is not written.
 abbrev pub section_there : Bool → List ConnectionItem → List Token → List Token

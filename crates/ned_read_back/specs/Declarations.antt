@@ -28,8 +28,21 @@ use Rattle.ned_trees.specs.declared.connections.ConnectionItem.{ConnectionItem}
 use Rattle.ned_connections.specs.ConnectionText.{IsConnectionText}
 use Rattle.ned_read_back.specs.Tokens.{spell}
 -- parameters and gates, and connections
-pub use Rattle.ned_read_back.specs.Sections.{listed_tokens, given_tokens, valued_tokens, unit_tokens, parameter_keyword, declaration_tokens, assignment_tokens, question_tokens, mode_tokens, next_mode_tokens, record_tokens, statistic_tokens, line_tokens, section_line_tokens, section_tokens, direction_keyword, bracket_tokens, size_tokens, refined_size_tokens, loose_tokens, gate_tokens, gate_line_tokens, gates_tokens, in_braces}
-pub use Rattle.ned_read_back.specs.Connections.{half_tokens, index_tokens, end_gate_tokens, owned_tokens, end_tokens, block_tokens, channel_tokens, behind_tokens, connection_tokens, clause_tokens, next_clause_tokens, clauses_tokens, connection_line_tokens, item_tokens, allowance_tokens, written_tokens, section_there, connections_tokens}
+pub use Rattle.ned_read_back.specs.Sections.{listed_tokens, given_tokens, valued_tokens}
+pub use Rattle.ned_read_back.specs.Sections.{unit_tokens, parameter_keyword, declaration_tokens}
+pub use Rattle.ned_read_back.specs.Sections.{assignment_tokens, question_tokens, mode_tokens}
+pub use Rattle.ned_read_back.specs.Sections.{next_mode_tokens, record_tokens, statistic_tokens}
+pub use Rattle.ned_read_back.specs.Sections.{line_tokens, section_line_tokens, section_tokens}
+pub use Rattle.ned_read_back.specs.Sections.{direction_keyword, bracket_tokens, size_tokens}
+pub use Rattle.ned_read_back.specs.Sections.{refined_size_tokens, loose_tokens, gate_tokens}
+pub use Rattle.ned_read_back.specs.Sections.{gate_line_tokens, gates_tokens, in_braces}
+pub use Rattle.ned_read_back.specs.Connections.{half_tokens, index_tokens, end_gate_tokens}
+pub use Rattle.ned_read_back.specs.Connections.{owned_tokens, end_tokens, block_tokens}
+pub use Rattle.ned_read_back.specs.Connections.{channel_tokens, behind_tokens, connection_tokens}
+pub use Rattle.ned_read_back.specs.Connections.{clause_tokens, next_clause_tokens, clauses_tokens}
+pub use Rattle.ned_read_back.specs.Connections.{connection_line_tokens, item_tokens}
+pub use Rattle.ned_read_back.specs.Connections.{allowance_tokens, written_tokens, section_there}
+pub use Rattle.ned_read_back.specs.Connections.{connections_tokens}
 
 -- ---- types
 
@@ -47,7 +60,9 @@ angle_tokens (Some v) = given_tokens v
 -- name | "<" [value] ">" "like" name
 abbrev pub submodule_type_tokens : SubmoduleType → List Token
 submodule_type_tokens (types_are.Named text) = token.Name text ∷ []
-submodule_type_tokens (types_are.Like t) = (token.Mark m.Less ∷ (angle_tokens t.given ++ token.Mark m.Greater ∷ [])) ++ token.Word k.Like ∷ token.Name t.interface ∷ []
+submodule_type_tokens (types_are.Like t) =
+    (token.Mark m.Less ∷ (angle_tokens t.given ++ token.Mark m.Greater ∷ [])) ++ token.Word k.Like
+    ∷ token.Name t.interface ∷ []
 
 -- `if ..`, where there is a condition
 abbrev pub condition_tokens : Option Expression → List Token
@@ -57,11 +72,14 @@ condition_tokens (Some e) = token.Word k.If ∷ expression_tokens e
 -- name [size] ":" type [condition] body
 abbrev pub submodule_tokens : Submodule → List Token
 submodule_tokens s =
-    token.Name s.name ∷ (refined_size_tokens s.size ++ token.Mark m.Colon ∷ (submodule_type_tokens s.submodule_type ++ (condition_tokens s.condition ++ body_tokens s.body.lines s.body.gates)))
+    token.Name s.name ∷ (refined_size_tokens s.size
+    ++ token.Mark m.Colon ∷ (submodule_type_tokens s.submodule_type
+    ++ (condition_tokens s.condition ++ body_tokens s.body.lines s.body.gates)))
 
 -- the submodules of a module or a network
 abbrev pub submodules_tokens : List Submodule → List Token
-submodules_tokens ss = token.Word k.Submodules ∷ token.Mark m.Colon ∷ listed_tokens submodule_tokens ss
+submodules_tokens ss =
+    token.Word k.Submodules ∷ token.Mark m.Colon ∷ listed_tokens submodule_tokens ss
 
 -- what a type extends
 abbrev pub base_tokens : Option (List ℕ) → List Token
@@ -75,7 +93,8 @@ next_name_tokens name = token.Mark m.Comma ∷ token.Name name ∷ []
 -- names after this word, where there are some
 abbrev pub names_tokens : Keyword → List (List ℕ) → List Token
 names_tokens w [] = []
-names_tokens w (name ∷ names) = token.Word w ∷ token.Name name ∷ listed_tokens next_name_tokens names
+names_tokens w (name ∷ names) =
+    token.Word w ∷ token.Name name ∷ listed_tokens next_name_tokens names
 
 -- the head of a type
 abbrev pub head_tokens : TypeDeclaration → List Token
@@ -83,24 +102,31 @@ head_tokens d = token.Name d.name ∷ (base_tokens d.base ++ names_tokens k.Like
 
 -- An interface has parameters and gates, and says after `extends` which interfaces it keeps.
 abbrev pub interface_tokens : Keyword → TypeDeclaration → List Token
-interface_tokens w d = token.Word w ∷ token.Name d.name ∷ (names_tokens k.Extends d.interfaces ++ in_braces (section_tokens d.lines ++ gates_tokens d.gates))
+interface_tokens w d = token.Word w ∷ token.Name d.name ∷ (names_tokens k.Extends d.interfaces
+    ++ in_braces (section_tokens d.lines ++ gates_tokens d.gates))
 
 -- the types within a type, each by its tokens, where there are some
 abbrev pub types_tokens : List (List Token) → List Token
 types_tokens [] = []
-types_tokens (ts ∷ tss) = token.Word k.Types ∷ token.Mark m.Colon ∷ listed_tokens (λ us. us) (ts ∷ tss)
+types_tokens (ts ∷ tss) =
+    token.Word k.Types ∷ token.Mark m.Colon ∷ listed_tokens (λ us. us) (ts ∷ tss)
 
 -- parameters, gates, types, submodules and connections
 abbrev pub inside_tokens : TypeDeclaration → List (List Token) → List Token
-inside_tokens d inner = section_tokens d.lines ++ (gates_tokens d.gates ++ (types_tokens inner ++ (submodules_tokens d.submodules ++ connections_tokens d.connections)))
+inside_tokens d inner = section_tokens d.lines ++ (gates_tokens d.gates ++ (types_tokens inner
+    ++ (submodules_tokens d.submodules ++ connections_tokens d.connections)))
 
 -- A simple module has parameters and gates, a module or a network an inside too, a channel
 -- parameters alone.
 abbrev pub kind_tokens : TypeKind → TypeDeclaration → List (List Token) → List Token
-kind_tokens kinds.Simple d inner = token.Word k.Simple ∷ (head_tokens d ++ in_braces (section_tokens d.lines ++ gates_tokens d.gates))
-kind_tokens kinds.Module d inner = token.Word k.Module ∷ (head_tokens d ++ in_braces (inside_tokens d inner))
-kind_tokens kinds.Network d inner = token.Word k.Network ∷ (head_tokens d ++ in_braces (inside_tokens d inner))
-kind_tokens kinds.Channel d inner = token.Word k.Channel ∷ (head_tokens d ++ in_braces (section_tokens d.lines))
+kind_tokens kinds.Simple d inner = token.Word k.Simple
+    ∷ (head_tokens d ++ in_braces (section_tokens d.lines ++ gates_tokens d.gates))
+kind_tokens kinds.Module d inner =
+    token.Word k.Module ∷ (head_tokens d ++ in_braces (inside_tokens d inner))
+kind_tokens kinds.Network d inner =
+    token.Word k.Network ∷ (head_tokens d ++ in_braces (inside_tokens d inner))
+kind_tokens kinds.Channel d inner =
+    token.Word k.Channel ∷ (head_tokens d ++ in_braces (section_tokens d.lines))
 kind_tokens kinds.ModuleInterface d inner = interface_tokens k.ModuleInterface d
 kind_tokens kinds.ChannelInterface d inner = interface_tokens k.ChannelInterface d
 
@@ -133,22 +159,27 @@ spelled_connection i = spell (item_tokens i)
 -- What a text declares is what its standard spelling declares, where that is small enough to be
 -- read.
 abbrev pub IsReadBack : List ℕ → Type 0
-IsReadBack bytes = (declared : NedFile) → IsNedFile bytes declared → length (spelled declared) ≤ max_length → IsNedFile (spelled declared) declared
+IsReadBack bytes = (declared : NedFile) → IsNedFile bytes declared
+    → length (spelled declared) ≤ max_length → IsNedFile (spelled declared) declared
 
 -- However long the standard spelling is, its tokens say what the text declares.
 abbrev pub SaysTheSame : List ℕ → Type 0
-SaysTheSame bytes = (declared : NedFile) → IsNedFile bytes declared → file.Is (tokens_of (spelled declared)) declared
+SaysTheSame bytes = (declared : NedFile) → IsNedFile bytes declared
+    → file.Is (tokens_of (spelled declared)) declared
 
 -- What an expression's text says is what its standard spelling says, where that is small enough to
 -- be read.
 abbrev pub ExpressionIsReadBack : List ℕ → Type 0
-ExpressionIsReadBack bytes = (e : Expression) → IsExpressionText bytes e → length (spelled_expression e) ≤ max_length → IsExpressionText (spelled_expression e) e
+ExpressionIsReadBack bytes = (e : Expression) → IsExpressionText bytes e
+    → length (spelled_expression e) ≤ max_length → IsExpressionText (spelled_expression e) e
 
 -- What the text of an item of connections says is what its standard spelling says, where that is
 -- small enough to be read.
 abbrev pub ConnectionIsReadBack : List ℕ → Type 0
-ConnectionIsReadBack bytes = (i : ConnectionItem) → IsConnectionText bytes i → length (spelled_connection i) ≤ max_length → IsConnectionText (spelled_connection i) i
+ConnectionIsReadBack bytes = (i : ConnectionItem) → IsConnectionText bytes i
+    → length (spelled_connection i) ≤ max_length → IsConnectionText (spelled_connection i) i
 
 -- What two texts declare is the same where it is spelled the same.
 abbrev pub SpellingDecides : List ℕ → List ℕ → Type 0
-SpellingDecides first second = (one other : NedFile) → IsNedFile first one → IsNedFile second other → spelled one ≡ spelled other → one ≡ other
+SpellingDecides first second = (one other : NedFile) → IsNedFile first one → IsNedFile second other
+    → spelled one ≡ spelled other → one ≡ other

@@ -37,7 +37,8 @@ listed_tokens f (x ∷ xs) = f x ++ listed_tokens f xs
 -- the expression, as `ned_expressions` spells it, or `default(..)`
 abbrev pub given_tokens : ParameterValue → List Token
 given_tokens (given.Fixed e) = expression_tokens e
-given_tokens (given.Default e) = token.Word k.Default ∷ token.Mark m.LeftParen ∷ (expression_tokens e ++ token.Mark m.RightParen ∷ [])
+given_tokens (given.Default e) = token.Word k.Default ∷ token.Mark m.LeftParen
+    ∷ (expression_tokens e ++ token.Mark m.RightParen ∷ [])
 
 -- `= ..`, where there is a value
 abbrev pub valued_tokens : Option ParameterValue → List Token
@@ -49,7 +50,8 @@ valued_tokens (Some v) = token.Mark m.Equals ∷ given_tokens v
 -- `@unit(..)` with the smallest unit, where there is one
 abbrev pub unit_tokens : Option Dimension → List Token
 unit_tokens None = []
-unit_tokens (Some d) = token.Mark m.At ∷ token.Name (codes "unit") ∷ token.Mark m.LeftParen ∷ token.Name (unit_text d) ∷ token.Mark m.RightParen ∷ []
+unit_tokens (Some d) = token.Mark m.At ∷ token.Name (codes "unit") ∷ token.Mark m.LeftParen
+    ∷ token.Name (unit_text d) ∷ token.Mark m.RightParen ∷ []
 
 -- the word that declares a parameter
 abbrev pub parameter_keyword : ParameterWord → Keyword
@@ -60,7 +62,8 @@ parameter_keyword words.Double = k.Double
 
 -- word name [unit] [value]
 abbrev pub declaration_tokens : Declaration → List Token
-declaration_tokens d = token.Word (parameter_keyword d.word) ∷ token.Name d.name ∷ (unit_tokens d.unit ++ valued_tokens d.value)
+declaration_tokens d = token.Word (parameter_keyword d.word) ∷ token.Name d.name
+    ∷ (unit_tokens d.unit ++ valued_tokens d.value)
 
 -- name [value]
 abbrev pub assignment_tokens : Assignment → List Token
@@ -82,20 +85,24 @@ next_mode_tokens r = token.Mark m.Comma ∷ mode_tokens r
 -- `; record = ..`, where there are modes
 abbrev pub record_tokens : List RecordedMode → List Token
 record_tokens [] = []
-record_tokens (r ∷ rs) = token.Mark m.Semi ∷ token.Name (codes "record") ∷ token.Mark m.Equals ∷ (mode_tokens r ++ listed_tokens next_mode_tokens rs)
+record_tokens (r ∷ rs) = token.Mark m.Semi ∷ token.Name (codes "record") ∷ token.Mark m.Equals
+    ∷ (mode_tokens r ++ listed_tokens next_mode_tokens rs)
 
 -- `@statistic[name](source = .. ; record = ..)`
 abbrev pub statistic_tokens : Statistic → List Token
 statistic_tokens s =
-    token.Mark m.At ∷ token.Name (codes "statistic") ∷ token.Mark m.LeftBracket ∷ token.Name s.name ∷ token.Mark m.RightBracket
-    ∷ token.Mark m.LeftParen ∷ token.Name (codes "source") ∷ token.Mark m.Equals ∷ token.Name s.source ∷ (record_tokens s.modes ++ token.Mark m.RightParen ∷ [])
+    token.Mark m.At ∷ token.Name (codes "statistic") ∷ token.Mark m.LeftBracket ∷ token.Name s.name
+    ∷ token.Mark m.RightBracket
+    ∷ token.Mark m.LeftParen ∷ token.Name (codes "source") ∷ token.Mark m.Equals
+    ∷ token.Name s.source ∷ (record_tokens s.modes ++ token.Mark m.RightParen ∷ [])
 
 -- A property without effect is written `@ignored`.
 abbrev pub line_tokens : SectionLine → List Token
 line_tokens (lines.Declaration d) = declaration_tokens d
 line_tokens (lines.Assignment a) = assignment_tokens a
 line_tokens (lines.Statistic s) = statistic_tokens s
-line_tokens (lines.Class text) = token.Mark m.At ∷ token.Name (codes "class") ∷ token.Mark m.LeftParen ∷ token.Name text ∷ token.Mark m.RightParen ∷ []
+line_tokens (lines.Class text) = token.Mark m.At ∷ token.Name (codes "class")
+    ∷ token.Mark m.LeftParen ∷ token.Name text ∷ token.Mark m.RightParen ∷ []
 line_tokens lines.Ignored = token.Mark m.At ∷ token.Name (codes "ignored") ∷ []
 
 -- line ";"
@@ -104,7 +111,8 @@ section_line_tokens line = line_tokens line ++ token.Mark m.Semi ∷ []
 
 -- the parameter section
 abbrev pub section_tokens : List SectionLine → List Token
-section_tokens ls = token.Word k.Parameters ∷ token.Mark m.Colon ∷ listed_tokens section_line_tokens ls
+section_tokens ls = token.Word k.Parameters ∷ token.Mark m.Colon
+    ∷ listed_tokens section_line_tokens ls
 
 -- ---- gates
 
@@ -116,7 +124,8 @@ direction_keyword directions.Inout = k.Inout
 
 -- `[..]` around the size of a vector
 abbrev pub bracket_tokens : Expression → List Token
-bracket_tokens e = token.Mark m.LeftBracket ∷ (expression_tokens e ++ token.Mark m.RightBracket ∷ [])
+bracket_tokens e = token.Mark m.LeftBracket
+    ∷ (expression_tokens e ++ token.Mark m.RightBracket ∷ [])
 
 -- `[]` or `[..]`, where the gate is a vector
 abbrev pub size_tokens : GateSize → List Token
@@ -136,8 +145,10 @@ loose_tokens false = []
 
 -- direction name size [loose] | name size [loose]
 abbrev pub gate_tokens : GateLine → List Token
-gate_tokens (gate_lines.Declaration g) = token.Word (direction_keyword g.direction) ∷ token.Name g.name ∷ (size_tokens g.size ++ loose_tokens g.loose)
-gate_tokens (gate_lines.Refinement g) = token.Name g.name ∷ (refined_size_tokens g.size ++ loose_tokens g.loose)
+gate_tokens (gate_lines.Declaration g) = token.Word (direction_keyword g.direction)
+    ∷ token.Name g.name ∷ (size_tokens g.size ++ loose_tokens g.loose)
+gate_tokens (gate_lines.Refinement g) =
+    token.Name g.name ∷ (refined_size_tokens g.size ++ loose_tokens g.loose)
 
 -- gate ";"
 abbrev pub gate_line_tokens : GateLine → List Token
@@ -146,7 +157,8 @@ gate_line_tokens g = gate_tokens g ++ token.Mark m.Semi ∷ []
 -- the gates, where there are some
 abbrev pub gates_tokens : List GateLine → List Token
 gates_tokens [] = []
-gates_tokens (g ∷ gs) = token.Word k.Gates ∷ token.Mark m.Colon ∷ listed_tokens gate_line_tokens (g ∷ gs)
+gates_tokens (g ∷ gs) =
+    token.Word k.Gates ∷ token.Mark m.Colon ∷ listed_tokens gate_line_tokens (g ∷ gs)
 
 -- `{ .. }`
 abbrev pub in_braces : List Token → List Token

@@ -1,6 +1,7 @@
 //! The standard spelling of declarations: what they are written as, and that it is read as them.
 
-ghost use Rattle.ned_read_back.specs.Declarations.{ConnectionIsReadBack, ExpressionIsReadBack, IsReadBack, SaysTheSame, SpellingDecides};
+ghost use Rattle.ned_read_back.specs.Declarations.{ConnectionIsReadBack, ExpressionIsReadBack};
+ghost use Rattle.ned_read_back.specs.Declarations.{IsReadBack, SaysTheSame, SpellingDecides};
 ghost use Rattle.ned_read_back.specs.Example.{ExampleIsSpelled};
 
 /// What a text declares, written in the standard spelling and read again, is the same.

@@ -1,6 +1,7 @@
 -- Types within others, and which type a name means.
 -- OMNeT++ Simulation Manual, "Inner Types", "Type Name Resolution".
-use Rattle.std.specs.Prelude.{ℕ, zero, suc, List, [], ◌∷◌, ◌++◌, length, map, Option, Some, None, option_map, if◌then◌else◌, codes}
+use Rattle.std.specs.Prelude.{ℕ, zero, suc, List, [], ◌∷◌, ◌++◌, length, map, Option, Some, None}
+use Rattle.std.specs.Prelude.{option_map, if◌then◌else◌, codes}
 use Rattle.ned_trees.specs.declared.connections.Channel.{Channel}
 use Rattle.ned_trees.specs.declared.connections.Connection.{Connection}
 use Rattle.ned_trees.specs.declared.connections.ConnectionItem.{ConnectionItem}
@@ -52,7 +53,8 @@ known_below outer (t ∷ ts) = t outer ++ known_below outer ts
 
 -- a type, and then those within it, where what gives those within it stands in place of them
 abbrev pub known_step : NestedType-F (List ℕ → List Known) → List ℕ → List Known
-known_step t outer = known_as (inner_name outer t.declared.name) t.declared ∷ known_below (inner_name outer t.declared.name) t.types
+known_step t outer = known_as (inner_name outer t.declared.name) t.declared
+    ∷ known_below (inner_name outer t.declared.name) t.types
 
 -- a type within the one of that full name, and all types within it
 abbrev pub known_from : NestedType → List ℕ → List Known
@@ -65,23 +67,27 @@ known_within outer types = known_below outer (map known_from types)
 -- all types within those of files
 abbrev pub inner_types : List NestedType → List Known
 inner_types [] = []
-inner_types (t ∷ ts) = known_within (out-NestedType t).declared.name (out-NestedType t).types ++ inner_types ts
+inner_types (t ∷ ts) =
+    known_within (out-NestedType t).declared.name (out-NestedType t).types ++ inner_types ts
 
 -- the types of files, each with all within it
 abbrev pub all_types : List NestedType → List Known
 all_types [] = []
-all_types (t ∷ ts) = known_as (out-NestedType t).declared.name (out-NestedType t).declared ∷ (known_within (out-NestedType t).declared.name (out-NestedType t).types ++ all_types ts)
+all_types (t ∷ ts) = known_as (out-NestedType t).declared.name (out-NestedType t).declared
+    ∷ (known_within (out-NestedType t).declared.name (out-NestedType t).types ++ all_types ts)
 
 -- the types by their full names: all, and those within others
 abbrev pub types_by_name : List NestedType → TypesByName
-types_by_name types = record { all = all_behind [] (all_types types); inner = all_behind [] (inner_types types) }
+types_by_name types =
+    record { all = all_behind [] (all_types types); inner = all_behind [] (inner_types types) }
 
 -- ---- scopes
 
 -- the scopes from the first one on that declares the name; none where no scope does
 abbrev pub declaring : TypesByName → List (List ℕ) → List ℕ → List (List ℕ)
 declaring types [] name = []
-declaring types (scope ∷ scopes) name = if is_known types.inner (inner_name scope name) then scope ∷ scopes else declaring types scopes name
+declaring types (scope ∷ scopes) name = if is_known types.inner (inner_name scope name)
+    then scope ∷ scopes else declaring types scopes name
 
 -- THE TYPE THAT IS MEANT by a name that is looked up in these scopes: that of the first scope that
 -- declares it, or else what has that name globally
@@ -94,13 +100,15 @@ meant types scopes name = full_name (declaring types scopes name) name
 abbrev pub bases_within : ℕ → TypesByName → List (List ℕ) → Option (List ℕ) → List (List ℕ)
 bases_within n types scopes None = []
 bases_within zero types scopes (Some base) = []
-bases_within (suc n) types scopes (Some base) = meant types scopes base ∷ bases_within n types (declaring types scopes base) (base_named types.all (meant types scopes base))
+bases_within (suc n) types scopes (Some base) = meant types scopes base ∷ bases_within n types
+    (declaring types scopes base) (base_named types.all (meant types scopes base))
 
 -- THE SCOPES of what stands within a type, whose head is looked up in these: the type itself, and
 -- all that it extends, perhaps by way of others, as no line without a circle has more types than
 -- there are
 abbrev pub scopes_of : TypesByName → List (List ℕ) → TypeDeclaration → List (List ℕ)
-scopes_of types scopes t = full_name scopes t.name ∷ bases_within (length types.all) types scopes t.base
+scopes_of types scopes t =
+    full_name scopes t.name ∷ bases_within (length types.all) types scopes t.base
 
 -- ---- types whose names mean one type everywhere
 
@@ -124,33 +132,54 @@ own_class (scope ∷ scopes) t = class_line t.kind t.base t.name
 -- the type of a submodule, or the interface after `like`, looked up in these scopes
 abbrev pub meant_type : TypesByName → List (List ℕ) → SubmoduleType → SubmoduleType
 meant_type types scopes (submodule_type.Named name) = submodule_type.Named (meant types scopes name)
-meant_type types scopes (submodule_type.Like p) = submodule_type.Like (record { given = p.given; interface = meant types scopes p.interface })
+meant_type types scopes (submodule_type.Like p) =
+    submodule_type.Like (record { given = p.given; interface = meant types scopes p.interface })
 
 -- a submodule, whose type is looked up in these scopes
 abbrev pub resolved_submodule : TypesByName → List (List ℕ) → Submodule → Submodule
-resolved_submodule types scopes s = record { name = s.name; size = s.size; submodule_type = meant_type types scopes s.submodule_type; condition = s.condition; body = s.body }
+resolved_submodule types scopes s = record {
+  name = s.name;
+  size = s.size;
+  submodule_type =
+      meant_type types scopes s.submodule_type;
+  condition = s.condition;
+  body = s.body;
+}
 
 -- the channel of a connection, whose type is looked up in these scopes
 abbrev pub resolved_channel : TypesByName → List (List ℕ) → Channel → Channel
-resolved_channel types scopes c = record { type_name = option_map (meant types scopes) c.type_name; lines = c.lines }
+resolved_channel types scopes c =
+    record { type_name = option_map (meant types scopes) c.type_name; lines = c.lines }
 
 abbrev pub resolved_connection : TypesByName → List (List ℕ) → Connection → Connection
-resolved_connection types scopes c = record { left = c.left; arrow = c.arrow; channel = option_map (resolved_channel types scopes) c.channel; right = c.right }
+resolved_connection types scopes c = record {
+  left = c.left;
+  arrow = c.arrow;
+  channel = option_map (resolved_channel types scopes) c.channel;
+  right = c.right;
+}
 
 abbrev pub resolved_line : TypesByName → List (List ℕ) → ConnectionLine → ConnectionLine
-resolved_line types scopes l = record { connection = resolved_connection types scopes l.connection; clauses = l.clauses }
+resolved_line types scopes l =
+    record { connection = resolved_connection types scopes l.connection; clauses = l.clauses }
 
 abbrev pub resolved_item : TypesByName → List (List ℕ) → ConnectionItem → ConnectionItem
 resolved_item types scopes (item.Line l) = item.Line (resolved_line types scopes l)
-resolved_item types scopes (item.Group g) = item.Group (record { clauses = g.clauses; lines = map (resolved_line types scopes) g.lines })
+resolved_item types scopes (item.Group g) =
+    item.Group (record { clauses = g.clauses; lines = map (resolved_line types scopes) g.lines })
 
 -- a section of connections, whose channels' types are looked up in these scopes
-abbrev pub resolved_connections : TypesByName → List (List ℕ) → ConnectionSection → ConnectionSection
-resolved_connections types scopes c = record { allow_unconnected = c.allow_unconnected; items = map (resolved_item types scopes) c.items }
+abbrev pub resolved_connections : TypesByName → List (List ℕ) → ConnectionSection
+    → ConnectionSection
+resolved_connections types scopes c = record {
+  allow_unconnected = c.allow_unconnected;
+  items = map (resolved_item types scopes) c.items;
+}
 
 -- A TYPE WITH FULL NAMES: its head is looked up in the first scopes, and what stands within it in
 -- the others
-abbrev pub resolved : TypesByName → List (List ℕ) → List (List ℕ) → TypeDeclaration → TypeDeclaration
+abbrev pub resolved : TypesByName → List (List ℕ) → List (List ℕ) → TypeDeclaration
+    → TypeDeclaration
 resolved types scopes own t = record {
   kind = t.kind;
   name = full_name scopes t.name;
@@ -162,13 +191,16 @@ resolved types scopes own t = record {
   connections = resolved_connections types own t.connections;
 }
 
-abbrev pub resolved_below : List (List ℕ) → List (List (List ℕ) → List TypeDeclaration) → List TypeDeclaration
+abbrev pub resolved_below : List (List ℕ) → List (List (List ℕ) → List TypeDeclaration)
+    → List TypeDeclaration
 resolved_below scopes [] = []
 resolved_below scopes (t ∷ ts) = t scopes ++ resolved_below scopes ts
 
 -- a type, and then those within it, where what gives those within it stands in place of them
-abbrev pub resolved_step : TypesByName → NestedType-F (List (List ℕ) → List TypeDeclaration) → List (List ℕ) → List TypeDeclaration
-resolved_step types t scopes = resolved types scopes (scopes_of types scopes t.declared) t.declared ∷ resolved_below (scopes_of types scopes t.declared) t.types
+abbrev pub resolved_step : TypesByName → NestedType-F (List (List ℕ) → List TypeDeclaration)
+    → List (List ℕ) → List TypeDeclaration
+resolved_step types t scopes = resolved types scopes (scopes_of types scopes t.declared) t.declared
+    ∷ resolved_below (scopes_of types scopes t.declared) t.types
 
 -- a type and all types within it, where these are the scopes of its head
 abbrev pub resolved_from : TypesByName → NestedType → List (List ℕ) → List TypeDeclaration

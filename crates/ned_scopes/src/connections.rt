@@ -2,7 +2,8 @@
 //! are meant.
 
 ghost use Rattle.std.specs.Prelude.{◌≡◌, ◌++◌, map, option_map, IfOk, OnOk};
-ghost use Rattle.ned_scopes.specs.Scopes.{meant, resolved_channel, resolved_connection, resolved_connections, resolved_item, resolved_line};
+ghost use Rattle.ned_scopes.specs.Scopes.{meant, resolved_channel, resolved_connection};
+ghost use Rattle.ned_scopes.specs.Scopes.{resolved_connections, resolved_item, resolved_line};
 
 use crate::copies::{copy_base, copy_expression, copy_lines};
 use crate::known::TypesByName;
@@ -201,7 +202,8 @@ fn resolved_channel(
     scopes: &[Text],
     channel: &Option<Channel>,
 ) -> Result<Option<Channel>, AllocError>
-    ensures { IfOk result (λ c. c ≡ option_map (resolved_channel types.now scopes.now) channel.now) }
+    ensures { IfOk result
+        (λ c. c ≡ option_map (resolved_channel types.now scopes.now) channel.now) }
 {
     match channel {
         Some(channel) => Ok(Some(Channel {

@@ -2,7 +2,9 @@
 
 ghost use Rattle.std.specs.Prelude.{◌≡◌, ◌++◌, option_map, map, IfOk, OnOk};
 ghost use Rattle.ned_scopes.specs.Known.{is_known};
-ghost use Rattle.ned_scopes.specs.Scopes.{declaring, full_name, inner_name, meant, meant_type, own_class, class_line, resolved, resolved_submodule, scopes_of};
+ghost use Rattle.ned_scopes.specs.Scopes.{declaring, full_name, inner_name, meant, meant_type};
+ghost use Rattle.ned_scopes.specs.Scopes.{own_class, class_line, resolved, resolved_submodule};
+ghost use Rattle.ned_scopes.specs.Scopes.{scopes_of};
 
 use crate::connections::resolved_connections;
 use crate::copies::{add_lines, copy_body, copy_expression, copy_gates, copy_lines, copy_optional};
@@ -41,7 +43,8 @@ fn declares(
     scope: &Text,
     name: &Text,
 ) -> Result<bool, AllocError>
-    ensures { IfOk result (λ known. known ≡ is_known types.now.inner (inner_name scope.now name.now)) }
+    ensures { IfOk result
+        (λ known. known ≡ is_known types.now.inner (inner_name scope.now name.now)) }
 {
     let full = inner_name(alloc, scope, name)?;
     Ok(types.inner.has(&full))
@@ -182,7 +185,8 @@ fn resolved_submodules(
     scopes: &[Text],
     submodules: &[Submodule],
 ) -> Result<Items<Submodule>, AllocError>
-    ensures { IfOk result (λ all. all ≡ map (resolved_submodule types.now scopes.now) submodules.now) }
+    ensures { IfOk result
+        (λ all. all ≡ map (resolved_submodule types.now scopes.now) submodules.now) }
 {
     let mut all = Items::new(alloc);
     for submodule in submodules {
@@ -197,7 +201,8 @@ fn add_class_line(
     lines: &mut Items<SectionLine>,
     declared: &TypeDeclaration,
 ) -> Result<(), AllocError>
-    ensures { OnOk result (lines.new ≡ lines.old ++ class_line declared.now.kind declared.now.base declared.now.name) }
+    ensures { OnOk result (lines.new
+        ≡ lines.old ++ class_line declared.now.kind declared.now.base declared.now.name) }
 {
     match (declared.kind, &declared.base) {
         (TypeKind::Simple, None) => {
@@ -214,7 +219,8 @@ fn resolved_lines(
     scopes: &[Text],
     declared: &TypeDeclaration,
 ) -> Result<Items<SectionLine>, AllocError>
-    ensures { IfOk result (λ lines. lines ≡ declared.now.lines ++ own_class scopes.now declared.now) }
+    ensures { IfOk result
+        (λ lines. lines ≡ declared.now.lines ++ own_class scopes.now declared.now) }
 {
     let mut lines = copy_lines(alloc, declared.lines.as_slice())?;
     if !scopes.is_empty() {

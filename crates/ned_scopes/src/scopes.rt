@@ -2,7 +2,9 @@
 
 ghost use Rattle.std.specs.Prelude.{◌≡◌, [], ◌++◌, IfOk, OnOk};
 ghost use Rattle.ned_scopes.specs.Known.{all_behind};
-ghost use Rattle.ned_scopes.specs.Scopes.{all_types, inner_types, known_as, known_from, known_within, nested_of, resolved_from, resolved_within, types_by_name, types_of};
+ghost use Rattle.ned_scopes.specs.Scopes.{all_types, inner_types, known_as, known_from};
+ghost use Rattle.ned_scopes.specs.Scopes.{known_within, nested_of, resolved_from, resolved_within};
+ghost use Rattle.ned_scopes.specs.Scopes.{types_by_name, types_of};
 
 use crate::copies::copy_base;
 use crate::known::{Known, KnownTypes, TypesByName};
@@ -148,7 +150,8 @@ fn resolved_types(
     inner: KnownTypes,
 ) -> Result<Items<TypeDeclaration>, AllocError>
     requires { inner ≡ all_behind [] (inner_types nested.now) }
-    ensures { IfOk result (λ list. list ≡ resolved_within (types_by_name nested.now) [] nested.now) }
+    ensures { IfOk result
+        (λ list. list ≡ resolved_within (types_by_name nested.now) [] nested.now) }
 {
     let (inner, all) = pair_after(inner, all_types(alloc, nested))?;
     let types = TypesByName { all, inner };

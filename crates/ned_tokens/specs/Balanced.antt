@@ -1,5 +1,6 @@
 -- Tokens up to the parenthesis that closes.
-use Rattle.std.specs.Prelude.{◌≡◌, ℕ, zero, suc, Bool, true, false, List, [], ◌∷◌, length, Ok, Err, ◌+◌, Option, Some, None}
+use Rattle.std.specs.Prelude.{◌≡◌, ℕ, zero, suc, Bool, true, false, List, [], ◌∷◌, length, Ok, Err}
+use Rattle.std.specs.Prelude.{◌+◌, Option, Some, None}
 use Rattle.ned_tokens.specs.declared.token.Token.{Token}
 use Rattle.ned_tokens.specs.Rule.{Rule, Reading, ◌>>=◌}
 
@@ -32,7 +33,8 @@ IsBalanced turn n (t ∷ ts) = turned (turn t) (λ k. IsBalanced turn k ts) n
 abbrev pub with_token : Token → Reading (List Token) → Reading (List Token)
 with_token t read = read >>= λ x. Ok (t ∷ x.0, x.1)
 
-abbrev pub read_turn : Turn → (ℕ → Reading (List Token)) → ℕ → Token → List Token → Reading (List Token)
+abbrev pub read_turn : Turn → (ℕ → Reading (List Token)) → ℕ → Token → List Token
+    → Reading (List Token)
 read_turn opens f n t ts = with_token t (f (suc n))
 read_turn stays f n t ts = with_token t (f n)
 read_turn closes f zero t ts = Ok ([], t ∷ ts)

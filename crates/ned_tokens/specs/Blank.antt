@@ -32,4 +32,5 @@ pub record IsBlankLine (line : Bytes) : Type 0 where
 
 -- A blank line outside a text in quotes may be left out: the tokens stay the same.
 abbrev pub SaysNothing : Bytes → Bytes → Bytes → Type 0
-SaysNothing front line back = IsBlankLine line → inside_behind false (lines_of (front ++ 10 ∷ [])) ≡ false → tokens_of (front ++ 10 ∷ (line ++ 10 ∷ back)) ≡ tokens_of (front ++ 10 ∷ back)
+SaysNothing front line back = IsBlankLine line → inside_behind false (lines_of (front ++ 10 ∷ []))
+    ≡ false → tokens_of (front ++ 10 ∷ (line ++ 10 ∷ back)) ≡ tokens_of (front ++ 10 ∷ back)

@@ -1,5 +1,6 @@
 -- The values of digits.
-use Rattle.std.specs.Prelude.{ℕ, ◌+◌, ◌-◌, ◌*◌, ◌^◌, [], ◌∷◌, Option, Some, None, nat_lt, nat_le, if◌then◌else◌}
+use Rattle.std.specs.Prelude.{ℕ, ◌+◌, ◌-◌, ◌*◌, ◌^◌, [], ◌∷◌, Option, Some, None, nat_lt, nat_le}
+use Rattle.std.specs.Prelude.{if◌then◌else◌}
 use Rattle.ned_tokens.specs.declared.runs.Class.{Class}
 use Rattle.ned_tokens.specs.declared.runs.Class.TheVariants as class
 use Rattle.ned_tokens.specs.Runs.{Bytes}

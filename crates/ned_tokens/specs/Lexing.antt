@@ -1,5 +1,6 @@
 -- The tokens of a line, from left to right, each as long as it can be.
-use Rattle.std.specs.Prelude.{ℕ, zero, suc, Bool, true, false, ◌&&◌, ◌||◌, List, [], ◌∷◌, length, ◌==◌, if◌then◌else◌, Option, Some, None}
+use Rattle.std.specs.Prelude.{ℕ, zero, suc, Bool, true, false, ◌&&◌, ◌||◌, List, [], ◌∷◌, length}
+use Rattle.std.specs.Prelude.{◌==◌, if◌then◌else◌, Option, Some, None}
 use Rattle.std.specs.Str.{is_utf8}
 use Rattle.ned_tokens.specs.declared.runs.Class.TheVariants as class
 use Rattle.ned_tokens.specs.declared.token.Keyword.{Keyword}
@@ -59,7 +60,9 @@ behind_literal t = t.0 ∷ scanned t.1
 -- The tokens of a line that begins inside a text in quotes, or outside one. A line that isn't UTF-8
 -- is broken.
 unfoldable pub line_tokens : Bool → Bytes → List Token
-line_tokens inside line = if is_utf8 line then (if inside then behind_literal (literal_from false (Some []) line) else scanned line) else token.Broken ∷ []
+line_tokens inside line = if is_utf8 line
+    then (if inside then behind_literal (literal_from false (Some []) line) else scanned line)
+    else token.Broken ∷ []
 
 abbrev pub is_open : Token → Bool
 is_open token.OpenLiteral = true

@@ -1,5 +1,6 @@
 -- Marks: the longest that the bytes begin with.
-use Rattle.std.specs.Prelude.{ℕ, ◌&&◌, Option, Some, None, if◌then◌else◌, ◌==◌, drop, slice_index, option_map}
+use Rattle.std.specs.Prelude.{ℕ, ◌&&◌, Option, Some, None, if◌then◌else◌, ◌==◌, drop, slice_index}
+use Rattle.std.specs.Prelude.{option_map}
 use Rattle.ned_tokens.specs.declared.token.Mark.{Mark}
 use Rattle.ned_tokens.specs.declared.token.Mark.TheVariants as m
 use Rattle.ned_tokens.specs.declared.token.Token.{Token}
@@ -10,7 +11,8 @@ use Rattle.ned_tokens.specs.Words.{or_else}
 -- the arrows `<-->`, `<--` and `-->`, with the number of bytes after the first
 unfoldable pub arrow_of : ℕ → ℕ → ℕ → ℕ → Option (Mark × ℕ)
 arrow_of a b c d =
-    if a == 60 && b == 45 && c == 45 then (if d == 62 then Some (m.ArrowBoth, 3) else Some (m.ArrowLeft, 2))
+    if a == 60 && b == 45 && c == 45
+    then (if d == 62 then Some (m.ArrowBoth, 3) else Some (m.ArrowLeft, 2))
     else (if a == 45 && b == 45 && c == 62 then Some (m.ArrowRight, 2) else None)
 
 -- a mark of two bytes

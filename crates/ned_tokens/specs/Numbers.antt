@@ -25,7 +25,8 @@ behind_prefix (a ∷ b ∷ bs) = if a == 48 && b == 120 then Some bs else None
 
 abbrev pub number_from : Option Bytes → Bytes → Token × Bytes
 number_from (Some hex) bs = (number_of class.Hex (run class.Hex hex), behind class.Hex hex)
-number_from None bs = if begins_quantity (behind class.Digit bs) then quantity_at bs else (number_of class.Digit (run class.Digit bs), behind class.Digit bs)
+number_from None bs = if begins_quantity (behind class.Digit bs) then quantity_at bs
+    else (number_of class.Digit (run class.Digit bs), behind class.Digit bs)
 
 -- the number or the quantities with which the bytes begin, and what is after them
 unfoldable pub number_at : Bytes → Token × Bytes

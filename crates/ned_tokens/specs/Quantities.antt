@@ -1,7 +1,9 @@
 -- Quantities: digits, perhaps a point and digits, and right after them a unit. Several in a row,
 -- separated by nothing or by spaces and tabs, are summed (OMNeT++ Simulation Manual, "Quantities
 -- with Units").
-use Rattle.std.specs.Prelude.{◌≡◌, ◌↔◌, ℕ, zero, suc, ◌+◌, ◌*◌, ◌/◌, ◌%◌, ◌^◌, Bool, false, ◌&&◌, ◌||◌, [], ◌∷◌, length, Option, Some, None, ◌==◌, if◌then◌else◌, option_map}
+use Rattle.std.specs.Prelude.{◌≡◌, ◌↔◌, ℕ, zero, suc, ◌+◌, ◌*◌, ◌/◌, ◌%◌, ◌^◌, Bool, false, ◌&&◌}
+use Rattle.std.specs.Prelude.{◌||◌, [], ◌∷◌, length, Option, Some, None, ◌==◌, if◌then◌else◌}
+use Rattle.std.specs.Prelude.{option_map}
 use Rattle.sim_values.specs.declared.value.Dimension.{Dimension}
 pub use Rattle.sim_values.specs.Dimensions.{same_dimension}
 use Rattle.ned_tokens.specs.declared.runs.Class.TheVariants as class
@@ -31,7 +33,8 @@ rest_of (b ∷ bs) = bs
 
 -- the digits after a point, and what is after them
 abbrev pub fraction_at : Bytes → Bytes × Bytes
-fraction_at bs = if begins_fraction bs then (run class.Digit (rest_of bs), behind class.Digit (rest_of bs)) else ([], bs)
+fraction_at bs = if begins_fraction bs
+    then (run class.Digit (rest_of bs), behind class.Digit (rest_of bs)) else ([], bs)
 
 -- a tenth of a number that tens make up
 abbrev pub tenth : ℕ → Option ℕ
@@ -45,11 +48,13 @@ part_of factor (d ∷ ds) = and_then (part_of factor ds) (λ part. tenth (part +
 
 -- The digits before the point count whole units. The amount is below 2^63.
 abbrev pub amount_of : ℕ → Bytes → Bytes → Option ℕ
-amount_of factor whole fraction = and_then (part_of factor fraction) (λ part. below_limit (value_of class.Digit whole * factor + part))
+amount_of factor whole fraction = and_then (part_of factor fraction)
+    (λ part. below_limit (value_of class.Digit whole * factor + part))
 
 -- the dimension and the amount of a number of units
 abbrev pub measured : Bytes → Bytes → Bytes → Option (Dimension × ℕ)
-measured unit whole fraction = and_then (unit_of unit) (λ u. option_map (λ n. (u.0, n)) (amount_of u.1 whole fraction))
+measured unit whole fraction =
+    and_then (unit_of unit) (λ u. option_map (λ n. (u.0, n)) (amount_of u.1 whole fraction))
 
 -- one quantity: its dimension and amount, if it has them, and what is after it
 abbrev pub piece_from : Bytes → Bytes × Bytes → Option (Dimension × ℕ) × Bytes
@@ -60,14 +65,16 @@ piece_at bs = piece_from (run class.Digit bs) (fraction_at (behind class.Digit b
 
 -- the sum of two amounts of one dimension, below 2^63
 abbrev pub added : Option (Dimension × ℕ) → Option (Dimension × ℕ) → Option (Dimension × ℕ)
-added a b = and_then a (λ x. and_then b (λ y. if same_dimension x.0 y.0 then option_map (λ n. (x.0, n)) (below_limit (x.1 + y.1)) else None))
+added a b = and_then a (λ x. and_then b (λ y. if same_dimension x.0 y.0
+    then option_map (λ n. (x.0, n)) (below_limit (x.1 + y.1)) else None))
 
 -- the amount so far, and what is after it; the number counts down, and the length is enough
 unfoldable pub pieces_from : ℕ → Option (Dimension × ℕ) → Bytes → Option (Dimension × ℕ) × Bytes
 pieces_from zero sum bs = (sum, bs)
 pieces_from (suc n) sum bs =
     if begins class.Digit (behind class.Space bs)
-    then pieces_from n (added sum (piece_at (behind class.Space bs)).0) (piece_at (behind class.Space bs)).1
+    then pieces_from n (added sum (piece_at (behind class.Space bs)).0)
+    (piece_at (behind class.Space bs)).1
     else (sum, bs)
 
 -- all quantities in a row after a first one, summed
@@ -88,4 +95,5 @@ quantity_at bs = row_token (row_from (piece_at bs).0 (piece_at bs).1)
 -- The digits after the point, of a unit of so many, say the whole number p exactly where p, ten
 -- times as much for each digit, is the number that the digits spell times the unit.
 abbrev pub PartIsExact : ℕ → Bytes → Type 0
-PartIsExact factor ds = (p : ℕ) → (part_of factor ds ≡ Some p) ↔ (p * 10 ^ length ds ≡ value_of class.Digit ds * factor)
+PartIsExact factor ds = (p : ℕ)
+    → (part_of factor ds ≡ Some p) ↔ (p * 10 ^ length ds ≡ value_of class.Digit ds * factor)

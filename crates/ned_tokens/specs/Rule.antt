@@ -1,6 +1,8 @@
 -- Rules of a grammar over tokens. A rule says which tokens spell which value, and how the value at
 -- the front is read.
-use Rattle.std.specs.Prelude.{◌≡◌, ℕ, zero, suc, Bool, true, false, ◌&&◌, ◌||◌, List, [], ◌∷◌, ◌++◌, length, Option, Some, None, Result, Ok, Err, ◌⊎◌, if◌then◌else◌, is_some}
+use Rattle.std.specs.Prelude.{◌≡◌, ℕ, zero, suc, Bool, true, false, ◌&&◌, ◌||◌, List, [], ◌∷◌, ◌++◌}
+use Rattle.std.specs.Prelude.{length, Option, Some, None, Result, Ok, Err, ◌⊎◌, if◌then◌else◌}
+use Rattle.std.specs.Prelude.{is_some}
 use Rattle.std.specs.Borrow.{Bor}
 use Rattle.ned_tokens.specs.declared.token.Token.{Token}
 use Rattle.ned_tokens.specs.declared.refusal.Refusal.{Refusal}
@@ -53,13 +55,15 @@ token f = record {
 
 -- ---- one after the other
 
-abbrev pub pair_read : {X Y : Type 0} → (List Token → Reading X) → (List Token → Reading Y) → List Token → Reading (X × Y)
+abbrev pub pair_read : {X Y : Type 0} → (List Token → Reading X) → (List Token → Reading Y)
+    → List Token → Reading (X × Y)
 pair_read a b ts = a ts >>= λ x. b x.1 >>= λ y. Ok ((x.0, y.0), y.1)
 
 infixr 6 ◌⊗◌
 abbrev pub ◌⊗◌ : {X Y : Type 0} → Rule X → Rule Y → Rule (X × Y)
 a ⊗ b = record {
-  Is = λ ts x. (front : List Token) × (back : List Token) × (ts ≡ front ++ back) × a.Is front x.0 × b.Is back x.1;
+  Is = λ ts x. (front : List Token) × (back : List Token) × (ts ≡ front ++ back) × a.Is front x.0
+      × b.Is back x.1;
   read = pair_read a.read b.read;
   starts = λ t. a.starts t || (a.empty && b.starts t);
   goes_on = λ t. b.goes_on t || (b.empty && a.goes_on t);
@@ -124,11 +128,14 @@ optional r = record {
 
 abbrev pub many_is : {X : Type 0} → (List Token → X → Type 0) → List X → List Token → Type 0
 many_is Is [] ts = ts ≡ []
-many_is Is (x ∷ xs) ts = (front : List Token) × (back : List Token) × (ts ≡ front ++ back) × Is front x × many_is Is xs back
+many_is Is (x ∷ xs) ts = (front : List Token) × (back : List Token) × (ts ≡ front ++ back)
+    × Is front x × many_is Is xs back
 
-unfoldable pub many_read : {X : Type 0} → (Token → Bool) → (List Token → Reading X) → ℕ → List Token → Reading (List X)
+unfoldable pub many_read : {X : Type 0} → (Token → Bool) → (List Token → Reading X) → ℕ → List Token
+    → Reading (List X)
 many_read starts read zero ts = Ok ([], ts)
-many_read starts read (suc n) ts = if begins starts ts then (read ts >>= λ x. many_read starts read n x.1 >>= λ xs. Ok (x.0 ∷ xs.0, xs.1)) else Ok ([], ts)
+many_read starts read (suc n) ts = if begins starts ts then (read ts
+    >>= λ x. many_read starts read n x.1 >>= λ xs. Ok (x.0 ∷ xs.0, xs.1)) else Ok ([], ts)
 
 abbrev pub many : {X : Type 0} → Rule X → Rule (List X)
 many r = record {
@@ -142,7 +149,8 @@ many r = record {
 -- ---- a rule that is never empty, with the tokens named with which it may begin and go on
 
 abbrev pub sealed : {X : Type 0} → (Token → Bool) → (Token → Bool) → Rule X → Rule X
-sealed starts goes_on r = record { Is = r.Is; read = r.read; starts = starts; goes_on = goes_on; empty = false }
+sealed starts goes_on r =
+    record { Is = r.Is; read = r.read; starts = starts; goes_on = goes_on; empty = false }
 
 -- ---- shorthands
 
@@ -177,7 +185,8 @@ Gives view (Err e) read = Fails e read
 
 -- What a reader returned, a value and the tokens after it, is what the rule reads of these tokens,
 -- unless memory ran out.
-abbrev pub Reads : {X : Type 0} → Rule X → List Token → Result (X × Bor (List Token)) Refusal → Type 0
+abbrev pub Reads : {X : Type 0} → Rule X → List Token
+    → Result (X × Bor (List Token)) Refusal → Type 0
 Reads rule ts result = Gives (λ x. (x.0, x.1.now)) result (rule.read ts)
 
 -- ---- all of the tokens

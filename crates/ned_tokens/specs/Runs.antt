@@ -1,5 +1,6 @@
 -- Classes of bytes, and the longest run of one.
-use Rattle.std.specs.Prelude.{ℕ, Bool, false, ◌&&◌, ◌||◌, List, [], ◌∷◌, nat_le, ◌==◌, if◌then◌else◌}
+use Rattle.std.specs.Prelude.{ℕ, Bool, false, ◌&&◌, ◌||◌, List, [], ◌∷◌, nat_le, ◌==◌}
+use Rattle.std.specs.Prelude.{if◌then◌else◌}
 use Rattle.ned_tokens.specs.declared.runs.Class.{Class}
 use Rattle.ned_tokens.specs.declared.runs.Class.TheVariants as class
 

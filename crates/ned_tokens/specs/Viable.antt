@@ -27,4 +27,5 @@ pub record IsFirstBad {X : Type 0} (r : Rule X) (ts : List Token) (left : ℕ) :
 
 -- the line of the first token that can't go on; where the tokens ran out, that of the last byte
 abbrev pub IsFirstBadLine : {X : Type 0} → Rule X → Bytes → ℕ → Type 0
-IsFirstBadLine r bytes line = (left : ℕ) × IsFirstBad r (tokens_of bytes) left × (line ≡ blamed_line bytes left)
+IsFirstBadLine r bytes line =
+    (left : ℕ) × IsFirstBad r (tokens_of bytes) left × (line ≡ blamed_line bytes left)

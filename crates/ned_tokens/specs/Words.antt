@@ -68,4 +68,5 @@ value_word word =
 
 -- the word that these bytes spell
 unfoldable pub keyword_of : Bytes → Option Keyword
-keyword_of word = or_else (head_word word) (or_else (section_word word) (or_else (member_word word) (value_word word)))
+keyword_of word = or_else (head_word word)
+    (or_else (section_word word) (or_else (member_word word) (value_word word)))

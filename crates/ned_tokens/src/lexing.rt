@@ -59,7 +59,8 @@ fn is_slash_next(bytes: &[u8]) -> bool
 /// The token with which the bytes begin, and what is after it; none at the end or a comment.
 #[tactic(auto, unfolding(crate::specs::Lexing::token_of))]
 fn token_of(alloc: Global, bytes: &[u8]) -> Result<Option<(Token, &[u8])>, AllocError>
-    ensures { IfOk result (λ found. lex.token_of bytes.now ≡ option_map (λ x. (x.0, x.1.now)) found) }
+    ensures { IfOk result
+        (λ found. lex.token_of bytes.now ≡ option_map (λ x. (x.0, x.1.now)) found) }
 {
     match bytes {
         [] => Ok(None),
@@ -105,8 +106,10 @@ fn scan(
     lines: &mut Vec<usize>,
 ) -> Result<bool, AllocError>
     ensures tokens { OnOk result (tokens.new.items ≡ tokens.old.items ++ lex.scanned bytes.now) }
-    ensures lines { OnOk result (lines.new.items ≡ lines.old.items ++ numbered_by number (lex.scanned bytes.now)) }
-    ensures carried { IfOk result (λ carried. carried ≡ ends_open was_open (lex.scanned bytes.now)) }
+    ensures lines { OnOk result (lines.new.items
+        ≡ lines.old.items ++ numbered_by number (lex.scanned bytes.now)) }
+    ensures carried { IfOk result
+        (λ carried. carried ≡ ends_open was_open (lex.scanned bytes.now)) }
 {
     let mut rest = bytes;
     let mut carried = was_open;
@@ -134,9 +137,12 @@ fn add_from_inside(
     tokens: &mut Vec<Token>,
     lines: &mut Vec<usize>,
 ) -> Result<bool, AllocError>
-    ensures tokens { OnOk result (tokens.new.items ≡ tokens.old.items ++ lex.behind_literal (literal_from false (Some []) line.now)) }
-    ensures lines { OnOk result (lines.new.items ≡ lines.old.items ++ numbered_by number (lex.behind_literal (literal_from false (Some []) line.now))) }
-    ensures carried { IfOk result (λ carried. carried ≡ ends_open false (lex.behind_literal (literal_from false (Some []) line.now))) }
+    ensures tokens { OnOk result (tokens.new.items
+        ≡ tokens.old.items ++ lex.behind_literal (literal_from false (Some []) line.now)) }
+    ensures lines { OnOk result (lines.new.items ≡ lines.old.items
+        ++ numbered_by number (lex.behind_literal (literal_from false (Some []) line.now))) }
+    ensures carried { IfOk result (λ carried. carried
+        ≡ ends_open false (lex.behind_literal (literal_from false (Some []) line.now))) }
 {
     let (token, after) = literal(alloc, line)?;
     let carried = add(token, number, tokens, lines)?;
@@ -154,9 +160,12 @@ pub(crate) fn line_tokens(
     tokens: &mut Vec<Token>,
     lines: &mut Vec<usize>,
 ) -> Result<bool, AllocError>
-    ensures tokens { OnOk result (tokens.new.items ≡ tokens.old.items ++ lex.line_tokens inside line.now) }
-    ensures lines { OnOk result (lines.new.items ≡ lines.old.items ++ numbered_by number (lex.line_tokens inside line.now)) }
-    ensures carried { IfOk result (λ carried. carried ≡ ends_open false (lex.line_tokens inside line.now)) }
+    ensures tokens { OnOk result (tokens.new.items
+        ≡ tokens.old.items ++ lex.line_tokens inside line.now) }
+    ensures lines { OnOk result (lines.new.items
+        ≡ lines.old.items ++ numbered_by number (lex.line_tokens inside line.now)) }
+    ensures carried { IfOk result
+        (λ carried. carried ≡ ends_open false (lex.line_tokens inside line.now)) }
 {
     if !is_text(line) {
         return add(Token::Broken, number, tokens, lines);

@@ -32,7 +32,8 @@ fn literal_token(found: Vec<u8>, proper: bool) -> Token
 
 /// Adds what a byte stands for to a text, or notes that it stands for nothing.
 fn put(found: &mut Vec<u8>, proper: &mut bool, byte: Option<u8>) -> Result<(), AllocError>
-    ensures { OnOk result (literals.held proper.new found.new.items ≡ literals.with_byte (literals.held proper.old found.old.items) byte) }
+    ensures { OnOk result (literals.held proper.new found.new.items
+        ≡ literals.with_byte (literals.held proper.old found.old.items) byte) }
 {
     match byte {
         Some(b) => found.push(b)?,

@@ -1,6 +1,7 @@
 -- The channels that every file knows, with their parameters.
 -- OMNeT++ Simulation Manual, "Channels".
-use Rattle.std.specs.Prelude.{ℕ, pos, false, List, [], ◌∷◌, ◌++◌, Option, Some, None, if◌then◌else◌, codes}
+use Rattle.std.specs.Prelude.{ℕ, pos, false, List, [], ◌∷◌, ◌++◌, Option, Some, None, if◌then◌else◌}
+use Rattle.std.specs.Prelude.{codes}
 use Rattle.std.specs.Str.{bytes_eq}
 use Rattle.sim_values.specs.declared.value.Dimension.{Dimension}
 use Rattle.sim_values.specs.declared.value.Dimension.TheVariants.{Time, Rate}
@@ -15,7 +16,12 @@ use Rattle.ned_trees.specs.declared.declarations.SectionLine.TheVariants as line
 
 -- `WORD NAME @unit(UNIT) = default(VALUE);`
 abbrev pub built_in_line : List ℕ → ParameterWord → Option Dimension → Value → SectionLine
-built_in_line name w unit v = line.Declaration (record { name = name; word = w; unit = unit; value = Some (parameter_value.Default (expression.Literal v)) })
+built_in_line name w unit v = line.Declaration (record {
+  name = name;
+  word = w;
+  unit = unit;
+  value = Some (parameter_value.Default (expression.Literal v));
+})
 
 -- `double delay @unit(s) = default(0s); bool disabled = default(false);`
 abbrev pub delay_lines : List SectionLine
@@ -33,7 +39,8 @@ error_lines =
 
 -- `double datarate @unit(bps) = default(0bps);`, and those
 abbrev pub rate_lines : List SectionLine
-rate_lines = built_in_line (codes "datarate") word.Double (Some Rate) (values.Quantity Rate (pos 0)) ∷ error_lines
+rate_lines = built_in_line (codes "datarate") word.Double (Some Rate) (values.Quantity Rate (pos 0))
+    ∷ error_lines
 
 -- the lines of the built-in channel of that name: an IdealChannel has none
 abbrev pub built_in_lines : List ℕ → List SectionLine

@@ -1,6 +1,7 @@
 -- What may be wrong with the channels of connections, and all that may be wrong with a type.
 -- OMNeT++ Simulation Manual, "Channels", "Connections".
-use Rattle.std.specs.Prelude.{ℕ, Bool, true, false, not, ◌||◌, List, [], ◌∷◌, Option, Some, None, if◌then◌else◌, codes}
+use Rattle.std.specs.Prelude.{ℕ, Bool, true, false, not, ◌||◌, List, [], ◌∷◌, Option, Some, None}
+use Rattle.std.specs.Prelude.{if◌then◌else◌, codes}
 use Rattle.std.specs.List.{list_any}
 use Rattle.ned_trees.specs.declared.connections.Channel.{Channel}
 use Rattle.ned_trees.specs.declared.connections.ConnectionItem.{ConnectionItem}
@@ -10,7 +11,9 @@ use Rattle.ned_trees.specs.declared.declarations.SectionLine.{SectionLine}
 use Rattle.ned_trees.specs.declared.declarations.TypeDeclaration.{TypeDeclaration}
 use Rattle.ned_types.specs.Channels.{built_in_lines}
 use Rattle.ned_types.specs.Flat.{named_or}
-use Rattle.ned_types.specs.Types.{body_clashes, is_built_in, is_channel_kind, is_given, is_type_named, redeclares_gate, section_clashes, submodules_clash, type_named}
+use Rattle.ned_types.specs.Types.{body_clashes, is_built_in, is_channel_kind, is_given}
+use Rattle.ned_types.specs.Types.{is_type_named, redeclares_gate, section_clashes, submodules_clash}
+use Rattle.ned_types.specs.Types.{type_named}
 
 -- ---- channels of connections
 
@@ -33,7 +36,8 @@ abbrev pub is_channel_unknown : List TypeDeclaration → ConnectionLine → Bool
 is_channel_unknown types l = names_no_channel types l.connection.channel
 
 abbrev pub has_unknown_channel : List TypeDeclaration → List ConnectionItem → Bool
-has_unknown_channel types items = list_any (λ i. list_any (λ l. is_channel_unknown types l) (connections_of i)) items
+has_unknown_channel types items =
+    list_any (λ i. list_any (λ l. is_channel_unknown types l) (connections_of i)) items
 
 -- whether the channel of a connection has an unknown name
 abbrev pub has_unknown_channels : List TypeDeclaration → Bool
@@ -41,14 +45,16 @@ has_unknown_channels types = list_any (λ t. has_unknown_channel types t.connect
 
 -- whether the lines give one of these parameters a value
 abbrev pub sets_rate : List SectionLine → Bool
-sets_rate lines = is_given (codes "datarate") lines || (is_given (codes "ber") lines || is_given (codes "per") lines)
+sets_rate lines = is_given (codes "datarate") lines
+    || (is_given (codes "ber") lines || is_given (codes "per") lines)
 
 abbrev pub sets_delay : List SectionLine → Bool
 sets_delay lines = is_given (codes "delay") lines || is_given (codes "disabled") lines
 
 -- the built-in channel that a block alone means: it tells it by what it sets
 abbrev pub channel_of_block : List SectionLine → List ℕ
-channel_of_block lines = if sets_rate lines then codes "DatarateChannel" else (if sets_delay lines then codes "DelayChannel" else codes "IdealChannel")
+channel_of_block lines = if sets_rate lines then codes "DatarateChannel"
+    else (if sets_delay lines then codes "DelayChannel" else codes "IdealChannel")
 
 -- the name of a channel's type: the one that is written, or that which its block means
 abbrev pub channel_name : Channel → List ℕ
@@ -61,7 +67,8 @@ lines_of_channel (Some t) = if is_channel_kind t.kind then Some t.lines else Non
 
 -- the lines of the channel of that name: a built-in one or one of these types
 abbrev pub channel_lines : List TypeDeclaration → List ℕ → Option (List SectionLine)
-channel_lines types name = if is_built_in name then Some (built_in_lines name) else lines_of_channel (type_named name types)
+channel_lines types name = if is_built_in name then Some (built_in_lines name)
+    else lines_of_channel (type_named name types)
 
 -- whether a block can't stand over the lines of its channel, or there is no such channel
 abbrev pub block_clashes : List SectionLine → Option (List SectionLine) → Bool
@@ -78,7 +85,8 @@ line_clashes types l = channel_clashes types l.connection.channel
 -- whether what the channel of a connection names is no channel, or its block can't stand over the
 -- lines of that channel
 abbrev pub connections_clash : List TypeDeclaration → List ConnectionItem → Bool
-connections_clash types items = list_any (λ i. list_any (λ l. line_clashes types l) (connections_of i)) items
+connections_clash types items =
+    list_any (λ i. list_any (λ l. line_clashes types l) (connections_of i)) items
 
 -- ---- all clashes
 
@@ -86,7 +94,8 @@ connections_clash types items = list_any (λ i. list_any (λ l. line_clashes typ
 -- undeclared parameter or after a fixed one, a submodule's type isn't one of modules, the body of a
 -- submodule clashes with its type, or the channel of a connection does
 abbrev pub clashes : List TypeDeclaration → TypeDeclaration → Bool
-clashes types t = section_clashes t.lines || (redeclares_gate t.gates || (submodules_clash types t.submodules || connections_clash types t.connections.items))
+clashes types t = section_clashes t.lines || (redeclares_gate t.gates
+    || (submodules_clash types t.submodules || connections_clash types t.connections.items))
 
 abbrev pub has_clash : List TypeDeclaration → Bool
 has_clash types = list_any (λ t. clashes types t) types

@@ -1,5 +1,6 @@
 -- What a type is when it stands alone.
-use Rattle.std.specs.Prelude.{ℕ, Bool, false, List, [], ◌∷◌, ◌++◌, Option, Some, None, option_to_list, if◌then◌else◌}
+use Rattle.std.specs.Prelude.{ℕ, Bool, false, List, [], ◌∷◌, ◌++◌, Option, Some, None}
+use Rattle.std.specs.Prelude.{option_to_list, if◌then◌else◌}
 use Rattle.std.specs.List.{list_any}
 use Rattle.std.specs.Str.{bytes_eq}
 use Rattle.ned_trees.specs.declared.declarations.Declaration.{Declaration}
@@ -24,7 +25,8 @@ last_value name (l ∷ ls) = or_else (last_value name ls) (if gives name l then 
 -- the parameter of that name, as declared
 abbrev pub declaration_named : List ℕ → List SectionLine → Option Declaration
 declaration_named name [] = None
-declaration_named name (line.Declaration d ∷ ls) = if bytes_eq d.name name then Some d else declaration_named name ls
+declaration_named name (line.Declaration d ∷ ls) =
+    if bytes_eq d.name name then Some d else declaration_named name ls
 declaration_named name (_ ∷ ls) = declaration_named name ls
 
 -- the class that the lines name, the first one
@@ -69,12 +71,14 @@ last_statistic name (l ∷ ls) = or_else (last_statistic name ls) (statistic_nam
 -- a name gives the place, and the last one the statistic
 abbrev pub statistic_at : List SectionLine → SectionLine → List SectionLine → Option Statistic
 statistic_at before (line.Statistic s) after =
-    if is_statistic_declared s.name before then None else or_else (last_statistic s.name after) (Some s)
+    if is_statistic_declared s.name before then None
+    else or_else (last_statistic s.name after) (Some s)
 statistic_at before _ after = None
 
 abbrev pub statistics_after : List SectionLine → List SectionLine → List Statistic
 statistics_after before [] = []
-statistics_after before (l ∷ ls) = option_to_list (statistic_at before l ls) ++ statistics_after (before ++ l ∷ []) ls
+statistics_after before (l ∷ ls) =
+    option_to_list (statistic_at before l ls) ++ statistics_after (before ++ l ∷ []) ls
 
 -- the statistics that lines declare, in the order of the first line of each name; a later line of a
 -- name stands in the place of an earlier one

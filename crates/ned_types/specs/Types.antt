@@ -1,5 +1,6 @@
 -- The types that files declare, and what may be wrong with those that extend nothing.
-use Rattle.std.specs.Prelude.{ℕ, Bool, true, false, not, ◌||◌, ◌&&◌, List, [], ◌∷◌, Option, Some, None, is_some, if◌then◌else◌, codes, ◌==◌}
+use Rattle.std.specs.Prelude.{ℕ, Bool, true, false, not, ◌||◌, ◌&&◌, List, [], ◌∷◌, Option, Some}
+use Rattle.std.specs.Prelude.{None, is_some, if◌then◌else◌, codes, ◌==◌}
 use Rattle.std.specs.List.{list_any}
 use Rattle.std.specs.Str.{bytes_eq}
 use Rattle.ned_trees.specs.declared.declarations.GateSize.{GateSize}
@@ -15,7 +16,9 @@ use Rattle.ned_trees.specs.declared.declarations.SubmoduleType.{SubmoduleType}
 use Rattle.ned_trees.specs.declared.declarations.SubmoduleType.TheVariants as submodule_type
 use Rattle.ned_trees.specs.declared.declarations.TypeDeclaration.{TypeDeclaration}
 use Rattle.ned_trees.specs.declared.declarations.TypeKind.{TypeKind}
-use Rattle.ned_trees.specs.declared.declarations.TypeKind.TheVariants.{Simple, Module, Network, Channel, ModuleInterface, ChannelInterface}
+use Rattle.ned_trees.specs.declared.declarations.TypeKind.TheVariants.{Simple, Module, Network}
+use Rattle.ned_trees.specs.declared.declarations.TypeKind.TheVariants.{Channel, ModuleInterface}
+use Rattle.ned_trees.specs.declared.declarations.TypeKind.TheVariants.{ChannelInterface}
 
 -- the first type of that name
 abbrev pub type_named : List ℕ → List TypeDeclaration → Option TypeDeclaration
@@ -30,7 +33,8 @@ is_type_named name types = list_any (λ t. bytes_eq t.name name) types
 
 -- whether a built-in channel has that name
 abbrev pub is_built_in : List ℕ → Bool
-is_built_in name = bytes_eq name (codes "IdealChannel") || bytes_eq name (codes "DelayChannel") || bytes_eq name (codes "DatarateChannel")
+is_built_in name = bytes_eq name (codes "IdealChannel") || bytes_eq name (codes "DelayChannel")
+    || bytes_eq name (codes "DatarateChannel")
 
 -- whether two types have one name, or one the name of a built-in channel
 abbrev pub has_duplicate : List TypeDeclaration → Bool
@@ -111,7 +115,8 @@ is_given name lines = list_any (λ l. gives name l) lines
 -- whether a parameter with a fixed value is given another one
 abbrev pub sets_fixed_again : List SectionLine → Bool
 sets_fixed_again [] = false
-sets_fixed_again (l ∷ ls) = (is_fixed (value_in l) && is_given (name_in l) ls) || sets_fixed_again ls
+sets_fixed_again (l ∷ ls) =
+    (is_fixed (value_in l) && is_given (name_in l) ls) || sets_fixed_again ls
 
 -- ---- bodies of submodules
 
@@ -295,7 +300,8 @@ abbrev pub section_clashes : List SectionLine → Bool
 section_clashes lines = redeclares lines || (gives_undeclared lines || sets_fixed_again lines)
 
 abbrev pub submodules_clash : List TypeDeclaration → List Submodule → Bool
-submodules_clash types submodules = repeats_submodule submodules || (has_other_kind types submodules || (bodies_clash types submodules || bodies_declare submodules))
+submodules_clash types submodules = repeats_submodule submodules || (has_other_kind types submodules
+    || (bodies_clash types submodules || bodies_declare submodules))
 
 -- ---- gates
 

@@ -3,7 +3,10 @@
 ghost use Rattle.std.specs.Prelude.{◌≡◌, ◌++◌, IfOk, OnOk};
 ghost use Rattle.std.specs.Option.{option_copied, option_map};
 ghost use Rattle.ned_types.specs.Types.{type_name};
-ghost use Rattle.ned_types.specs.Flat.{declares_statistic, last_value, declaration_named, class_in, class_of, submodule_named, is_statistic_declared, statistic_named, last_statistic, statistic_at, statistics_of};
+ghost use Rattle.ned_types.specs.Flat.{declares_statistic, last_value, declaration_named, class_in};
+ghost use Rattle.ned_types.specs.Flat.{class_of, submodule_named, is_statistic_declared};
+ghost use Rattle.ned_types.specs.Flat.{statistic_named, last_statistic, statistic_at};
+ghost use Rattle.ned_types.specs.Flat.{statistics_of};
 
 use crate::given::{gives, value_in};
 use ned_trees::declarations::{

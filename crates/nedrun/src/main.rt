@@ -1,7 +1,8 @@
 //! Runs a network of modules from its files, and writes the result files of the run.
 #![tactic(auto)]
 
-ghost use Rattle.std.specs.Prelude.{◌≡◌, ◌≢◌, ◌≤◌, ◌⊎◌, ◌&&◌, [], Some, Err, IsErrAnd, IsSomeAnd, IfErr, IfOk, OnOk, string_bytes};
+ghost use Rattle.std.specs.Prelude.{◌≡◌, ◌≢◌, ◌≤◌, ◌⊎◌, ◌&&◌, [], Some, Err, IsErrAnd, IsSomeAnd};
+ghost use Rattle.std.specs.Prelude.{IfErr, IfOk, OnOk, string_bytes};
 ghost use Rattle.model_data.specs.declared.model.Model.{Model};
 ghost use Rattle.model_reading.specs.Models.{IsModelOf, IsRuledOut, Refuses};
 ghost use Rattle.module_stock.specs.Stock.{stock};
@@ -47,17 +48,22 @@ fn serve_user<'a, R: Files + Input + Print + Eprint + Clock + AllocGlobal>(
     // What the user hears is what the plain machine says to what the user asks.
     ensures served { IfOk result (λ r. (model : Model)
         × IsModelOf sources.now.texts.now sources.now.ini.now (string_bytes words.now.config) model
-        × Ends stock (fresh_machine model words.now.interval) r.0.dialogue.transcript.asked r.0.dialogue.transcript.heard r.1) }
+        × Ends stock (fresh_machine model words.now.interval) r.0.dialogue.transcript.asked
+        r.0.dialogue.transcript.heard r.1) }
     // What is asked: the run of the words, then to write its files, then the lines of standard
     // input;
-    ensures asked { IfOk result (λ r. AsksInOrder words.now.limit r.0.dialogue.at_terminal r.0.dialogue.ask r.0.dialogue.transcript.asked
+    ensures asked { IfOk result (λ r. AsksInOrder words.now.limit r.0.dialogue.at_terminal
+        r.0.dialogue.ask r.0.dialogue.transcript.asked
         r.0.dialogue.lines.source.given.bytes r.0.dialogue.lines.buffer) }
     // and nothing that it gave is left unasked up to `quit`, unless the user can't go on, or a
     // device fails, and knows why.
-    ensures stopped { IfOk result (λ r. at_stop (((r.0.dialogue.ask ≡ ask.Line) × (r.0.dialogue.lines.buffer.bytes ≡ [])) ⊎ (r.0.dialogue.ask ≡ ask.Nothing))
-        (IsSomeAnd r.0.stop (IsReason r.0.dialogue.lines.buffer)) (λ _ _. IsSomeAnd r.0.stop IsLost) r.1) }
+    ensures stopped { IfOk result (λ r. at_stop (((r.0.dialogue.ask ≡ ask.Line)
+        × (r.0.dialogue.lines.buffer.bytes ≡ [])) ⊎ (r.0.dialogue.ask ≡ ask.Nothing))
+        (IsSomeAnd r.0.stop (IsReason r.0.dialogue.lines.buffer))
+        (λ _ _. IsSomeAnd r.0.stop IsLost) r.1) }
     // The user knows whether the last run ended in a fault.
-    ensures fault { IfOk result (λ r. r.0.dialogue.has_fault ≡ ends_in_fault r.0.dialogue.transcript.heard) }
+    ensures fault { IfOk result
+        (λ r. r.0.dialogue.has_fault ≡ ends_in_fault r.0.dialogue.transcript.heard) }
     // It is refused only where the texts are, and for that reason.
     ensures refused { IfErr result (λ fault.
         Refuses sources.now.texts.now sources.now.ini.now (string_bytes words.now.config) fault) }
@@ -121,9 +127,11 @@ fn session<R: Files + Input + Print + Eprint + Clock + AllocGlobal>(
 ) -> Result<(), ExitReason>
     requires interval { 1 ≤ words.now.interval }
     ensures served { OnOk result ((model : Model)
-        × IsModelOf sources.now.texts.now sources.now.ini.now (string_bytes words.now.config) model) }
+        × IsModelOf sources.now.texts.now sources.now.ini.now
+        (string_bytes words.now.config) model) }
     ensures early { IfErr result (EndsEarly
-        sources.now.texts.now sources.now.ini.now (string_bytes words.now.config) words.now.strict) }
+        sources.now.texts.now sources.now.ini.now (string_bytes words.now.config)
+        words.now.strict) }
 {
     let served = serve_user(rt, words, sources, at_terminal, reports_progress);
     ended(rt, words, sources, served)

@@ -28,7 +28,8 @@ IsUnmade directory s = Fails (codes "this folder can't be made") directory s
 -- why a user asks nothing: the folder of the result files can't be made, or the dialogue asks
 -- nothing
 abbrev pub IsAskless : List ℕ → Ask → ℕ → ℕ → Waiting → ExitReason → Type 0
-IsAskless directory a failures failures' waiting s = IsUnmade directory s ⊎ IsUnasked a failures failures' waiting s
+IsAskless directory a failures failures' waiting s =
+    IsUnmade directory s ⊎ IsUnasked a failures failures' waiting s
 
 -- what is told of a stream of the user, of a file or the folder of a run, or of a file that a
 -- command names

@@ -1,6 +1,7 @@
 //! Who asks by lines of standard input, and hears by lines of standard output.
 
-ghost use Rattle.std.specs.Prelude.{◌≡◌, ◌⊎◌, ◌<◌, [], ◌∷◌, ◌++◌, Some, None, IsSomeAnd, IfSome, IfOk, IfErr, OnOk, OnErr, codes, string_bytes};
+ghost use Rattle.std.specs.Prelude.{◌≡◌, ◌⊎◌, ◌<◌, [], ◌∷◌, ◌++◌, Some, None, IsSomeAnd, IfSome};
+ghost use Rattle.std.specs.Prelude.{IfOk, IfErr, OnOk, OnErr, codes, string_bytes};
 ghost use Rattle.nedrun_client.specs.Devices.{path_of};
 ghost use Rattle.nedrun_client.specs.Stops.{IsAskless, IsLost, IsOneUnwritable, IsReason, IsUntold};
 ghost use Rattle.explain_types.specs.Names.{shown};
@@ -10,7 +11,8 @@ ghost use Rattle.nedrun_script.specs.Typing.{AsksNext};
 ghost use Rattle.nedrun_exit.specs.declared.stops.ExitReason.{ExitReason as StopValue};
 ghost use Rattle.nedrun_files.specs.Devices.{taken_by, unwritten};
 ghost use Rattle.nedrun_files.specs.Paths.{file_path};
-ghost use Rattle.nedrun_files.specs.Stops.{IsShortOf, IsShortOfRun, IsUnreadable, IsUnsaid, IsUnwritable};
+ghost use Rattle.nedrun_files.specs.Stops.{IsShortOf, IsShortOfRun, IsUnreadable, IsUnsaid};
+ghost use Rattle.nedrun_files.specs.Stops.{IsUnwritable};
 ghost use Rattle.result_lines.specs.Taken.{untouched};
 ghost use Rattle.desk_client.specs.Answers.{IsTold};
 ghost use Rattle.desk_client.specs.Devices.{HasFailed};
@@ -121,10 +123,12 @@ impl<'a, R: Files + Input + Print + Eprint + AllocGlobal> User<'a, R> {
         requires kept { Keeps self.old.dialogue }
         ensures kept { Keeps self.new.dialogue }
         ensures limit { self.new.dialogue.limit ≡ self.old.dialogue.limit }
-        ensures next { AsksNext self.old.dialogue.transcript.asked (left_in self.old.dialogue) result
+        ensures next { AsksNext self.old.dialogue.transcript.asked
+            (left_in self.old.dialogue) result
             self.new.dialogue.transcript.asked (left_in self.new.dialogue) }
         ensures over { IfOk result (λ next. next ≡ None → HasAskedAll self.new.dialogue) }
-        ensures reason { IfErr result (IsAskless (string_bytes self.old.words.now.directory) self.old.dialogue.ask
+        ensures reason { IfErr result
+            (IsAskless (string_bytes self.old.words.now.directory) self.old.dialogue.ask
             self.old.dialogue.lines.source.failures self.new.dialogue.lines.source.failures
             self.new.dialogue.lines.buffer) }
         ensures heard { self.new.dialogue.transcript.heard ≡ self.old.dialogue.transcript.heard }
@@ -163,7 +167,8 @@ impl<'a, R: Files + Input + Print + Eprint + AllocGlobal> User<'a, R> {
         requires vectors { unwritten pages.now.vectors ≡ [] }
         ensures known { KnowsFault self.new.dialogue }
         ensures heard { self.new.dialogue.transcript.heard ≡ self.old.dialogue.transcript.heard
-            ++ heards.Files pages.now.config.bytes pages.now.scalars.content.bytes pages.now.vectors.content.bytes ∷ [] }
+            ++ heards.Files pages.now.config.bytes pages.now.scalars.content.bytes
+            pages.now.vectors.content.bytes ∷ [] }
         ensures asked { self.new.dialogue.transcript.asked ≡ self.old.dialogue.transcript.asked }
         ensures words { self.new.words ≡ self.old.words }
         ensures at_terminal { self.new.dialogue.at_terminal ≡ self.old.dialogue.at_terminal }
@@ -309,7 +314,8 @@ fn finish<R: Files + AllocGlobal>(pages: &mut Pages<FileOut<'_, R>>) -> Result<(
     // The scalar file comes first: where the other one can't be written, nothing is left of it to
     // write.
     ensures failed { IfErr result (λ stop. IsUnwritable (string_bytes pages.old.scalars.path) stop
-        ⊎ ((unwritten pages.new.scalars ≡ []) × IsUnwritable (string_bytes pages.old.vectors.path) stop)) }
+        ⊎ ((unwritten pages.new.scalars ≡ [])
+        × IsUnwritable (string_bytes pages.old.vectors.path) stop)) }
 {
     pages.scalars.finish()?;
     pages.vectors.finish()?;
@@ -352,7 +358,8 @@ impl<'a, R: Files + Input + Print + Eprint + AllocGlobal> Client<FileOut<'a, R>>
     ghost label = { λ user. user.dialogue.limit };
 
     ghost stops = { λ user why. at_stop (HasAskedAll user.dialogue)
-        (IsSomeAnd user.stop (IsReason user.dialogue.lines.buffer)) (λ _ _. IsSomeAnd user.stop IsLost) why };
+        (IsSomeAnd user.stop (IsReason user.dialogue.lines.buffer))
+        (λ _ _. IsSomeAnd user.stop IsLost) why };
 
     #[tactic(auto, using(crate::proofs::Reasons::reason_askless))]
     fn next(&mut self) -> Result<Option<AskedLine>, Gone>
@@ -366,7 +373,8 @@ impl<'a, R: Files + Input + Print + Eprint + AllocGlobal> Client<FileOut<'a, R>>
         ensures none { IfOk result (λ next. next ≡ None
             → self.new.dialogue.transcript.asked ≡ self.old.dialogue.transcript.asked) }
         ensures over { IfOk result (λ next. next ≡ None → HasAskedAll self.new.dialogue) }
-        ensures stuck { OnErr result (IsSomeAnd self.new.stop (IsReason self.new.dialogue.lines.buffer)) }
+        ensures stuck { OnErr result
+            (IsSomeAnd self.new.stop (IsReason self.new.dialogue.lines.buffer)) }
         ensures reason { OnErr result (IsSomeAnd self.new.stop (IsAskless
             (string_bytes self.old.words.now.directory) self.old.dialogue.ask
             self.old.dialogue.lines.source.failures self.new.dialogue.lines.source.failures
@@ -386,10 +394,13 @@ impl<'a, R: Files + Input + Print + Eprint + AllocGlobal> Client<FileOut<'a, R>>
         requires kept { Keeps self.old.dialogue }
         requires told { IsTold told.now answer.now }
         ensures kept { Keeps self.new.dialogue }
-        ensures heard { OnOk result (self.new.dialogue.transcript.heard ≡ self.old.dialogue.transcript.heard
+        ensures heard { OnOk result (self.new.dialogue.transcript.heard
+            ≡ self.old.dialogue.transcript.heard
             ++ heards.Answer answer.now ∷ []) }
-        ensures gone { OnErr result (self.new.dialogue.transcript.heard ≡ self.old.dialogue.transcript.heard) }
-        ensures stuck { OnErr result (IsSomeAnd self.new.stop (IsReason self.new.dialogue.lines.buffer)) }
+        ensures gone { OnErr result (self.new.dialogue.transcript.heard
+            ≡ self.old.dialogue.transcript.heard) }
+        ensures stuck { OnErr result
+            (IsSomeAnd self.new.stop (IsReason self.new.dialogue.lines.buffer)) }
         ensures reason { OnErr result (IsSomeAnd self.new.stop IsUntold) }
         ensures label { self.new.dialogue.limit ≡ self.old.dialogue.limit }
         ensures asked { self.new.dialogue.transcript.asked ≡ self.old.dialogue.transcript.asked }
@@ -408,10 +419,13 @@ impl<'a, R: Files + Input + Print + Eprint + AllocGlobal> Client<FileOut<'a, R>>
     fn hear_no_memory(&mut self, error: NoMemory) -> Result<(), Gone>
         requires kept { Keeps self.old.dialogue }
         ensures kept { Keeps self.new.dialogue }
-        ensures heard { OnOk result (self.new.dialogue.transcript.heard ≡ self.old.dialogue.transcript.heard
+        ensures heard { OnOk result (self.new.dialogue.transcript.heard
+            ≡ self.old.dialogue.transcript.heard
             ++ heards.OutOfMemory ∷ []) }
-        ensures gone { OnErr result (self.new.dialogue.transcript.heard ≡ self.old.dialogue.transcript.heard) }
-        ensures stuck { OnErr result (IsSomeAnd self.new.stop (IsReason self.new.dialogue.lines.buffer)) }
+        ensures gone { OnErr result (self.new.dialogue.transcript.heard
+            ≡ self.old.dialogue.transcript.heard) }
+        ensures stuck { OnErr result
+            (IsSomeAnd self.new.stop (IsReason self.new.dialogue.lines.buffer)) }
         ensures reason { OnErr result (IsSomeAnd self.new.stop IsUntold) }
         ensures label { self.new.dialogue.limit ≡ self.old.dialogue.limit }
         ensures asked { self.new.dialogue.transcript.asked ≡ self.old.dialogue.transcript.asked }
@@ -430,10 +444,13 @@ impl<'a, R: Files + Input + Print + Eprint + AllocGlobal> Client<FileOut<'a, R>>
     fn read(&mut self, path: &[u8]) -> Result<Text, Gone>
         requires kept { Keeps self.old.dialogue }
         ensures kept { Keeps self.new.dialogue }
-        ensures heard { IfOk result (λ text. self.new.dialogue.transcript.heard ≡ self.old.dialogue.transcript.heard
+        ensures heard { IfOk result
+            (λ text. self.new.dialogue.transcript.heard ≡ self.old.dialogue.transcript.heard
             ++ heards.Read path.now text ∷ []) }
-        ensures gone { OnErr result (self.new.dialogue.transcript.heard ≡ self.old.dialogue.transcript.heard) }
-        ensures stuck { OnErr result (IsSomeAnd self.new.stop (IsReason self.new.dialogue.lines.buffer)) }
+        ensures gone { OnErr result (self.new.dialogue.transcript.heard
+            ≡ self.old.dialogue.transcript.heard) }
+        ensures stuck { OnErr result
+            (IsSomeAnd self.new.stop (IsReason self.new.dialogue.lines.buffer)) }
         ensures reason { OnErr result (IsSomeAnd self.new.stop (IsUnreadable (shown path.now))) }
         ensures label { self.new.dialogue.limit ≡ self.old.dialogue.limit }
         ensures asked { self.new.dialogue.transcript.asked ≡ self.old.dialogue.transcript.asked }
@@ -461,7 +478,8 @@ impl<'a, R: Files + Input + Print + Eprint + AllocGlobal> Client<FileOut<'a, R>>
         ensures vectors_path { IfOk result (λ pages. string_bytes pages.vectors.path
             ≡ file_path (string_bytes self.old.words.now.directory) config.now (codes "vec")) }
         ensures heard { self.new.dialogue.transcript.heard ≡ self.old.dialogue.transcript.heard }
-        ensures stuck { OnErr result (IsSomeAnd self.new.stop (IsReason self.new.dialogue.lines.buffer)) }
+        ensures stuck { OnErr result
+            (IsSomeAnd self.new.stop (IsReason self.new.dialogue.lines.buffer)) }
         ensures reason { OnErr result (IsSomeAnd self.new.stop
             (IsShortOfRun (string_bytes self.old.words.now.directory) config.now)) }
         ensures label { self.new.dialogue.limit ≡ self.old.dialogue.limit }
@@ -477,10 +495,14 @@ impl<'a, R: Files + Input + Print + Eprint + AllocGlobal> Client<FileOut<'a, R>>
     fn keep(&mut self, pages: Pages<FileOut<'a, R>>) -> Result<(), Gone>
         requires kept { Keeps self.old.dialogue }
         ensures kept { Keeps self.new.dialogue }
-        ensures heard { OnOk result (self.new.dialogue.transcript.heard ≡ self.old.dialogue.transcript.heard
-            ++ heards.Files pages.entry.config.bytes pages.entry.scalars.content.bytes pages.entry.vectors.content.bytes ∷ []) }
-        ensures gone { OnErr result (self.new.dialogue.transcript.heard ≡ self.old.dialogue.transcript.heard) }
-        ensures stuck { OnErr result (IsSomeAnd self.new.stop (IsReason self.new.dialogue.lines.buffer)) }
+        ensures heard { OnOk result (self.new.dialogue.transcript.heard
+            ≡ self.old.dialogue.transcript.heard
+            ++ heards.Files pages.entry.config.bytes pages.entry.scalars.content.bytes
+            pages.entry.vectors.content.bytes ∷ []) }
+        ensures gone { OnErr result (self.new.dialogue.transcript.heard
+            ≡ self.old.dialogue.transcript.heard) }
+        ensures stuck { OnErr result
+            (IsSomeAnd self.new.stop (IsReason self.new.dialogue.lines.buffer)) }
         ensures reason { OnErr result (IsSomeAnd self.new.stop (IsOneUnwritable
             (string_bytes pages.entry.scalars.path) (string_bytes pages.entry.vectors.path))) }
         ensures label { self.new.dialogue.limit ≡ self.old.dialogue.limit }
@@ -502,7 +524,8 @@ impl<'a, R: Files + Input + Print + Eprint + AllocGlobal> Client<FileOut<'a, R>>
 
     fn lose(&mut self, pages: Pages<FileOut<'a, R>>, page: Page, _written: u128)
         requires kept { Keeps self.old.dialogue }
-        requires failed { HasFailed page _written (taken_by pages.scalars) (taken_by pages.vectors) }
+        requires failed { HasFailed page _written (taken_by pages.scalars)
+            (taken_by pages.vectors) }
         // The reason names the file of the device that failed.
         ensures named { IsSomeAnd self.new.stop (IsUnwritable (path_of page pages.entry)) }
         ensures kept { Keeps self.new.dialogue }

@@ -11,7 +11,8 @@ use Rattle.nedrun_exit.specs.declared.stops.ExitReason.TheVariants as stop
 -- a file, a folder or a stream of that name failed: what of it, and what the system says; or memory
 -- ran out for the line that tells so
 abbrev pub IsFailed : List ℕ → List ℕ → SystemError → ExitReason → Type 0
-IsFailed what name error (stop.Failed line told) = (string_bytes line ≡ name ++ (codes ": " ++ what)) × (told ≡ error)
+IsFailed what name error (stop.Failed line told) =
+    (string_bytes line ≡ name ++ (codes ": " ++ what)) × (told ≡ error)
 IsFailed what name error (stop.NoMemory _) = Unit {0}
 IsFailed what name error _ = ⊥
 

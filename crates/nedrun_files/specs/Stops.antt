@@ -15,13 +15,15 @@ IsUnwritable path s = Fails (codes "this file can't be written") path s
 -- memory ran out for the file of that path, or for what tells so
 abbrev pub IsShortOf : List ℕ → ExitReason → Type 0
 IsShortOf path (stop.Failed line error) =
-    (string_bytes line ≡ path ++ (codes ": " ++ codes "this file can't be written")) × (error_kind error ≡ system.OutOfMemory)
+    (string_bytes line ≡ path ++ (codes ": " ++ codes "this file can't be written"))
+    × (error_kind error ≡ system.OutOfMemory)
 IsShortOf path (stop.NoMemory _) = Unit {0}
 IsShortOf path _ = ⊥
 
 -- memory ran out for one of both files of a run of that configuration
 abbrev pub IsShortOfRun : List ℕ → List ℕ → ExitReason → Type 0
-IsShortOfRun directory config s = IsShortOf (file_path directory config (codes "sca")) s ⊎ IsShortOf (file_path directory config (codes "vec")) s
+IsShortOfRun directory config s = IsShortOf (file_path directory config (codes "sca")) s
+    ⊎ IsShortOf (file_path directory config (codes "vec")) s
 
 -- an answer can't be printed
 abbrev pub IsUnsaid : ExitReason → Type 0
@@ -42,7 +44,8 @@ IsUnlisted s = (path : List ℕ) × Fails (codes "this folder can't be read") pa
 -- one of the files of these paths can't be read
 abbrev pub IsOneUnreadable : {A : Type 0} → List (String A) → ExitReason → Type 0
 IsOneUnreadable {A} paths (stop.Failed line error) =
-    (path : String A) × Contains paths path × (string_bytes line ≡ string_bytes path ++ (codes ": " ++ codes "this file can't be read"))
+    (path : String A) × Contains paths path
+    × (string_bytes line ≡ string_bytes path ++ (codes ": " ++ codes "this file can't be read"))
 IsOneUnreadable paths (stop.NoMemory _) = Unit {0}
 IsOneUnreadable paths _ = ⊥
 

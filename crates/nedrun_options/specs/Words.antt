@@ -1,5 +1,7 @@
 -- What the program is asked for.
-use Rattle.std.specs.Prelude.{◌≡◌, ◌<◌, ◌^◌, ◌==◌, ◌++◌, ℕ, Bool, not, true, false, if◌then◌else◌, List, [], ◌∷◌, Option, Some, None, codes, unwrap_or, option_and_then, option_map, map}
+use Rattle.std.specs.Prelude.{◌≡◌, ◌<◌, ◌^◌, ◌==◌, ◌++◌, ℕ, Bool, not, true, false, if◌then◌else◌}
+use Rattle.std.specs.Prelude.{List, [], ◌∷◌, Option, Some, None, codes, unwrap_or, option_and_then}
+use Rattle.std.specs.Prelude.{option_map, map}
 use Rattle.std.specs.String.{string_bytes}
 use Rattle.std.specs.List.{ends_with}
 use Rattle.std.specs.Str.Parse.{IsNumeral, digits_value, without_leading_plus}
@@ -13,7 +15,8 @@ use Rattle.nedrun_options.specs.declared.words.Options.{Options}
 
 -- the number that a word says in decimal digits, where it fits
 abbrev pub IsNumberOf : List ℕ → ℕ → Type 0
-IsNumberOf word n = IsNumeral 10 (without_leading_plus word) → digits_value 10 (without_leading_plus word) < 2 ^ 64
+IsNumberOf word n = IsNumeral 10 (without_leading_plus word)
+    → digits_value 10 (without_leading_plus word) < 2 ^ 64
     → n ≡ digits_value 10 (without_leading_plus word)
 
 -- the limit that a word gives; 1,000,000 where there is none
@@ -77,21 +80,28 @@ texts_of None files = ned_files files
 
 -- WHAT THE PROGRAM IS ASKED FOR is what its words say, each by its name.
 pub record IsGiven (found : Found) (words : Options) : Type 0 where
-  pub config : string_bytes words.config ≡ unwrap_or (first_value found (codes "config")) (codes "General")
+  pub config : string_bytes words.config
+      ≡ unwrap_or (first_value found (codes "config")) (codes "General")
   pub limit : IsLimitOf (one_text found (codes "limit")) words.limit
-  pub named : words.names_limit ≡ is_given (option_and_then (λ a. a.source) (matched_of found (codes "limit")))
+  pub named : words.names_limit
+      ≡ is_given (option_and_then (λ a. a.source) (matched_of found (codes "limit")))
   pub interval : IsIntervalOf (one_text found (codes "interval")) words.interval
-  pub directory : string_bytes words.directory ≡ folder_of (unwrap_or (first_value found (codes "directory")) (codes "."))
-  pub strict : words.strict ≡ is_given (option_and_then (λ a. a.source) (matched_of found (codes "strict")))
-  pub progress : words.progress ≡ is_given (option_and_then (λ a. a.source) (matched_of found (codes "progress")))
+  pub directory : string_bytes words.directory
+      ≡ folder_of (unwrap_or (first_value found (codes "directory")) (codes "."))
+  pub strict : words.strict
+      ≡ is_given (option_and_then (λ a. a.source) (matched_of found (codes "strict")))
+  pub progress : words.progress
+      ≡ is_given (option_and_then (λ a. a.source) (matched_of found (codes "progress")))
   pub ini : string_bytes words.ini ≡ ini_of (first_value found (codes "file")) (files_of found)
-  pub texts : map string_bytes words.texts.items ≡ texts_of (first_value found (codes "file")) (files_of found)
+  pub texts : map string_bytes words.texts.items
+      ≡ texts_of (first_value found (codes "file")) (files_of found)
   pub folders : option_map string_bytes words.folders ≡ first_value found (codes "folders")
 
 -- why the words aren't there: they can't be had; they are not as they should be, or ask for help;
 -- or memory ran out
 abbrev pub AreUnreadWords : ExitReason → Type 0
 AreUnreadWords (stop.Words _) = Unit {0}
-AreUnreadWords (stop.Failed line error) = string_bytes line ≡ codes "command line: the words can't be read"
+AreUnreadWords (stop.Failed line error) =
+    string_bytes line ≡ codes "command line: the words can't be read"
 AreUnreadWords (stop.NoMemory _) = Unit {0}
 AreUnreadWords _ = ⊥

@@ -1,9 +1,12 @@
 //! What the program is asked for.
 
-ghost use Rattle.std.specs.Prelude.{◌≡◌, ◌≤◌, ◌++◌, IfErr, IfOk, OnOk, codes, map, option_and_then, option_map, string_bytes};
+ghost use Rattle.std.specs.Prelude.{◌≡◌, ◌≤◌, ◌++◌, IfErr, IfOk, OnOk, codes, map, option_and_then};
+ghost use Rattle.std.specs.Prelude.{option_map, string_bytes};
 ghost use Rattle.clap.specs.Matches.{first_value, found_of, matched_of, one_text};
 ghost use Rattle.nedrun_exit.specs.Stops.{Fails};
-ghost use Rattle.nedrun_options.specs.Words.{begins_with_ini, files_of, folder_of, ini_of, is_given, is_ned, texts_of, values_of, AreUnreadWords, IsGiven, IsIntervalOf, IsLimitOf};
+ghost use Rattle.nedrun_options.specs.Words.{begins_with_ini, files_of, folder_of, ini_of};
+ghost use Rattle.nedrun_options.specs.Words.{is_given, is_ned, texts_of, values_of, AreUnreadWords};
+ghost use Rattle.nedrun_options.specs.Words.{IsGiven, IsIntervalOf, IsLimitOf};
 
 use clap::error::ErrorKind;
 use clap::parser::ValueSource;
@@ -276,7 +279,8 @@ fn add_found(
 
 /// The paths of files that were given after the options.
 fn given_files(alloc: Global, matches: &ArgMatches<'_>) -> Result<Vec<String>, AllocError>
-    ensures { IfOk result (λ files. map string_bytes files.items ≡ files_of (found_of matches.now)) }
+    ensures { IfOk result
+        (λ files. map string_bytes files.items ≡ files_of (found_of matches.now)) }
 {
     let mut files = Vec::new(alloc);
     add_found(alloc, &mut files, matches, "ini")?;

@@ -29,7 +29,8 @@ left_of a waiting = firsts a + (most_lines - waiting.counted)
 abbrev pub IsUnread : ℕ → ℕ → Waiting → ExitReason → Type 0
 IsUnread failures failures' waiting stop.Spent = IsSpent waiting × (failures' ≡ failures)
 IsUnread failures failures' waiting (stop.Failed line error) =
-    (string_bytes line ≡ codes "standard input: the next command can't be read") × (failures' ≡ next_count failures)
+    (string_bytes line ≡ codes "standard input: the next command can't be read")
+    × (failures' ≡ next_count failures)
 IsUnread failures failures' waiting (stop.NoMemory _) = Unit {0}
 IsUnread failures failures' waiting _ = ⊥
 
@@ -43,7 +44,8 @@ IsUnasked ask.Nothing failures failures' waiting s = ⊥
 module _ {I : Type 0} where
   -- what was asked is in its order
   abbrev pub IsInOrder : Dialogue I → Type 0
-  IsInOrder d = AsksInOrder d.limit d.at_terminal d.ask d.transcript.asked d.lines.source.given.bytes d.lines.buffer
+  IsInOrder d = AsksInOrder d.limit d.at_terminal d.ask d.transcript.asked
+      d.lines.source.given.bytes d.lines.buffer
 
   -- how often something may be asked still
   abbrev pub left_in : Dialogue I → ℕ
@@ -54,16 +56,19 @@ module _ {I : Type 0} where
   HasAskedAll d = ((d.ask ≡ ask.Line) × (d.lines.buffer.bytes ≡ [])) ⊎ (d.ask ≡ ask.Nothing)
 
   -- WHAT ASKING COMES TO, of the dialogue before and after it.
-  pub record Asks (before : Dialogue I) (answer : Result (Option AskedLine) ExitReason) (after : Dialogue I) : Type 0 where
+  pub record Asks (before : Dialogue I) (answer : Result (Option AskedLine) ExitReason)
+      (after : Dialogue I) : Type 0 where
     -- what was asked is in its order
     pub kept : IsInOrder after
     -- one thing more is asked, and less is left to be asked; or nothing is asked
-    pub next : AsksNext before.transcript.asked (left_in before) answer after.transcript.asked (left_in after)
+    pub next : AsksNext before.transcript.asked (left_in before) answer after.transcript.asked
+        (left_in after)
     -- there is nothing more to ask only where nothing that standard input gave is left unasked, or
     -- after `quit`
     pub over : IfOk answer (λ next. next ≡ None → HasAskedAll after)
     -- where nothing can be asked, that is why
-    pub unasked : IfErr answer (IsUnasked before.ask before.lines.source.failures after.lines.source.failures after.lines.buffer)
+    pub unasked : IfErr answer (IsUnasked before.ask before.lines.source.failures
+        after.lines.source.failures after.lines.buffer)
     -- the limit is that from before, and the terminal
     pub limit : after.limit ≡ before.limit
     pub at_terminal : after.at_terminal ≡ before.at_terminal

@@ -15,7 +15,8 @@ begins answer front = starts_with (λ a b. a == b) answer front
 -- an answer tells that a run is done: with a fault or not; after any other one it is as it was
 -- before
 abbrev pub fault_behind : Bool → Heard → Bool
-fault_behind before (Answer text) = if begins text (codes "done fault ") then true else (if begins text (codes "done ") then false else before)
+fault_behind before (Answer text) = if begins text (codes "done fault ") then true
+    else (if begins text (codes "done ") then false else before)
 fault_behind before (Files _ _ _) = before
 fault_behind before (Read _ _) = before
 fault_behind before OutOfMemory = before

@@ -1,5 +1,6 @@
 -- A table of values that are known.
-use Rattle.std.specs.Prelude.{ℕ, ◌≡◌, Bool, true, length, List, [], ◌∷◌, ◌++◌, slice_get, map, Result, Ok, Err, Option, Some, None}
+use Rattle.std.specs.Prelude.{ℕ, ◌≡◌, Bool, true, length, List, [], ◌∷◌, ◌++◌, slice_get, map}
+use Rattle.std.specs.Prelude.{Result, Ok, Err, Option, Some, None}
 use Rattle.std.specs.Map.{lookup}
 use Rattle.param_following.specs.Asking.{outcome}
 use Rattle.param_following.specs.Edits.{answer_of, asked_by}
@@ -59,13 +60,16 @@ IsAt {K} same es k place = (stored : K) × (key_at es place ≡ Some stored) × 
 -- A key with its value and what it asked for, after the entries that were found before it: its
 -- value is what its asking comes to, and the places are those of the keys that it asks for, in
 -- order, all among the entries before it.
-pub record IsNoted {K V F : Type 0} (rules : Rules K V F) (known : K → Option V) (before : Entries K V) (e : K × Finished V) : Type 0 where
+pub record IsNoted {K V F : Type 0} (rules : Rules K V F) (known : K
+    → Option V) (before : Entries K V) (e : K × Finished V) : Type 0 where
   pub comes : outcome (λ j. answer_of (known j)) (rules.asking e.0) ≡ Some (Ok e.1.value)
   pub places : keys_at before e.1.asked ≡ map Some (asked_by known (rules.asking e.0))
 
-abbrev pub AreNoted : {K V F : Type 0} → Rules K V F → (K → Option V) → Entries K V → Entries K V → Type 0
+abbrev pub AreNoted : {K V F : Type 0} → Rules K V F → (K → Option V) → Entries K V
+    → Entries K V → Type 0
 AreNoted rules known before [] = Unit {0}
-AreNoted rules known before (e ∷ es) = IsNoted rules known before e × AreNoted rules known (before ++ e ∷ []) es
+AreNoted rules known before (e ∷ es) =
+    IsNoted rules known before e × AreNoted rules known (before ++ e ∷ []) es
 
 -- A table that may be kept: all that it knows are values by these rules, and each entry is noted.
 pub record IsKept {K V F : Type 0} (rules : Rules K V F) (es : Entries K V) : Type 0 where

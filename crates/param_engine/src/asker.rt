@@ -30,7 +30,8 @@ pub trait Asker {
     ghost circle: { Self → Self.Fault };
 
     /// How an evaluation that waits for a value goes on with it.
-    ghost resumed: { Self → Self.Evaluation → Self.Value → Asking Self.Key Self.Value Self.Fault Self.Value };
+    ghost resumed: { Self → Self.Evaluation → Self.Value
+        → Asking Self.Key Self.Value Self.Fault Self.Value };
 
     /// How often an evaluation asks at most, from where it is.
     ghost left: { Self.Evaluation → ℕ };
@@ -51,7 +52,8 @@ pub trait Asker {
         ),
         NoMemory,
     >
-        ensures { IfOk result (λ begun. came_to (resumed self.now begun.0) begun.1 ≡ asking self.now key.now) };
+        ensures { IfOk result
+            (λ begun. came_to (resumed self.now begun.0) begun.1 ≡ asking self.now key.now) };
 
     /// Goes on with the value of the key that it asked for.
     fn go_on(
@@ -60,9 +62,11 @@ pub trait Asker {
         evaluation: &mut Self::Evaluation,
         value: &Self::Value,
     ) -> Result<EngineStep<Self::Key, Self::Value, Self::Fault>, NoMemory>
-        ensures turn { IfOk result (λ turn. came_to (resumed self.now evaluation.new) turn ≡ resumed self.now evaluation.old value.now) }
+        ensures turn { IfOk result (λ turn. came_to (resumed self.now evaluation.new) turn
+            ≡ resumed self.now evaluation.old value.now) }
         // It doesn't ask without end.
-        ensures less { IfOk result (λ turn. asks turn + left evaluation.new ≤ left evaluation.old) };
+        ensures less { IfOk result
+            (λ turn. asks turn + left evaluation.new ≤ left evaluation.old) };
 
     /// Keys that are equal are one.
     ghost exact: { (a b : Self.Key) → Self.Key.eq a b ≡ true → a ≡ b };

@@ -1,7 +1,8 @@
 //! The value of a key, found by following references. What waits for a value lies on a list in
 //! memory, so no native recursion goes as deep as a chain of references.
 
-ghost use Rattle.std.specs.Prelude.{◌≡◌, ◌+◌, ◌<◌, ◌≤◌, ◌^◌, ◌++◌, ◌∷◌, [], None, Some, false, IfOk, OnOk, OnErr, length, zero};
+ghost use Rattle.std.specs.Prelude.{◌≡◌, ◌+◌, ◌<◌, ◌≤◌, ◌^◌, ◌++◌, ◌∷◌, [], None, Some, false};
+ghost use Rattle.std.specs.Prelude.{IfOk, OnOk, OnErr, length, zero};
 ghost use Rattle.std.specs.List.{list_any};
 ghost use Rattle.param_following.specs.Following.{value_of};
 ghost use Rattle.param_engine.specs.Tables.{known, key_at, IsKept, Begins, found_in};
@@ -43,7 +44,8 @@ fn begin<A: Asker>(
     ensures keys { OnOk result (keys.new.keys ≡ keys.old.keys ++ key ∷ []) }
     ensures few { OnOk result (length keys.new.keys < 2 ^ 63) }
     ensures asked { IfOk result (λ begun. begun.0.asked ≡ []) }
-    ensures asking { IfOk result (λ begun. came_to (A.resumed asker.now begun.0.evaluation) begun.1 ≡ A.asking asker.now key) }
+    ensures asking { IfOk result (λ begun. came_to (A.resumed asker.now begun.0.evaluation) begun.1
+        ≡ A.asking asker.now key) }
     ensures entries { table.new.entries ≡ table.old.entries }
     ensures begun { table.new.begun ≡ table.old.begun + 1 }
 {
@@ -69,8 +71,10 @@ fn resume<A: Asker>(
     value: &A::Value,
 ) -> Result<EngineStep<A::Key, A::Value, A::Fault>, NoMemory>
     ensures asked { OnOk result (frame.new.asked ≡ frame.old.asked ++ place ∷ []) }
-    ensures turn { IfOk result (λ turn. came_to (A.resumed asker.now frame.new.evaluation) turn ≡ A.resumed asker.now frame.old.evaluation value.now) }
-    ensures less { IfOk result (λ turn. asks turn + A.left frame.new.evaluation ≤ A.left frame.old.evaluation) }
+    ensures turn { IfOk result (λ turn. came_to (A.resumed asker.now frame.new.evaluation) turn
+        ≡ A.resumed asker.now frame.old.evaluation value.now) }
+    ensures less { IfOk result
+        (λ turn. asks turn + A.left frame.new.evaluation ≤ A.left frame.old.evaluation) }
 {
     frame.asked.push(place)?;
     asker.go_on(alloc, &mut frame.evaluation, value)
@@ -84,7 +88,8 @@ fn proceed<A: Asker>(
     frame: &mut Frame<A::Evaluation>,
     turn: EngineStep<A::Key, A::Value, A::Fault>,
 ) -> Result<EngineStep<A::Key, A::Value, A::Fault>, NoMemory>
-    ensures goes_on { IfOk result (λ end. GoesOn table.now.entries (known A.Key.eq table.now.entries)
+    ensures goes_on { IfOk result
+        (λ end. GoesOn table.now.entries (known A.Key.eq table.now.entries)
         frame.old.asked (came_to (A.resumed asker.now frame.old.evaluation) turn)
         frame.new.asked (came_to (A.resumed asker.now frame.new.evaluation) end)) }
     ensures held_up { IfOk result (λ end. IsHeldUp (known A.Key.eq table.now.entries) end) }
@@ -113,9 +118,11 @@ fn descend<A: Asker>(
     requires busy { IsBusy A.Key.eq table.old going.old.keys.keys }
     ensures keys { OnOk result (going.new.keys.keys ≡ going.old.keys.keys ++ key ∷ []) }
     ensures few { OnOk result (length going.new.keys.keys < 2 ^ 63) }
-    ensures waiting { OnOk result (going.new.waiting ≡ going.old.waiting ++ going.old.current ∷ []) }
+    ensures waiting { OnOk result (going.new.waiting
+        ≡ going.old.waiting ++ going.old.current ∷ []) }
     ensures asked { OnOk result (going.new.current.asked ≡ []) }
-    ensures asking { IfOk result (λ turn. came_to (A.resumed asker.now going.new.current.evaluation) turn ≡ A.asking asker.now key) }
+    ensures asking { IfOk result (λ turn. came_to (A.resumed asker.now going.new.current.evaluation)
+        turn ≡ A.asking asker.now key) }
     ensures entries { table.new.entries ≡ table.old.entries }
     ensures begun { table.new.begun ≡ table.old.begun + 1 }
 {
@@ -136,11 +143,14 @@ fn ascend<A: Asker>(
     value: A::Value,
 ) -> Result<QuestionStep<A::Key, A::Value, A::Fault>, NoMemory>
     requires { IsBusy A.Key.eq table.old going.old.keys.keys }
-    ensures steps { IfOk result (λ next. Steps (ruled A.Key.eq (A.asking asker.now) (A.circle asker.now)) (A.resumed asker.now)
+    ensures steps { IfOk result (λ next.
+        Steps (ruled A.Key.eq (A.asking asker.now) (A.circle asker.now)) (A.resumed asker.now)
         table.old going.old (EngineStep.Done value) table.new going.new next) }
-    ensures falls { IfOk result (λ next. Falls (ruled A.Key.eq (A.asking asker.now) (A.circle asker.now)) (A.resumed asker.now)
+    ensures falls { IfOk result (λ next.
+        Falls (ruled A.Key.eq (A.asking asker.now) (A.circle asker.now)) (A.resumed asker.now)
         table.old going.old (EngineStep.Done value) table.new going.new next) }
-    ensures err { OnErr result (StopsShort (ruled A.Key.eq (A.asking asker.now) (A.circle asker.now)) (A.resumed asker.now)
+    ensures err { OnErr result
+        (StopsShort (ruled A.Key.eq (A.asking asker.now) (A.circle asker.now)) (A.resumed asker.now)
         table.old going.old (EngineStep.Done value) table.new) }
 {
     let _len = table.len();
@@ -166,11 +176,14 @@ fn step<A: Asker>(
     turn: EngineStep<A::Key, A::Value, A::Fault>,
 ) -> Result<QuestionStep<A::Key, A::Value, A::Fault>, NoMemory>
     requires { IsBusy A.Key.eq table.old going.old.keys.keys }
-    ensures steps { IfOk result (λ next. Steps (ruled A.Key.eq (A.asking asker.now) (A.circle asker.now)) (A.resumed asker.now)
+    ensures steps { IfOk result (λ next.
+        Steps (ruled A.Key.eq (A.asking asker.now) (A.circle asker.now)) (A.resumed asker.now)
         table.old going.old turn table.new going.new next) }
-    ensures falls { IfOk result (λ next. Falls (ruled A.Key.eq (A.asking asker.now) (A.circle asker.now)) (A.resumed asker.now)
+    ensures falls { IfOk result (λ next.
+        Falls (ruled A.Key.eq (A.asking asker.now) (A.circle asker.now)) (A.resumed asker.now)
         table.old going.old turn table.new going.new next) }
-    ensures err { OnErr result (StopsShort (ruled A.Key.eq (A.asking asker.now) (A.circle asker.now)) (A.resumed asker.now)
+    ensures err { OnErr result
+        (StopsShort (ruled A.Key.eq (A.asking asker.now) (A.circle asker.now)) (A.resumed asker.now)
         table.old going.old turn table.new) }
 {
     let _len = table.len();
@@ -194,12 +207,15 @@ fn find<A: Asker>(
     table: &mut Table<A::Key, A::Value>,
     key: A::Key,
 ) -> Result<Result<usize, A::Fault>, NoMemory>
-    requires kept { IsKept (ruled A.Key.eq (A.asking asker.now) (A.circle asker.now)) table.old.entries }
+    requires kept { IsKept (ruled A.Key.eq (A.asking asker.now) (A.circle asker.now))
+        table.old.entries }
     requires new { known A.Key.eq table.old.entries key ≡ None }
     requires counted { table.old.begun ≡ 0 }
-    ensures answered { IfOk result (λ found. IsAnswered (ruled A.Key.eq (A.asking asker.now) (A.circle asker.now))
+    ensures answered { IfOk result
+        (λ found. IsAnswered (ruled A.Key.eq (A.asking asker.now) (A.circle asker.now))
         table.old.entries key table.new.entries table.new.begun found) }
-    ensures kept { OnErr result (IsKept (ruled A.Key.eq (A.asking asker.now) (A.circle asker.now)) table.new.entries) }
+    ensures kept { OnErr result
+        (IsKept (ruled A.Key.eq (A.asking asker.now) (A.circle asker.now)) table.new.entries) }
     ensures begins { OnErr result (Begins table.old.entries table.new.entries) }
 {
     let mut keys = IndexSet::new(alloc);
@@ -222,7 +238,8 @@ fn find<A: Asker>(
 pub fn empty_table<A: Asker>(alloc: Global, _asker: &A) -> Table<A::Key, A::Value>
     ensures entries { result.entries ≡ [] }
     ensures begun { result.begun ≡ 0 }
-    ensures kept { IsKept (ruled A.Key.eq (A.asking _asker.now) (A.circle _asker.now)) result.entries }
+    ensures kept { IsKept (ruled A.Key.eq (A.asking _asker.now) (A.circle _asker.now))
+        result.entries }
 {
     Table::new(alloc)
 }
@@ -239,12 +256,15 @@ pub fn value_of<A: Asker>(
     requires { IsKept (ruled A.Key.eq (A.asking asker.now) (A.circle asker.now)) table.old.entries }
     ensures value { IfOk result (λ found. found_in table.new.entries found
         ≡ Some (value_of (ruled A.Key.eq (A.asking asker.now) (A.circle asker.now)) key)) }
-    ensures kept { IsKept (ruled A.Key.eq (A.asking asker.now) (A.circle asker.now)) table.new.entries }
+    ensures kept { IsKept (ruled A.Key.eq (A.asking asker.now) (A.circle asker.now))
+        table.new.entries }
     ensures begins { Begins table.old.entries table.new.entries }
     // Each key was evaluated once at most: where there is a value, those that were added.
-    ensures once { OnOk result (AreBegunOnce (ruled A.Key.eq (A.asking asker.now) (A.circle asker.now))
+    ensures once { OnOk result
+        (AreBegunOnce (ruled A.Key.eq (A.asking asker.now) (A.circle asker.now))
         table.old.entries table.new.entries table.new.begun) }
-    ensures counted { IfOk result (λ found. OnOk found (table.new.begun + length table.old.entries ≡ length table.new.entries)) }
+    ensures counted { IfOk result (λ found. OnOk found (table.new.begun + length table.old.entries
+        ≡ length table.new.entries)) }
 {
     table.count_anew();
     let _len = table.len();

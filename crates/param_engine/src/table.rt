@@ -1,6 +1,7 @@
 //! The values that are known.
 
-ghost use Rattle.std.specs.Prelude.{◌≡◌, ◌<◌, ◌+◌, ◌^◌, ◌++◌, ◌∷◌, ℕ, [], None, Some, length, is_none, slice_get, OnOk, OnErr, IfOk, IfSome, MatchOption};
+ghost use Rattle.std.specs.Prelude.{◌≡◌, ◌<◌, ◌+◌, ◌^◌, ◌++◌, ◌∷◌, ℕ, [], None, Some, length};
+ghost use Rattle.std.specs.Prelude.{is_none, slice_get, OnOk, OnErr, IfOk, IfSome, MatchOption};
 ghost use Rattle.std.specs.Option.{option_copied};
 ghost use Rattle.param_engine.specs.Tables.{Known, known, value_at, asked_at, IsAt};
 
@@ -56,8 +57,10 @@ impl<K: Eq + Hash + Drop, V: Drop> Table<K, V> {
     pub fn find(&self, key: &K) -> Option<(usize, &V)>
         ensures none { result ≡ None → known K.eq self.now.entries key.now ≡ None }
         ensures place { IfSome result (λ found. IsAt K.eq self.now.entries key.now found.0) }
-        ensures value { IfSome result (λ found. known K.eq self.now.entries key.now ≡ Some found.1.now) }
-        ensures there { IfSome result (λ found. value_at self.now.entries found.0 ≡ Some found.1.now) }
+        ensures value { IfSome result
+            (λ found. known K.eq self.now.entries key.now ≡ Some found.1.now) }
+        ensures there { IfSome result
+            (λ found. value_at self.now.entries found.0 ≡ Some found.1.now) }
     {
         let (place, _, finished) = self.finished.get_full(key)?;
         Some((place, &finished.value))
@@ -82,7 +85,8 @@ impl<K: Eq + Hash + Drop, V: Drop> Table<K, V> {
     /// Notes the value of a key of which none is known, at the end.
     pub(crate) fn note(&mut self, key: K, value: V, asked: Items<usize>) -> Result<usize, NoMemory>
         requires { known K.eq self.old.entries key ≡ None }
-        ensures ok { OnOk result (self.new.entries ≡ self.old.entries ++ (key, record { value = value; asked = asked }) ∷ []) }
+        ensures ok { OnOk result (self.new.entries
+            ≡ self.old.entries ++ (key, record { value = value; asked = asked }) ∷ []) }
         ensures place { IfOk result (λ place. place ≡ length self.old.entries) }
         ensures small { OnOk result (length self.new.entries < 2 ^ 63) }
         ensures err { OnErr result (self.new.entries ≡ self.old.entries) }

@@ -1,6 +1,7 @@
 -- What operators make of values (the kinds of values that each takes are a rule of this project's
 -- own; what is no such kind is Mismatch).
-use Rattle.std.specs.Prelude.{ℕ, Bool, true, false, not, ◌&&◌, ◌||◌, ℤ, List, ◌++◌, Option, Some, None, Result, Ok, Err, if◌then◌else◌}
+use Rattle.std.specs.Prelude.{ℕ, Bool, true, false, not, ◌&&◌, ◌||◌, ℤ, List, ◌++◌, Option, Some}
+use Rattle.std.specs.Prelude.{None, Result, Ok, Err, if◌then◌else◌}
 use Rattle.std.specs.Cmp.Lexicographic.{slice_cmp}
 use Rattle.std.specs.Int.{w64, int_min, int_max, int_bit_and, int_bit_or, int_bit_xor}
 use Rattle.std.specs.declared.cmp.Ordering.{Ordering}
@@ -17,7 +18,8 @@ use Rattle.ned_trees.specs.declared.expressions.Sign.{Sign}
 use Rattle.ned_trees.specs.declared.expressions.Sign.TheVariants as sign
 use Rattle.param_eval.specs.declared.fault.ValueFault.{ValueFault}
 use Rattle.param_eval.specs.declared.fault.ValueFault.TheVariants.{Mismatch}
-use Rattle.param_eval.specs.Wholes.{sum, difference, product, quotient, remainder, power, shift_left, shift_right, negation, complement}
+use Rattle.param_eval.specs.Wholes.{sum, difference, product, quotient, remainder, power}
+use Rattle.param_eval.specs.Wholes.{shift_left, shift_right, negation, complement}
 
 -- a value, or why there is none
 abbrev pub Evaluated : Type 0
@@ -132,5 +134,6 @@ chosen_number choice.Max a b = int_max a b
 -- `min` and `max`
 abbrev pub chosen : Choice → Value → Value → Evaluated
 chosen c (value.Whole a) (value.Whole b) = Ok (value.Whole (chosen_number c a b))
-chosen c (value.Quantity d a) (value.Quantity e b) = if same_dimension d e then Ok (value.Quantity d (chosen_number c a b)) else Err Mismatch
+chosen c (value.Quantity d a) (value.Quantity e b) =
+    if same_dimension d e then Ok (value.Quantity d (chosen_number c a b)) else Err Mismatch
 chosen _ _ _ = Err Mismatch

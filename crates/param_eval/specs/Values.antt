@@ -9,7 +9,8 @@ use Rattle.ned_trees.specs.declared.expressions.Expression.TheOpen.{Expression-F
 use Rattle.param_eval.specs.declared.fault.ValueFault.{ValueFault}
 use Rattle.param_eval.specs.declared.fault.ValueFault.TheVariants.{Mismatch}
 use Rattle.param_eval.specs.Operators.{Evaluated, applied, decided, signed, chosen}
-use Rattle.param_eval.specs.References.{Reference, Own, Scoped, Member, Element, Index, ParentIndex, Sizeof, Exists, ExistsAt}
+use Rattle.param_eval.specs.References.{Reference, Own, Scoped, Member, Element, Index, ParentIndex}
+use Rattle.param_eval.specs.References.{Sizeof, Exists, ExistsAt}
 
 -- an asking that ends in a value
 abbrev pub Valued : Type 0
@@ -51,7 +52,8 @@ valued_by (Expression-F.ExistsAt x e) = e >>= indexed (λ k. ExistsAt x k)
 valued_by (Expression-F.Chosen c a b) = a >>= λ x. b >>= λ y. Done (chosen c x y)
 valued_by (Expression-F.Group e) = e
 valued_by (Expression-F.Signed s e) = e >>= λ x. Done (signed s x)
-valued_by (Expression-F.Binary o a b) = a >>= λ x. unless (decided o x) (b >>= λ y. Done (applied o x y))
+valued_by (Expression-F.Binary o a b) =
+    a >>= λ x. unless (decided o x) (b >>= λ y. Done (applied o x y))
 valued_by (Expression-F.Conditional c a b) = c >>= λ x. branched x a b
 
 -- WHAT AN EXPRESSION ASKS, and its value by the answers

@@ -1,6 +1,8 @@
 -- Whole numbers. Each rule is one of whole numbers without bounds; what it gives is Overflow where
 -- it is outside -2^63 to 2^63 - 1.
-use Rattle.std.specs.Prelude.{ℕ, zero, suc, ◌^◌, nat_lt, ℤ, pos, negsuc, ◌+ℤ◌, ◌-ℤ◌, ◌*ℤ◌, neg_ℤ, int_div, int_rem, Bool, true, false, ◌||◌, not, Result, Ok, Err, if◌then◌else◌}
+use Rattle.std.specs.Prelude.{ℕ, zero, suc, ◌^◌, nat_lt, ℤ, pos, negsuc, ◌+ℤ◌, ◌-ℤ◌, ◌*ℤ◌, neg_ℤ}
+use Rattle.std.specs.Prelude.{int_div, int_rem, Bool, true, false, ◌||◌, not, Result, Ok, Err}
+use Rattle.std.specs.Prelude.{if◌then◌else◌}
 use Rattle.std.specs.Int.{int_pow}
 use Rattle.std.specs.Int.Signed.{shr_z}
 use Rattle.param_eval.specs.declared.fault.ValueFault.{ValueFault}
@@ -30,7 +32,8 @@ product a b = bounded (a *ℤ b)
 
 -- the quotient, where the one number is that many times the other
 abbrev pub quotient : ℤ → ℤ → Result ℤ ValueFault
-quotient a b = if is_zero b || not (is_zero (int_rem a b)) then Err Inexact else bounded (int_div a b)
+quotient a b = if is_zero b || not (is_zero (int_rem a b)) then Err Inexact
+    else bounded (int_div a b)
 
 -- what is left of the one number, with its sign, when the other is taken from it as often as it
 -- goes

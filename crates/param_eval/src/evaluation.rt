@@ -3,7 +3,9 @@
 //! native recursion goes as deep as an expression.
 
 ghost use Rattle.std.specs.Prelude.{◌≡◌, ℕ, ◌+◌, ◌<◌, ◌≤◌, IfOk};
-ghost use Rattle.param_eval.specs.Evaluating.{step_of, step_weight, valued_then, valued_with, done_after, task_weight, weight, weight_of, kept, ended, resumed, came_to, asks, left};
+ghost use Rattle.param_eval.specs.Evaluating.{step_of, step_weight, valued_then, valued_with};
+ghost use Rattle.param_eval.specs.Evaluating.{done_after, task_weight, weight, weight_of, kept};
+ghost use Rattle.param_eval.specs.Evaluating.{ended, resumed, came_to, asks, left};
 ghost use Rattle.param_eval.specs.Values.{valued, value_in};
 
 use crate::fault::ValueFault;
@@ -66,8 +68,10 @@ fn enter_first<'m>(
     first: &'m Expression,
     task: Task<'m>,
 ) -> Result<TaskStep<'m>, NoMemory>
-    ensures step { IfOk result (λ step. step_of tasks.new.items step ≡ valued_with tasks.old.items task.entry first.now) }
-    ensures weight { IfOk result (λ step. step_weight step + weight tasks.new.items ≡ weight_of first.now + task_weight task.entry + weight tasks.old.items) }
+    ensures step { IfOk result
+        (λ step. step_of tasks.new.items step ≡ valued_with tasks.old.items task.entry first.now) }
+    ensures weight { IfOk result (λ step. step_weight step + weight tasks.new.items
+        ≡ weight_of first.now + task_weight task.entry + weight tasks.old.items) }
 {
     tasks.push(task)?;
     Ok(TaskStep::Evaluate(first))
@@ -79,8 +83,10 @@ fn enter<'m>(
     tasks: &mut Vec<Task<'m>>,
     expression: &'m Expression,
 ) -> Result<TaskStep<'m>, NoMemory>
-    ensures step { IfOk result (λ step. step_of tasks.new.items step ≡ valued_then tasks.old.items expression.now) }
-    ensures weight { IfOk result (λ step. step_weight step + weight tasks.new.items < weight_of expression.now + weight tasks.old.items) }
+    ensures step { IfOk result
+        (λ step. step_of tasks.new.items step ≡ valued_then tasks.old.items expression.now) }
+    ensures weight { IfOk result (λ step. step_weight step + weight tasks.new.items
+        < weight_of expression.now + weight tasks.old.items) }
 {
     match expression {
         Expression::Literal(value) => Ok(TaskStep::Keep(value.copy(alloc)?)),
@@ -118,8 +124,10 @@ fn go_right<'m>(
     left: Value,
     right: &'m Expression,
 ) -> Result<TaskStep<'m>, NoMemory>
-    ensures step { IfOk result (λ step. step_of tasks.new.items step ≡ done_after (Task.Right combination right.entry) left tasks.old.items) }
-    ensures weight { IfOk result (λ step. step_weight step + weight tasks.new.items < weight_of right.now + 2 + weight tasks.old.items) }
+    ensures step { IfOk result (λ step. step_of tasks.new.items step
+        ≡ done_after (Task.Right combination right.entry) left tasks.old.items) }
+    ensures weight { IfOk result (λ step. step_weight step + weight tasks.new.items
+        < weight_of right.now + 2 + weight tasks.old.items) }
 {
     if let Some(found) = settled(combination, &left) {
         return Ok(kept(found));
@@ -134,8 +142,10 @@ fn apply<'m>(
     task: Task<'m>,
     value: Value,
 ) -> Result<TaskStep<'m>, NoMemory>
-    ensures step { IfOk result (λ step. step_of tasks.new.items step ≡ done_after task.entry value tasks.old.items) }
-    ensures weight { IfOk result (λ step. step_weight step + weight tasks.new.items < task_weight task.entry + weight tasks.old.items) }
+    ensures step { IfOk result
+        (λ step. step_of tasks.new.items step ≡ done_after task.entry value tasks.old.items) }
+    ensures weight { IfOk result (λ step. step_weight step + weight tasks.new.items
+        < task_weight task.entry + weight tasks.old.items) }
 {
     match task {
         Task::Right(combination, right) => go_right(tasks, combination, value, right),
@@ -165,8 +175,10 @@ fn run<'m>(
     tasks: &mut Vec<Task<'m>>,
     step: TaskStep<'m>,
 ) -> Result<EvaluationStep<'m>, NoMemory>
-    ensures end { IfOk result (λ end. ended tasks.new.items end ≡ step_of tasks.old.items step.entry) }
-    ensures weight { IfOk result (λ end. asks end + weight tasks.new.items ≤ step_weight step.entry + weight tasks.old.items) }
+    ensures end { IfOk result
+        (λ end. ended tasks.new.items end ≡ step_of tasks.old.items step.entry) }
+    ensures weight { IfOk result (λ end. asks end + weight tasks.new.items
+        ≤ step_weight step.entry + weight tasks.old.items) }
 {
     let mut step = step;
     loop {
@@ -195,7 +207,8 @@ impl<'m> Evaluation<'m> {
         expression: &'m Expression,
     ) -> Result<(Evaluation<'m>, EvaluationStep<'m>), NoMemory>
         ensures turn { IfOk result (λ begun. came_to begun.0 begun.1 ≡ valued expression.now) }
-        ensures few { IfOk result (λ begun. asks begun.1 + left begun.0 ≤ weight_of expression.now) }
+        ensures few { IfOk result
+            (λ begun. asks begun.1 + left begun.0 ≤ weight_of expression.now) }
     {
         let mut tasks = Vec::new(alloc);
         let turn = run(alloc, &mut tasks, TaskStep::Evaluate(expression))?;

@@ -1,5 +1,6 @@
 -- Values found by following references.
-use Rattle.std.specs.Prelude.{ℕ, zero, suc, ◌^◌, Bool, true, false, if◌then◌else◌, List, [], ◌∷◌, Result, Err, Option, Some, None}
+use Rattle.std.specs.Prelude.{ℕ, zero, suc, ◌^◌, Bool, true, false, if◌then◌else◌, List, [], ◌∷◌}
+use Rattle.std.specs.Prelude.{Result, Err, Option, Some, None}
 use Rattle.param_following.specs.Asking.{Asking, outcome}
 
 -- whether a key is on the list

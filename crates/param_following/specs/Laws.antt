@@ -1,12 +1,14 @@
 -- What holds of values found by following references, by whatever rules.
-use Rattle.std.specs.Prelude.{ℕ, suc, ◌≡◌, ◌≤◌, ◌<◌, ◌⊎◌, true, List, [], Result, Err, Option, Some, None}
+use Rattle.std.specs.Prelude.{ℕ, suc, ◌≡◌, ◌≤◌, ◌<◌, ◌⊎◌, true, List, [], Result, Err, Option, Some}
+use Rattle.std.specs.Prelude.{None}
 use Rattle.param_following.specs.Asking.{Asking, Done, Ask, ◌>>=◌, with_value, outcome}
 use Rattle.param_following.specs.Following.{Rules, is_on, value_within, followed}
 
 -- IN TURN: of askings one after the other it doesn't matter how they are grouped, and what comes of
 -- the first decides what comes of both.
 pub record IsInTurn (K V F R S T : Type 0) : Type 0 where
-  pub grouped : (t : Asking K V F R) (f : R → Asking K V F S) (g : S → Asking K V F T) → t >>= f >>= g ≡ t >>= (λ r. f r >>= g)
+  pub grouped : (t : Asking K V F R) (f : R → Asking K V F S) (g : S → Asking K V F T)
+      → t >>= f >>= g ≡ t >>= (λ r. f r >>= g)
   pub comes : (answers : K → Option (Result V F)) (t : Asking K V F R) (f : R → Asking K V F S)
       → outcome answers (t >>= f) ≡ with_value (outcome answers t) (λ r. outcome answers (f r))
 
@@ -31,7 +33,8 @@ module _ {K V F : Type 0} (rules : Rules K V F) where
   -- and each value or fault but a circle is what following alone finds
   abbrev pub IsFollowedOrCircle : Type 0
   IsFollowedOrCircle = (n : ℕ) (evaluated : List K) (k : K) (r : Result V F) →
-      value_within rules n evaluated k ≡ Some r → (followed rules n k ≡ Some r) ⊎ (r ≡ Err rules.circle)
+      value_within rules n evaluated k ≡ Some r → (followed rules n k ≡ Some r)
+      ⊎ (r ≡ Err rules.circle)
 
 -- an asking asks for keys of this kind alone, whatever the answers are
 abbrev pub AsksOnly : {K V F R : Type 0} → (K → Type 0) → Asking K V F R → Type 0
@@ -41,6 +44,8 @@ AsksOnly {K} {V} IsIn (Ask k rest) = IsIn k × ((v : V) → AsksOnly IsIn (rest 
 -- ENOUGH: of keys that ask for one another alone, and have different numbers below `bound`, there
 -- are no longer lists without one that comes twice; so the bound of the definition is never reached
 abbrev pub IsEnough : {K V F : Type 0} → Rules K V F → (K → Type 0) → Type 0
-IsEnough {K} rules IsIn = (number : K → ℕ) (bound : ℕ) → ((k : K) → IsIn k → AsksOnly IsIn (rules.asking k)) →
-    ((k : K) → IsIn k → number k < bound) → ((a b : K) → IsIn a → IsIn b → number a ≡ number b → rules.same a b ≡ true) →
+IsEnough {K} rules IsIn = (number : K → ℕ) (bound : ℕ)
+    → ((k : K) → IsIn k → AsksOnly IsIn (rules.asking k)) →
+    ((k : K) → IsIn k → number k < bound)
+    → ((a b : K) → IsIn a → IsIn b → number a ≡ number b → rules.same a b ≡ true) →
     (k : K) → IsIn k → value_within rules (suc bound) [] k ≡ None → ⊥

@@ -10,7 +10,8 @@ Agrees {K} {V} {F} known answers = (k : K) (v : V) → known k ≡ Some v → an
 
 -- by the values that are known the one asking comes to the other
 abbrev pub ComesTo : {K V F R : Type 0} → (K → Option V) → Asking K V F R → Asking K V F R → Type 0
-ComesTo {K} {V} {F} known s t = (answers : K → Option (Result V F)) → Agrees known answers → outcome answers s ≡ outcome answers t
+ComesTo {K} {V} {F} known s t = (answers : K → Option (Result V F)) → Agrees known answers
+    → outcome answers s ≡ outcome answers t
 
 -- each value that is known is what following finds in n steps
 abbrev pub IsRight : {K V F : Type 0} → Rules K V F → ℕ → (K → Option V) → Type 0
@@ -26,9 +27,11 @@ keys_of [] = []
 keys_of (w ∷ ws) = w.key ∷ keys_of ws
 
 -- the first waits for k, and each of the others for the one before
-abbrev pub AreWaiting : {K V F : Type 0} → Rules K V F → (K → Option V) → K → List (Waiter K V F) → Type 0
+abbrev pub AreWaiting : {K V F : Type 0} → Rules K V F → (K → Option V) → K
+    → List (Waiter K V F) → Type 0
 AreWaiting rules known k [] = Unit {0}
-AreWaiting rules known k (w ∷ ws) = ComesTo known (rules.asking w.key) (Ask k w.rest) × AreWaiting rules known w.key ws
+AreWaiting rules known k (w ∷ ws) =
+    ComesTo known (rules.asking w.key) (Ask k w.rest) × AreWaiting rules known w.key ws
 
 -- the key at the bottom: the one that was asked first
 abbrev pub bottom_of : {K V F : Type 0} → K → List (Waiter K V F) → K

@@ -3,7 +3,8 @@
 ghost use Rattle.std.specs.Prelude.{◌≡◌, Bool, true};
 ghost use Rattle.param_following.specs.Edits.{EditKeeps};
 ghost use Rattle.param_following.specs.Following.{Rules};
-ghost use Rattle.param_following.specs.Laws.{IsInTurn, IsExact, CountIsNoMatter, EndsWithoutCircle, IsFollowedOrCircle, IsEnough};
+ghost use Rattle.param_following.specs.Laws.{IsInTurn, IsExact, CountIsNoMatter, EndsWithoutCircle};
+ghost use Rattle.param_following.specs.Laws.{IsFollowedOrCircle, IsEnough};
 
 /// Of askings one after the other it doesn't matter how they are grouped; and what comes of the
 /// first decides what comes of both.
@@ -38,5 +39,6 @@ pub fn is_enough<K, V, F>()
 /// After an edit: what one pass over the known values keeps is right in the new model and rests on
 /// kept values alone, and each key that it gives up rests on a changed one.
 pub fn edit_keeps<K, V, F>()
-    ensures { (before after : Rules K V F) → ((a b : K) → before.same a b ≡ true → a ≡ b) → EditKeeps before after }
+    ensures { (before after : Rules K V F) → ((a b : K) → before.same a b ≡ true → a ≡ b)
+        → EditKeeps before after }
 {}

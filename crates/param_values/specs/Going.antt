@@ -30,8 +30,11 @@ weight_of progress.Over = 0
 pub same_is : (a b : Key) → same_key a b ≡ true → a ≡ b
 same_is a b h = by (a.id == b.id) refl (bytes_eq a.name b.name) refl h
   where
-    by : (i : Bool) → (a.id == b.id) ≡ i → (j : Bool) → bytes_eq a.name b.name ≡ j → (i && j) ≡ true → a ≡ b
+    by : (i : Bool) → (a.id == b.id) ≡ i → (j : Bool) → bytes_eq a.name b.name ≡ j
+        → (i && j) ≡ true → a ≡ b
     by true e true f g =
-        ap (λ (id : ℕ). record { id = id; name = a.name }) (eqb-true a.id b.id e) ∙ ap (λ (name : List ℕ). record { id = b.id; name = name }) ((bytes_eq-Decides a.name b.name).0 f)
+        ap (λ (id : ℕ). record { id = id; name = a.name }) (eqb-true a.id b.id e)
+        ∙ ap (λ (name : List ℕ). record { id = b.id; name = name })
+        ((bytes_eq-Decides a.name b.name).0 f)
     by true e false f g = absurd (true≢false (sym g))
     by false e j f g = absurd (true≢false (sym g))

@@ -1,6 +1,7 @@
 -- What holds of values of parameters that refer to other parameters, and small settings whose
 -- values were worked out by hand.
-use Rattle.std.specs.Prelude.{ℕ, suc, ◌≡◌, ◌<◌, ◌^◌, ℤ, pos, Bool, true, List, Option, Some, None, Ok, Err, codes, if◌then◌else◌}
+use Rattle.std.specs.Prelude.{ℕ, suc, ◌≡◌, ◌<◌, ◌^◌, ℤ, pos, Bool, true, List, Option, Some, None}
+use Rattle.std.specs.Prelude.{Ok, Err, codes, if◌then◌else◌}
 use Rattle.param_following.specs.Asking.{Done, Ask}
 use Rattle.sim_values.specs.declared.value.Value.{Value}
 use Rattle.sim_values.specs.declared.value.Value.TheVariants as value
@@ -29,7 +30,8 @@ where_ok (Err e) P = Unit {0}
 -- with these values an asking asks for these keys alone
 abbrev pub AsksAmong : (Key → Evaluated) → (Key → Bool) → ValueAsking → Type 0
 AsksAmong values among (Done found) = Unit {0}
-AsksAmong values among (Ask k rest) = (among k ≡ true) × where_ok (values k) (λ v. AsksAmong values among (rest v))
+AsksAmong values among (Ask k rest) =
+    (among k ≡ true) × where_ok (values k) (λ v. AsksAmong values among (rest v))
 
 -- these parameters ask for one another alone
 abbrev pub IsSelfContained : ParameterRules → (Key → Bool) → Type 0
@@ -39,8 +41,10 @@ IsSelfContained s among = (k : Key) → among k ≡ true → AsksAmong (value_at
 -- Where two models agree on what each of these parameters asks, and with the values of the one
 -- these ask for one another alone, they give them the same values and faults.
 pub record AlikeIsTheSame : Type 0 where
-  pub alike : (s t : ParameterRules) (k : Key) → s.declared k ≡ t.declared k → s.entry k ≡ t.entry k → asking_of s k ≡ asking_of t k
-  pub same : (s t : ParameterRules) (among : Key → Bool) → IsSelfContained s among → ((k : Key) → among k ≡ true → asking_of s k ≡ asking_of t k)
+  pub alike : (s t : ParameterRules) (k : Key) → s.declared k ≡ t.declared k → s.entry k ≡ t.entry k
+      → asking_of s k ≡ asking_of t k
+  pub same : (s t : ParameterRules) (among : Key → Bool) → IsSelfContained s among
+      → ((k : Key) → among k ≡ true → asking_of s k ≡ asking_of t k)
       → (k : Key) → among k ≡ true → value_at s k ≡ value_at t k
 
 -- ---- literals
@@ -68,8 +72,10 @@ own name = expression.Scoped scope.This name
 -- however long the chain is
 abbrev pub IsChained : Type 0
 IsChained = (s : ParameterRules) (id parent n : ℕ) (name : ℕ → List ℕ) (z : ℤ) → n < 2 ^ 64 →
-    ((i : ℕ) → i < n → s.declared (key_of id (name i)) ≡ Some (whole parent (fixed section.OfType (own (name (suc i)))))) →
-    s.declared (key_of id (name n)) ≡ Some (whole parent (fixed section.OfType (expression.Literal (value.Whole z)))) →
+    ((i : ℕ) → i < n → s.declared (key_of id (name i))
+    ≡ Some (whole parent (fixed section.OfType (own (name (suc i)))))) →
+    s.declared (key_of id (name n))
+    ≡ Some (whole parent (fixed section.OfType (expression.Literal (value.Whole z)))) →
     value_at s (key_of id (name 0)) ≡ Ok (value.Whole z)
 
 -- ---- one module `t: Tick { .. }` of id 2 in a network of id 1
@@ -95,31 +101,42 @@ number n = expression.Literal (value.Whole (pos n))
 
 -- `t: Tick { count = this.late; late = this.count; }`
 abbrev pub both_ways : ParameterRules
-both_ways = tick (parameter 2 (codes "count") (whole 1 (fixed section.OfBody (own (codes "late")))) (parameter 2 (codes "late") (whole 1 (fixed section.OfBody (own (codes "count")))) no_parameter)) None
+both_ways = tick (parameter 2 (codes "count") (whole 1 (fixed section.OfBody (own (codes "late"))))
+    (parameter 2 (codes "late") (whole 1 (fixed section.OfBody (own (codes "count"))))
+    no_parameter)) None
 
 -- `t: Tick { count = 4; }` and `**.count = 9`
 abbrev pub fixed_four : ParameterRules
-fixed_four = tick (parameter 2 (codes "count") (whole 1 (fixed section.OfBody (number 4))) no_parameter) (Some (entry.Given (number 9)))
+fixed_four = tick (parameter 2 (codes "count") (whole 1 (fixed section.OfBody (number 4)))
+    no_parameter) (Some (entry.Given (number 9)))
 
 -- `t: Tick { count = default(4); }` and `**.count = 9`
 abbrev pub default_four : ParameterRules
-default_four = tick (parameter 2 (codes "count") (whole 1 (default section.OfBody (number 4))) no_parameter) (Some (entry.Given (number 9)))
+default_four = tick (parameter 2 (codes "count") (whole 1 (default section.OfBody (number 4)))
+    no_parameter) (Some (entry.Given (number 9)))
 
 -- the same with `**.count = default`
 abbrev pub default_kept : ParameterRules
-default_kept = tick (parameter 2 (codes "count") (whole 1 (default section.OfBody (number 4))) no_parameter) (Some entry.Default)
+default_kept = tick (parameter 2 (codes "count") (whole 1 (default section.OfBody (number 4)))
+    no_parameter) (Some entry.Default)
 
 -- `t: Tick { count = late; late = 3; }` in a network with `late = 5`: in a body a bare name is the
 -- network's
 abbrev pub lates : Given → Option EntryValue → ParameterRules
-lates g found = tick (parameter 2 (codes "count") (whole 1 g) (parameter 2 (codes "late") (whole 1 (fixed section.OfBody (number 3))) (parameter 1 (codes "late") (whole 0 (fixed section.OfType (number 5))) no_parameter))) found
+lates g found = tick (parameter 2 (codes "count") (whole 1 g)
+    (parameter 2 (codes "late") (whole 1 (fixed section.OfBody (number 3))) (parameter 1
+    (codes "late") (whole 0 (fixed section.OfType (number 5))) no_parameter))) found
 
 abbrev pub name : Section → Given
 name s = fixed s (expression.Name (codes "late"))
 
 -- `string count = 4`
 abbrev pub no_text : ParameterRules
-no_text = tick (parameter 2 (codes "count") (record { kind = kind.Text; parent = 1; given = Some (fixed section.OfType (number 4)) }) no_parameter) None
+no_text = tick (parameter 2 (codes "count") (record {
+  kind = kind.Text;
+  parent = 1;
+  given = Some (fixed section.OfType (number 4));
+}) no_parameter) None
 
 -- THE ROWS
 pub record AreWorked : Type 0 where
@@ -129,8 +146,11 @@ pub record AreWorked : Type 0 where
   pub of_default : value_at default_kept count ≡ Ok (value.Whole (pos 4))
   pub bare_in_body : value_at (lates (name section.OfBody) None) count ≡ Ok (value.Whole (pos 5))
   pub bare_in_type : value_at (lates (name section.OfType) None) count ≡ Ok (value.Whole (pos 3))
-  pub of_this : value_at (lates (fixed section.OfBody (own (codes "late"))) None) count ≡ Ok (value.Whole (pos 3))
-  pub of_parent : value_at (lates (fixed section.OfType (expression.Scoped scope.Parent (codes "late"))) None) count ≡ Ok (value.Whole (pos 5))
-  pub bare_in_entry : value_at (lates (default section.OfBody (number 4)) (Some (entry.Given (expression.Name (codes "late"))))) count ≡ Ok (value.Whole (pos 3))
+  pub of_this : value_at (lates (fixed section.OfBody (own (codes "late"))) None) count
+      ≡ Ok (value.Whole (pos 3))
+  pub of_parent : value_at (lates (fixed section.OfType
+      (expression.Scoped scope.Parent (codes "late"))) None) count ≡ Ok (value.Whole (pos 5))
+  pub bare_in_entry : value_at (lates (default section.OfBody (number 4))
+      (Some (entry.Given (expression.Name (codes "late"))))) count ≡ Ok (value.Whole (pos 3))
   pub of_none : value_at no_text (key_of 2 (codes "late")) ≡ Err Unassigned
   pub of_other_kind : value_at no_text count ≡ Err Mismatch

@@ -51,7 +51,8 @@ pub(crate) fn chosen<'m>(
     given: Option<Given<'m>>,
     entry: Option<&'m EntryValue>,
 ) -> Option<Written<'m>>
-    ensures { maybe_written result ≡ first_given (given_by given.entry) (option_copied entry.entry) }
+    ensures { maybe_written result
+        ≡ first_given (given_by given.entry) (option_copied entry.entry) }
 {
     match (given, entry) {
         (Some(Given::Fixed(written)), _) => Some(written),
@@ -71,7 +72,8 @@ fn first_given<'m, S: ParameterSource>(
     key: &Key,
     given: Option<Given<'m>>,
 ) -> Result<Option<Written<'m>>, NoMemory>
-    ensures { IfOk result (λ found. maybe_written found ≡ first_given (given_by given.entry) ((S.setting scene.now).entry key.now)) }
+    ensures { IfOk result (λ found. maybe_written found
+        ≡ first_given (given_by given.entry) ((S.setting scene.now).entry key.now)) }
 {
     if let Some(Given::Fixed(written)) = given {
         return Ok(Some(written));
@@ -86,7 +88,8 @@ fn told<'m>(
     stop: Stop<'m>,
 ) -> Result<EngineStep<Key, Value, ValueFault>, NoMemory>
     ensures turn { IfOk result (λ turn. came_to (goes_on_from going.now) turn
-        ≡ referring_to going.now.kind going.now.place (evaluating.came_to going.now.evaluation stop.entry)) }
+        ≡ referring_to going.now.kind going.now.place
+        (evaluating.came_to going.now.evaluation stop.entry)) }
     ensures asks { IfOk result (λ turn. asks turn ≤ evaluating.asks stop.entry) }
 {
     Ok(match stop {
@@ -108,8 +111,10 @@ fn go_on<'m>(
     going: &mut Going<'m>,
     value: &Value,
 ) -> Result<EngineStep<Key, Value, ValueFault>, NoMemory>
-    ensures turn { IfOk result (λ turn. came_to (goes_on_from going.new) turn ≡ goes_on_from going.old value.now) }
-    ensures less { IfOk result (λ turn. asks turn + evaluating.left going.new.evaluation ≤ evaluating.left going.old.evaluation) }
+    ensures turn { IfOk result
+        (λ turn. came_to (goes_on_from going.new) turn ≡ goes_on_from going.old value.now) }
+    ensures less { IfOk result (λ turn. asks turn + evaluating.left going.new.evaluation
+        ≤ evaluating.left going.old.evaluation) }
 {
     let value = value.copy(alloc)?;
     let stop = going.evaluation.go_on(alloc, value)?;
@@ -122,7 +127,8 @@ fn start<'m, S: ParameterSource>(
     scene: &'m S,
     key: &Key,
 ) -> Result<(ParameterProgress<'m>, EngineStep<Key, Value, ValueFault>), NoMemory>
-    ensures { IfOk result (λ begun. came_to (goes_on begun.0) begun.1 ≡ asking_of (S.setting scene.now) key.now) }
+    ensures { IfOk result
+        (λ begun. came_to (goes_on begun.0) begun.1 ≡ asking_of (S.setting scene.now) key.now) }
 {
     let Some(parameter) = scene.parameter(key) else {
         return Ok((

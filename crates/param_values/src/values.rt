@@ -39,12 +39,15 @@ pub fn parameter_value<S: ParameterSource>(
     key: Key,
 ) -> Result<Result<usize, ValueFault>, NoMemory>
     requires { IsKept (rules_of (S.setting scene.now)) table.old.entries }
-    ensures value { IfOk result (λ found. found_in table.new.entries found ≡ Some (value_at (S.setting scene.now) key)) }
+    ensures value { IfOk result
+        (λ found. found_in table.new.entries found ≡ Some (value_at (S.setting scene.now) key)) }
     ensures kept { IsKept (rules_of (S.setting scene.now)) table.new.entries }
     ensures begins { Begins table.old.entries table.new.entries }
     // Each parameter was evaluated once at most: where there is a value, those that were added.
-    ensures once { OnOk result (AreBegunOnce (rules_of (S.setting scene.now)) table.old.entries table.new.entries table.new.begun) }
-    ensures counted { IfOk result (λ found. OnOk found (table.new.begun + length table.old.entries ≡ length table.new.entries)) }
+    ensures once { OnOk result (AreBegunOnce (rules_of (S.setting scene.now)) table.old.entries
+        table.new.entries table.new.begun) }
+    ensures counted { IfOk result (λ found. OnOk found (table.new.begun + length table.old.entries
+        ≡ length table.new.entries)) }
 {
     engine::value_of(alloc, &Parameters { scene }, table, key)
 }
@@ -71,7 +74,8 @@ pub fn literal_value(
     parameter: DeclaredParameter<'_>,
     entry: Option<&EntryValue>,
 ) -> Result<Option<Result<Value, ValueFault>>, NoMemory>
-    ensures { IfOk result (λ found. found ≡ literal_value (declared_as parameter.entry) (option_copied entry.entry)) }
+    ensures { IfOk result
+        (λ found. found ≡ literal_value (declared_as parameter.entry) (option_copied entry.entry)) }
 {
     match literal_of(chosen(parameter.given, entry)) {
         Some(value) => Ok(Some(of_kind(parameter.kind, value.copy(alloc)?))),

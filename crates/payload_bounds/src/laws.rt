@@ -17,14 +17,17 @@ ghost use Rattle.payload_bounds.specs.Bounds.{AreBounded, AreShort, BringShort, 
 /// where the model had no more and no longer ones. A model that was just read has none.
 pub fn edits_keep_bounds()
     ensures none { AreBounded [] }
-    ensures kept { (m new : Model) (e : Edit) → IsEditOf m e new → AreBounded m.injections → AreBounded new.injections }
+    ensures kept { (m new : Model) (e : Edit) → IsEditOf m e new → AreBounded m.injections
+        → AreBounded new.injections }
 {}
 
 /// Where each injection of a model has a payload of at most 4,096 bytes, so has each message that a
 /// module handles: at each moment of a run that of each event to come, and that of the event that
 /// comes next.
 pub fn messages_are_short()
-    ensures pending { (b : Behaviour) (m : Answers) (n : ℕ) → AreShort m.injections → BringShort (world_at (after b m n)).pending }
-    ensures next { (b : Behaviour) (m : Answers) (n : ℕ) (u : World) (p : Pending) (rest : List Pending) → AreShort m.injections
+    ensures pending { (b : Behaviour) (m : Answers) (n : ℕ) → AreShort m.injections
+        → BringShort (world_at (after b m n)).pending }
+    ensures next { (b : Behaviour) (m : Answers) (n : ℕ) (u : World) (p : Pending)
+        (rest : List Pending) → AreShort m.injections
         → upcoming m (world_at (after b m n)) ≡ Comes u p rest → IsShort (message_of p).payload }
 {}

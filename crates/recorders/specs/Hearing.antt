@@ -1,5 +1,6 @@
 -- Which emissions a vector hears.
-use Rattle.std.specs.Prelude.{ℕ, zero, suc, ◌==◌, Bool, true, false, ◌&&◌, List, Option, Some, None, if◌then◌else◌}
+use Rattle.std.specs.Prelude.{ℕ, zero, suc, ◌==◌, Bool, true, false, ◌&&◌, List, Option, Some, None}
+use Rattle.std.specs.Prelude.{if◌then◌else◌}
 use Rattle.std.specs.Str.{bytes_eq}
 use Rattle.model_questions.specs.declared.record.Record.{Record}
 use Rattle.model_questions.specs.Records.{record_at}
@@ -15,7 +16,8 @@ within_parent is_parent_within (Some r) = is_parent_within r.parent
 abbrev pub is_within_up : ℕ → List Record → ℕ → ℕ → Bool
 is_within_up zero records id emitter = false
 is_within_up (suc depth) records id emitter =
-    if emitter == id then true else within_parent (is_within_up depth records id) (record_at records emitter)
+    if emitter == id then true
+    else within_parent (is_within_up depth records id) (record_at records emitter)
 
 -- whether the emitter stands in the subtree of the module of that id, which it may be itself:
 -- modules are nested at most 32 deep

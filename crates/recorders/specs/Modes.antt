@@ -1,5 +1,6 @@
 -- Which modes of a statistic are recorded.
-use Rattle.std.specs.Prelude.{Bool, false, not, List, [], ◌∷◌, ◌++◌, map, filter, fold, if◌then◌else◌}
+use Rattle.std.specs.Prelude.{Bool, false, not, List, [], ◌∷◌, ◌++◌, map, filter, fold}
+use Rattle.std.specs.Prelude.{if◌then◌else◌}
 use Rattle.std.specs.List.{list_any}
 use denote.Enum.Bare.{sameb}
 use Rattle.ned_trees.specs.contracts.modes.Mode as mode_kind
@@ -49,4 +50,5 @@ modes_not_among modes others = filter (λ (m : Mode). not (is_among m others)) m
 -- chosen modes in the order of their recording: first those that the statistic names, as it names
 -- them, then the others, as they were added
 abbrev pub in_order : List RecordedMode → List Mode → List Mode
-in_order modes chosen = modes_among (declared_modes modes) chosen ++ modes_not_among chosen (declared_modes modes)
+in_order modes chosen =
+    modes_among (declared_modes modes) chosen ++ modes_not_among chosen (declared_modes modes)

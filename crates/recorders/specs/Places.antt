@@ -1,5 +1,6 @@
 -- Where the elements of a list stand that concern a module.
-use Rattle.std.specs.Prelude.{◌≡◌, ℕ, ◌+◌, ◌-◌, ◌<◌, ◌==◌, Bool, false, ◌&&◌, ℤ, List, [], ◌∷◌, ◌++◌, Option, Some, None, Vec, length, slice_get, if◌then◌else◌}
+use Rattle.std.specs.Prelude.{◌≡◌, ℕ, ◌+◌, ◌-◌, ◌<◌, ◌==◌, Bool, false, ◌&&◌, ℤ, List, [], ◌∷◌}
+use Rattle.std.specs.Prelude.{◌++◌, Option, Some, None, Vec, length, slice_get, if◌then◌else◌}
 use Rattle.std.specs.List.{list_any}
 use Rattle.std.specs.Str.{bytes_eq}
 use Rattle.std.specs.declared.alloc.Global.{Global}
@@ -15,11 +16,13 @@ use Rattle.run_semantics.specs.declared.traces.Scalar.{Scalar}
 abbrev pub places_from : {A : Type 0} → ℕ → (A → Bool) → List A → List ℕ
 places_from place is_meant [] = []
 places_from place is_meant (x ∷ xs) =
-    if is_meant x then place ∷ places_from (place + 1) is_meant xs else places_from (place + 1) is_meant xs
+    if is_meant x then place ∷ places_from (place + 1) is_meant xs
+    else places_from (place + 1) is_meant xs
 
 -- the places of the emissions that come from the subtree of the module of that id
 abbrev pub heard_places : List Record → ℕ → List Emission → List ℕ
-heard_places records id emissions = places_from 0 (λ (e : Emission). is_within records id e.id) emissions
+heard_places records id emissions =
+    places_from 0 (λ (e : Emission). is_within records id e.id) emissions
 
 -- the places of the scalars that the module of that id recorded
 abbrev pub recorded_places : ℕ → List Scalar → List ℕ
@@ -68,7 +71,8 @@ is_place place (Some other) = other == place
 
 -- a place is noted after the others, unless it is the last of them
 abbrev pub noted : ℕ → List ℕ → List ℕ
-noted place list = if is_place place (slice_get list (length list - 1)) then list else list ++ place ∷ []
+noted place list = if is_place place (slice_get list (length list - 1)) then list
+    else list ++ place ∷ []
 
 abbrev pub noted_if : Bool → ℕ → List ℕ → List ℕ
 noted_if is_meant place list = if is_meant then noted place list else list
@@ -77,7 +81,8 @@ noted_if is_meant place list = if is_meant then noted place list else list
 -- pass
 abbrev pub AreOf : {A : Type 0} → ℕ → (ℕ → A → Bool) → List A → PlaceLists → Type 0
 AreOf count is_meant elements lists =
-    (length lists ≡ count) × ((id : ℕ) → id < count → places_at lists id ≡ places_from 0 (is_meant id) elements)
+    (length lists ≡ count)
+    × ((id : ℕ) → id < count → places_at lists id ≡ places_from 0 (is_meant id) elements)
 
 -- the places of the emissions that come from the subtree of the module of that id, if it is wanted
 abbrev pub wanted_places : List Bool → List Record → ℕ → List Emission → List ℕ
@@ -86,7 +91,8 @@ wanted_places wanted records id emissions =
 
 abbrev pub AreHeard : List Bool → List Record → List Emission → PlaceLists → Type 0
 AreHeard wanted records emissions lists =
-    AreOf (length records + 1) (λ id (e : Emission). is_within records id e.id && is_wanted wanted id) emissions lists
+    AreOf (length records + 1)
+    (λ id (e : Emission). is_within records id e.id && is_wanted wanted id) emissions lists
 
 -- whether a number is one of these
 abbrev pub is_number : ℕ → List ℕ → Bool
@@ -100,20 +106,24 @@ ids_at = places_at
 -- id stands
 abbrev pub AreHearers : List Bool → List Record → ℕ → List (Vec ℕ Global) → Type 0
 AreHearers wanted records count hearers =
-    (length hearers ≡ count) × ((e : ℕ) → e < count → (q : ℕ) → is_number q (ids_at hearers e) ≡ (is_within records q e && is_wanted wanted q))
+    (length hearers ≡ count) × ((e : ℕ) → e < count → (q : ℕ)
+    → is_number q (ids_at hearers e) ≡ (is_within records q e && is_wanted wanted q))
 
 -- the places of the emissions that the module of that id is to hear by such lists
 abbrev pub places_heard : List (Vec ℕ Global) → ℕ → List Emission → List ℕ
-places_heard hearers id emissions = places_from 0 (λ (e : Emission). is_number id (ids_at hearers e.id)) emissions
+places_heard hearers id emissions =
+    places_from 0 (λ (e : Emission). is_number id (ids_at hearers e.id)) emissions
 
 abbrev pub AreRecorded : List Record → List Scalar → PlaceLists → Type 0
-AreRecorded records recorded lists = AreOf (length records + 1) (λ id (s : Scalar). s.id == id) recorded lists
+AreRecorded records recorded lists =
+    AreOf (length records + 1) (λ id (s : Scalar). s.id == id) recorded lists
 
 abbrev pub AreFinished : List Record → List ℕ → PlaceLists → Type 0
 AreFinished records finished lists = AreOf (length records + 1) (λ id f. f == id) finished lists
 
 -- the lists of a run with the modules of these records, of which some are wanted
-pub record AreOfRun (records : List Record) (finished : List ℕ) (recorded : List Scalar) (emissions : List Emission) (places : RunPlaces) : Type 0 where
+pub record AreOfRun (records : List Record) (finished : List ℕ) (recorded : List Scalar)
+    (emissions : List Emission) (places : RunPlaces) : Type 0 where
   pub heard : AreHeard places.wanted.items records emissions places.heard.items
   pub recorded_ones : AreRecorded records recorded places.recorded.items
   pub finished_ones : AreFinished records finished places.finished.items

@@ -1,6 +1,7 @@
 -- What the per-object options let be recorded.
 -- OMNeT++ Simulation Manual, "Configuring Result Collection", "Selecting Recording Modes".
-use Rattle.std.specs.Prelude.{ℕ, Bool, true, false, ◌&&◌, List, [], ◌∷◌, ◌++◌, fold, Option, Some, codes, if◌then◌else◌}
+use Rattle.std.specs.Prelude.{ℕ, Bool, true, false, ◌&&◌, List, [], ◌∷◌, ◌++◌, fold, Option, Some}
+use Rattle.std.specs.Prelude.{codes, if◌then◌else◌}
 use Rattle.std.specs.List.{list_any}
 use Rattle.ini_trees.specs.declared.lines.IniEntry.{IniEntry}
 use Rattle.ini_trees.specs.declared.entry.ModeItem.{ModeItem}
@@ -14,7 +15,8 @@ use Rattle.ned_trees.specs.declared.modes.Mode.{Mode}
 use Rattle.ned_trees.specs.declared.modes.Mode.TheVariants as mode
 use Rattle.ned_trees.specs.declared.declarations.RecordedMode.{RecordedMode}
 use Rattle.ned_trees.specs.declared.declarations.Statistic.{Statistic}
-use Rattle.recorders.specs.Modes.{is_among, with_mode, with_modes, without_mode, declared_modes, default_modes, in_order}
+use Rattle.recorders.specs.Modes.{is_among, with_mode, with_modes, without_mode, declared_modes}
+use Rattle.recorders.specs.Modes.{default_modes, in_order}
 
 -- something is recorded, unless its option says that it isn't
 abbrev pub is_on : Option ObjectOption → Bool
@@ -68,33 +70,40 @@ result_name name mode = name ++ (codes ":" ++ mode_name mode)
 
 -- whether the option says that anything is recorded of a statistic of that name
 abbrev pub records_statistic : List IniEntry → List ℕ → List ℕ → Bool
-records_statistic entries path name = is_on (option_of entries path name (codes "statistic-recording"))
+records_statistic entries path name =
+    is_on (option_of entries path name (codes "statistic-recording"))
 
 -- the modes in which a statistic of the module of that path is recorded, in their order
 abbrev pub modes_of : List IniEntry → List ℕ → Statistic → List Mode
-modes_of entries path s = recorded_modes s.modes (option_of entries path s.name (codes "result-recording-modes"))
+modes_of entries path s =
+    recorded_modes s.modes (option_of entries path s.name (codes "result-recording-modes"))
 
 -- THE MODES in which the options let a statistic of the module of that path be recorded, in their
 -- order
 unfoldable pub selected_modes : List IniEntry → List ℕ → Statistic → List Mode
-selected_modes entries path s = if records_statistic entries path s.name then modes_of entries path s else []
+selected_modes entries path s =
+    if records_statistic entries path s.name then modes_of entries path s else []
 
 -- whether the option lets a vector of that name be recorded
 abbrev pub records_vector_named : List IniEntry → List ℕ → List ℕ → Bool
-records_vector_named entries path name = is_on (option_of entries path name (codes "vector-recording"))
+records_vector_named entries path name =
+    is_on (option_of entries path name (codes "vector-recording"))
 
 -- whether the option lets a scalar of that name be recorded
 abbrev pub records_scalar_named : List IniEntry → List ℕ → List ℕ → Bool
-records_scalar_named entries path name = is_on (option_of entries path name (codes "scalar-recording"))
+records_scalar_named entries path name =
+    is_on (option_of entries path name (codes "scalar-recording"))
 
 -- whether the option lets a statistic of that name be recorded as a scalar in one of these modes
 abbrev pub records_scalar_among : List IniEntry → List ℕ → List ℕ → List Mode → Bool
-records_scalar_among entries path name modes = list_any (λ mode. records_scalar_named entries path (result_name name mode)) modes
+records_scalar_among entries path name modes =
+    list_any (λ mode. records_scalar_named entries path (result_name name mode)) modes
 
 -- whether a statistic of the module of that path is recorded as a scalar in one of its modes, if it
 -- makes a value of its values
 abbrev pub records_scalars : List IniEntry → List ℕ → Statistic → Bool
-records_scalars entries path s = records_scalar_among entries path s.name (selected_modes entries path s)
+records_scalars entries path s =
+    records_scalar_among entries path s.name (selected_modes entries path s)
 
 -- WHETHER THE VECTOR of a statistic of the module of that path is recorded: the mode `vector` is
 -- among those that are selected, and the vector is

@@ -1,6 +1,7 @@
 -- What the statistics of a module make of the values that they hear.
 -- OMNeT++ Simulation Manual, "Result Recording Modes".
-use Rattle.std.specs.Prelude.{◌-◌, ℤ, pos, ◌+ℤ◌, List, map, filter, fold, length, slice_get, Option, Some, None}
+use Rattle.std.specs.Prelude.{◌-◌, ℤ, pos, ◌+ℤ◌, List, map, filter, fold, length, slice_get, Option}
+use Rattle.std.specs.Prelude.{Some, None}
 use Rattle.std.specs.Int.{int_min, int_max}
 use Rattle.std.specs.List.{reduce}
 use Rattle.model_questions.specs.declared.record.Record.{Record}
@@ -13,7 +14,8 @@ use Rattle.run_semantics.specs.declared.traces.Emission.{Emission}
 -- THE VALUES that a statistic hears: those of all emissions of its signal in the subtree of its
 -- module, in their order
 abbrev pub values_heard : List Record → List Emission → VectorLine → List ℤ
-values_heard records emissions v = map (λ (e : Emission). e.value) (filter (hears records v) emissions)
+values_heard records emissions v =
+    map (λ (e : Emission). e.value) (filter (hears records v) emissions)
 
 -- how many there are
 abbrev pub count_of : List ℤ → ℤ

@@ -16,7 +16,8 @@ use Rattle.run_semantics.specs.declared.traces.Emission.{Emission}
 
 -- the vector of a statistic of the module of that id
 abbrev pub vector_of : List Record → ℕ → Statistic → VectorLine
-vector_of records id s = record { id = id; path = path_of records id; statistic = s.name; source = s.source }
+vector_of records id s =
+    record { id = id; path = path_of records id; statistic = s.name; source = s.source }
 
 -- whether the vector hears one of the emissions
 abbrev pub hears_any : List Record → List Emission → VectorLine → Bool
@@ -26,10 +27,12 @@ hears_any records emissions v = list_any (λ e. hears records v e) emissions
 -- value
 abbrev pub has_vector : Model → List Record → List Emission → ℕ → Statistic → Bool
 has_vector m records emissions id s =
-    records_vector (entries_in m) (path_of records id) s && hears_any records emissions (vector_of records id s)
+    records_vector (entries_in m) (path_of records id) s
+    && hears_any records emissions (vector_of records id s)
 
 -- the vectors of these statistics of the module of that id, in their order
-abbrev pub vectors_among : Model → List Record → List Emission → ℕ → List Statistic → List VectorLine
+abbrev pub vectors_among : Model → List Record → List Emission → ℕ → List Statistic
+    → List VectorLine
 vectors_among m records emissions id statistics =
     map (vector_of records id) (filter (has_vector m records emissions id) statistics)
 

@@ -33,7 +33,8 @@ pub(crate) struct Member<'r, 'a, 'm> {
 impl Member<'_, '_, '_> {
     /// The statistics of its type, in their order.
     pub(crate) fn statistics(&self, alloc: Global) -> Result<Items<Statistic>, NoMemory>
-        ensures { IfOk result (λ statistics. statistics ≡ statistics_of (lines_of (type_at self.now.model.now self.now.records.now self.now.id))) }
+        ensures { IfOk result (λ statistics. statistics ≡ statistics_of
+            (lines_of (type_at self.now.model.now self.now.records.now self.now.id))) }
     {
         match self.model.type_at(alloc, self.records, self.id)? {
             Some(declared) => Ok(statistics_of(alloc, declared.lines.as_slice())?),

@@ -1,7 +1,9 @@
 //! Which modes of a statistic are recorded.
 
 ghost use Rattle.std.specs.Prelude.{◌≡◌, ◌++◌, IfOk, OnOk};
-ghost use Rattle.recorders.specs.Modes.{is_recorded, is_among, with_mode, with_modes, without_mode, declared_modes, default_modes, modes_among, modes_not_among, in_order};
+ghost use Rattle.recorders.specs.Modes.{is_recorded, is_among, with_mode, with_modes, without_mode};
+ghost use Rattle.recorders.specs.Modes.{declared_modes, default_modes, modes_among};
+ghost use Rattle.recorders.specs.Modes.{modes_not_among, in_order};
 
 use ned_trees::declarations::RecordedMode;
 use ned_trees::modes::Mode;

@@ -1,10 +1,13 @@
 //! Which elements of a list concern which module: their places in the list, by the module's id.
 
-ghost use Rattle.std.specs.Prelude.{◌≡◌, ◌+◌, ◌^◌, ◌<◌, ◌==◌, ◌&&◌, ◌||◌, ℕ, [], length, IfOk, OnOk};
+ghost use Rattle.std.specs.Prelude.{◌≡◌, ◌+◌, ◌^◌, ◌<◌, ◌==◌, ◌&&◌, ◌||◌, ℕ, [], length, IfOk};
+ghost use Rattle.std.specs.Prelude.{OnOk};
 ghost use Rattle.recorders.specs.Hearing.{is_within_up, is_within};
 ghost use Rattle.recorders.specs.Wanted.{is_wanted};
 ghost use Rattle.run_semantics.specs.declared.traces.Emission.{Emission as emission_type};
-ghost use Rattle.recorders.specs.Places.{ids_at, is_number, places_at, places_heard, noted, noted_if, recorded_places, finished_places, AreOf, AreHeard, AreHearers, AreRecorded, AreFinished, AreOfRun};
+ghost use Rattle.recorders.specs.Places.{ids_at, is_number, places_at, places_heard, noted};
+ghost use Rattle.recorders.specs.Places.{noted_if, recorded_places, finished_places, AreOf};
+ghost use Rattle.recorders.specs.Places.{AreHeard, AreHearers, AreRecorded, AreFinished, AreOfRun};
 
 use crate::wanted::is_wanted;
 use model_questions::record::{MAX_NESTING, Record, record_at};
@@ -39,7 +42,8 @@ fn note(list: &mut Vec<usize>, place: usize) -> Result<(), AllocError>
 
 /// Adds a place to the list for that id, if there is one.
 fn note_for(lists: &mut [Vec<usize>], id: u32, place: usize) -> Result<(), AllocError>
-    ensures { OnOk result ((q : ℕ) → q < length lists.old → places_at lists.new q ≡ noted_if (id == q) place (places_at lists.old q)) }
+    ensures { OnOk result ((q : ℕ) → q < length lists.old
+        → places_at lists.new q ≡ noted_if (id == q) place (places_at lists.old q)) }
 {
     let at = id as usize;
     if at < lists.len() {
@@ -50,7 +54,8 @@ fn note_for(lists: &mut [Vec<usize>], id: u32, place: usize) -> Result<(), Alloc
 
 /// Adds a place to the lists for these ids, where there are such.
 fn note_for_all(lists: &mut [Vec<usize>], ids: &[u32], place: usize) -> Result<(), AllocError>
-    ensures { OnOk result ((q : ℕ) → q < length lists.old → places_at lists.new q ≡ noted_if (is_number q ids.now) place (places_at lists.old q)) }
+    ensures { OnOk result ((q : ℕ) → q < length lists.old
+        → places_at lists.new q ≡ noted_if (is_number q ids.now) place (places_at lists.old q)) }
 {
     for id in ids {
         note_for(lists, *id, place)?;
@@ -60,7 +65,8 @@ fn note_for_all(lists: &mut [Vec<usize>], ids: &[u32], place: usize) -> Result<(
 
 /// Adds an id, if it is wanted.
 fn add_wanted(ids: &mut Vec<u32>, wanted: &[bool], id: u32) -> Result<(), AllocError>
-    ensures { OnOk result ((q : ℕ) → is_number q ids.new.items ≡ is_number q ids.old.items || ((id == q) && is_wanted wanted.now q)) }
+    ensures { OnOk result ((q : ℕ) → is_number q ids.new.items ≡ is_number q ids.old.items
+        || ((id == q) && is_wanted wanted.now q)) }
 {
     if is_wanted(wanted, id) {
         ids.push(id)?;
@@ -76,7 +82,8 @@ fn add_hearers_up(
     records: &[Record],
     emitter: u32,
 ) -> Result<(), AllocError>
-    ensures { OnOk result ((q : ℕ) → is_number q ids.new.items ≡ is_number q ids.old.items || (is_within_up depth records.now q emitter && is_wanted wanted.now q)) }
+    ensures { OnOk result ((q : ℕ) → is_number q ids.new.items ≡ is_number q ids.old.items
+        || (is_within_up depth records.now q emitter && is_wanted wanted.now q)) }
 {
     if depth == 0 {
         return Ok(());
@@ -96,7 +103,8 @@ fn hearers_of(
     records: &[Record],
     emitter: u32,
 ) -> Result<Vec<u32>, AllocError>
-    ensures { IfOk result (λ ids. (q : ℕ) → is_number q ids.items ≡ (is_within records.now q emitter && is_wanted wanted.now q)) }
+    ensures { IfOk result (λ ids. (q : ℕ)
+        → is_number q ids.items ≡ (is_within records.now q emitter && is_wanted wanted.now q)) }
 {
     let mut ids = Vec::new(alloc);
     add_hearers_up(&mut ids, wanted, MAX_NESTING, records, emitter)?;
@@ -110,7 +118,8 @@ fn hearer_lists(
     records: &[Record],
 ) -> Result<Vec<Vec<u32>>, AllocError>
     requires { length records.now < 2 ^ 32 }
-    ensures { IfOk result (λ hearers. AreHearers wanted.now records.now (length records.now + 1) hearers.items) }
+    ensures { IfOk result
+        (λ hearers. AreHearers wanted.now records.now (length records.now + 1) hearers.items) }
 {
     let mut hearers = Vec::new(alloc);
     for id in 0..records.len() + 1 {
@@ -126,7 +135,8 @@ fn note_around(
     emitter: u32,
     place: usize,
 ) -> Result<(), AllocError>
-    ensures { OnOk result ((q : ℕ) → q < length lists.old → places_at lists.new q ≡ noted_if (is_number q (ids_at hearers.now emitter)) place (places_at lists.old q)) }
+    ensures { OnOk result ((q : ℕ) → q < length lists.old → places_at lists.new q
+        ≡ noted_if (is_number q (ids_at hearers.now emitter)) place (places_at lists.old q)) }
 {
     match hearers.get(emitter as usize) {
         Some(ids) => note_for_all(lists, ids.as_slice(), place),
@@ -136,7 +146,8 @@ fn note_around(
 
 /// So many empty lists.
 fn empty_lists(alloc: Global, count: usize) -> Result<Vec<Vec<usize>>, AllocError>
-    ensures { IfOk result (λ lists. (length lists.items ≡ count) × ((q : ℕ) → places_at lists.items q ≡ [])) }
+    ensures { IfOk result
+        (λ lists. (length lists.items ≡ count) × ((q : ℕ) → places_at lists.items q ≡ [])) }
 {
     let mut lists = Vec::new(alloc);
     for _ in 0..count {
@@ -152,7 +163,8 @@ fn note_emissions(
     emissions: &[Emission],
 ) -> Result<(), AllocError>
     requires { (q : ℕ) → places_at lists.old q ≡ [] }
-    ensures { OnOk result ((q : ℕ) → q < length lists.old → places_at lists.new q ≡ places_heard hearers.now q emissions.now) }
+    ensures { OnOk result ((q : ℕ) → q < length lists.old
+        → places_at lists.new q ≡ places_heard hearers.now q emissions.now) }
 {
     for (place, emission) in emissions.iter().enumerate() {
         note_around(lists, hearers, emission.id, place)?;
@@ -163,7 +175,8 @@ fn note_emissions(
 /// Notes each scalar's place for the module that recorded it.
 fn note_recorded(lists: &mut [Vec<usize>], recorded: &[Scalar]) -> Result<(), AllocError>
     requires { (q : ℕ) → places_at lists.old q ≡ [] }
-    ensures { OnOk result ((q : ℕ) → q < length lists.old → places_at lists.new q ≡ recorded_places q recorded.now) }
+    ensures { OnOk result ((q : ℕ) → q < length lists.old
+        → places_at lists.new q ≡ recorded_places q recorded.now) }
 {
     for (place, scalar) in recorded.iter().enumerate() {
         note_for(lists, scalar.id, place)?;
@@ -174,7 +187,8 @@ fn note_recorded(lists: &mut [Vec<usize>], recorded: &[Scalar]) -> Result<(), Al
 /// Notes the place of each module that was finished.
 fn note_finished(lists: &mut [Vec<usize>], finished: &[u32]) -> Result<(), AllocError>
     requires { (q : ℕ) → places_at lists.old q ≡ [] }
-    ensures { OnOk result ((q : ℕ) → q < length lists.old → places_at lists.new q ≡ finished_places q finished.now) }
+    ensures { OnOk result ((q : ℕ) → q < length lists.old
+        → places_at lists.new q ≡ finished_places q finished.now) }
 {
     for (place, id) in finished.iter().enumerate() {
         note_for(lists, *id, place)?;
@@ -189,7 +203,8 @@ fn lists_heard(
     count: usize,
     emissions: &[Emission],
 ) -> Result<Vec<Vec<usize>>, AllocError>
-    ensures { IfOk result (λ lists. AreOf count (λ q (e : emission_type). is_number q (ids_at hearers.now e.id)) emissions.now lists.items) }
+    ensures { IfOk result (λ lists. AreOf count (λ q (e : emission_type).
+        is_number q (ids_at hearers.now e.id)) emissions.now lists.items) }
 {
     let mut lists = empty_lists(alloc, count)?;
     note_emissions(&mut lists, hearers, emissions)?;
@@ -260,7 +275,8 @@ pub fn run_places(
     emissions: &[Emission],
 ) -> Result<RunPlaces, AllocError>
     requires { length records.now < 2 ^ 32 }
-    ensures are { IfOk result (λ places. AreOfRun records.now finished.now recorded.now emissions.now places) }
+    ensures are { IfOk result
+        (λ places. AreOfRun records.now finished.now recorded.now emissions.now places) }
     ensures wanted { IfOk result (λ places. places.wanted ≡ wanted) }
 {
     let heard = heard_lists(alloc, wanted.as_slice(), records, emissions)?;

@@ -90,7 +90,8 @@ impl<'r, 'm> RecordedModel<'r, 'm> {
         name: &[u8],
         option: &[u8],
     ) -> Result<Option<&'m ObjectOption>, NoMemory>
-        ensures { IfOk result (λ said. option_copied said ≡ option_of (entries_in self.now) path.now name.now option.now) }
+        ensures { IfOk result (λ said. option_copied said
+            ≡ option_of (entries_in self.now) path.now name.now option.now) }
     {
         if !self.has_options {
             return Ok(None);

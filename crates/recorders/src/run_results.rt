@@ -39,7 +39,8 @@ fn vectors_beside(
     places: &RunPlaces,
 ) -> Result<Items<VectorLine>, NoMemory>
     requires few { length records.now < 2 ^ 32 }
-    requires heard { AreHeard places.now.wanted.items records.now emissions.now places.now.heard.items }
+    requires heard { AreHeard places.now.wanted.items records.now emissions.now
+        places.now.heard.items }
     ensures { IfOk result (λ found. found ≡ vectors_of model.now records.now emissions.now) }
 {
     let wanted = wanted(Output::Vector, alloc, model, records)?;
@@ -69,8 +70,10 @@ pub fn results(
     emissions: &[Emission],
 ) -> Result<(Items<ScalarLine>, Items<VectorLine>), NoMemory>
     requires few { length records.now < 2 ^ 32 }
-    ensures scalars { IfOk result (λ found. found.0 ≡ scalars_of answers.now records.now finished.now recorded.now emissions.now) }
-    ensures vectors { IfOk result (λ found. found.1 ≡ vectors_of answers.now records.now emissions.now) }
+    ensures scalars { IfOk result (λ found. found.0
+        ≡ scalars_of answers.now records.now finished.now recorded.now emissions.now) }
+    ensures vectors { IfOk result
+        (λ found. found.1 ≡ vectors_of answers.now records.now emissions.now) }
 {
     let model = RecordedModel::new(answers);
     let wanted = wanted(Output::Scalars, alloc, &model, records)?;

@@ -2,9 +2,12 @@
 
 ghost use Rattle.std.specs.Prelude.{◌≡◌, ◌<◌, ◌^◌, ◌++◌, IfOk, OnOk, length};
 ghost use Rattle.model_data.specs.Models.{entries_in};
-ghost use Rattle.recorders.specs.ByPlaces.{lines_at_places, lines_of_type, lines_if_finished, scalars_by_places};
-ghost use Rattle.recorders.specs.Places.{of_place, places_at, heard_places, wanted_places, AreOfRun};
-ghost use Rattle.recorders.specs.Scalars.{line_of, recorded_line, line_of_value, mode_line, mode_lines, statistic_lines, lines_among, scalars_of};
+ghost use Rattle.recorders.specs.ByPlaces.{lines_at_places, lines_of_type, lines_if_finished};
+ghost use Rattle.recorders.specs.ByPlaces.{scalars_by_places};
+ghost use Rattle.recorders.specs.Places.{of_place, places_at, heard_places, wanted_places};
+ghost use Rattle.recorders.specs.Places.{AreOfRun};
+ghost use Rattle.recorders.specs.Scalars.{line_of, recorded_line, line_of_value, mode_line};
+ghost use Rattle.recorders.specs.Scalars.{mode_lines, statistic_lines, lines_among, scalars_of};
 ghost use Rattle.recorders.specs.Wanted.{is_wanted, wants, AreWanted};
 ghost use Rattle.recorders.specs.declared.wanted.Output.TheVariants.{Scalars};
 
@@ -35,7 +38,8 @@ fn push_line(
     name: &[u8],
     value: i128,
 ) -> Result<(), NoMemory>
-    ensures { OnOk result (found.new ≡ found.old ++ line_of (entries_in model.now) path.now name.now value) }
+    ensures { OnOk result (found.new
+        ≡ found.old ++ line_of (entries_in model.now) path.now name.now value) }
 {
     if records_scalar_named(alloc, model, path, name)? {
         found.push(ScalarLine {
@@ -54,7 +58,8 @@ fn push_recorded(
     member: &Member<'_, '_, '_>,
     scalar: &Scalar,
 ) -> Result<(), NoMemory>
-    ensures { OnOk result (found.new ≡ found.old ++ recorded_line member.now.model.now member.now.records.now member.now.id scalar.now) }
+    ensures { OnOk result (found.new ≡ found.old
+        ++ recorded_line member.now.model.now member.now.records.now member.now.id scalar.now) }
 {
     if scalar.id != member.id {
         return Ok(());
@@ -78,7 +83,8 @@ fn push_recorded_at(
     recorded: &[Scalar],
     place: usize,
 ) -> Result<(), NoMemory>
-    ensures { OnOk result (found.new ≡ found.old ++ of_place (recorded_line member.now.model.now member.now.records.now member.now.id) recorded.now place) }
+    ensures { OnOk result (found.new ≡ found.old ++ of_place (recorded_line member.now.model.now
+        member.now.records.now member.now.id) recorded.now place) }
 {
     match at(recorded, place) {
         Some(scalar) => push_recorded(found, alloc, member, scalar),
@@ -94,7 +100,8 @@ fn push_all_recorded(
     recorded: &[Scalar],
     places: &[usize],
 ) -> Result<(), NoMemory>
-    ensures { OnOk result (found.new ≡ found.old ++ lines_at_places member.now.model.now member.now.records.now member.now.id recorded.now places.now) }
+    ensures { OnOk result (found.new ≡ found.old ++ lines_at_places member.now.model.now
+        member.now.records.now member.now.id recorded.now places.now) }
 {
     for place in places {
         push_recorded_at(found, alloc, member, recorded, *place)?;
@@ -111,7 +118,8 @@ fn push_value(
     name: &[u8],
     value: Option<i128>,
 ) -> Result<(), NoMemory>
-    ensures { OnOk result (found.new ≡ found.old ++ line_of_value (entries_in model.now) path.now name.now value) }
+    ensures { OnOk result (found.new
+        ≡ found.old ++ line_of_value (entries_in model.now) path.now name.now value) }
 {
     match value {
         Some(value) => push_line(found, alloc, model, path, name, value),
@@ -129,7 +137,8 @@ fn push_mode(
     values: &[i64],
     mode: Mode,
 ) -> Result<(), NoMemory>
-    ensures { OnOk result (found.new ≡ found.old ++ mode_line (entries_in model.now) path.now statistic.now values.now mode) }
+    ensures { OnOk result (found.new
+        ≡ found.old ++ mode_line (entries_in model.now) path.now statistic.now values.now mode) }
 {
     let name = result_name(alloc, statistic, mode)?;
     let value = value_in(mode, values);
@@ -146,7 +155,8 @@ fn push_modes(
     values: &[i64],
     modes: &[Mode],
 ) -> Result<(), NoMemory>
-    ensures { OnOk result (found.new ≡ found.old ++ mode_lines (entries_in model.now) path.now statistic.now values.now modes.now) }
+    ensures { OnOk result (found.new ≡ found.old
+        ++ mode_lines (entries_in model.now) path.now statistic.now values.now modes.now) }
 {
     for mode in modes {
         push_mode(found, alloc, model, path, statistic, values, *mode)?;
@@ -162,8 +172,10 @@ fn push_statistic(
     member: &Member<'_, '_, '_>,
     statistic: &Statistic,
 ) -> Result<(), NoMemory>
-    requires { member.now.heard.now ≡ heard_places member.now.records.now member.now.id member.now.emissions.now }
-    ensures { OnOk result (found.new ≡ found.old ++ statistic_lines member.now.model.now member.now.records.now member.now.emissions.now member.now.id statistic.now) }
+    requires { member.now.heard.now
+        ≡ heard_places member.now.records.now member.now.id member.now.emissions.now }
+    ensures { OnOk result (found.new ≡ found.old ++ statistic_lines member.now.model.now
+        member.now.records.now member.now.emissions.now member.now.id statistic.now) }
 {
     let vector = vector_of(alloc, member.records, member.id, statistic)?;
     let path = vector.path.as_bytes();
@@ -187,8 +199,10 @@ fn push_statistics(
     member: &Member<'_, '_, '_>,
     statistics: &[Statistic],
 ) -> Result<(), NoMemory>
-    requires { member.now.heard.now ≡ heard_places member.now.records.now member.now.id member.now.emissions.now }
-    ensures { OnOk result (found.new ≡ found.old ++ lines_among member.now.model.now member.now.records.now member.now.emissions.now member.now.id statistics.now) }
+    requires { member.now.heard.now
+        ≡ heard_places member.now.records.now member.now.id member.now.emissions.now }
+    ensures { OnOk result (found.new ≡ found.old ++ lines_among member.now.model.now
+        member.now.records.now member.now.emissions.now member.now.id statistics.now) }
 {
     for statistic in statistics {
         push_statistic(found, alloc, member, statistic)?;
@@ -202,8 +216,10 @@ fn push_type_lines(
     alloc: Global,
     member: &Member<'_, '_, '_>,
 ) -> Result<(), NoMemory>
-    requires { member.now.heard.now ≡ heard_places member.now.records.now member.now.id member.now.emissions.now }
-    ensures { OnOk result (found.new ≡ found.old ++ lines_of_type member.now.model.now member.now.records.now member.now.emissions.now member.now.id) }
+    requires { member.now.heard.now
+        ≡ heard_places member.now.records.now member.now.id member.now.emissions.now }
+    ensures { OnOk result (found.new ≡ found.old ++ lines_of_type member.now.model.now
+        member.now.records.now member.now.emissions.now member.now.id) }
 {
     let statistics = member.statistics(alloc)?;
     push_statistics(found, alloc, member, statistics.as_slice())
@@ -217,9 +233,13 @@ fn push_statistics_at(
     member: &Member<'_, '_, '_>,
     places: &RunPlaces,
 ) -> Result<(), NoMemory>
-    requires wanted { is_wanted places.now.wanted.items member.now.id ≡ wants Scalars member.now.model.now member.now.records.now member.now.id }
-    requires heard { member.now.heard.now ≡ wanted_places places.now.wanted.items member.now.records.now member.now.id member.now.emissions.now }
-    ensures { OnOk result (found.new ≡ found.old ++ lines_if_finished member.now.model.now member.now.records.now member.now.emissions.now member.now.id (places_at places.now.finished.items member.now.id)) }
+    requires wanted { is_wanted places.now.wanted.items member.now.id
+        ≡ wants Scalars member.now.model.now member.now.records.now member.now.id }
+    requires heard { member.now.heard.now ≡ wanted_places places.now.wanted.items
+        member.now.records.now member.now.id member.now.emissions.now }
+    ensures { OnOk result (found.new ≡ found.old
+        ++ lines_if_finished member.now.model.now member.now.records.now member.now.emissions.now
+        member.now.id (places_at places.now.finished.items member.now.id)) }
 {
     let finished = places_at(&places.finished, member.id);
     if finished.is_empty() {
@@ -240,9 +260,12 @@ fn push_scalars_at(
     recorded: &[Scalar],
     places: &RunPlaces,
 ) -> Result<(), NoMemory>
-    requires wanted { is_wanted places.now.wanted.items member.now.id ≡ wants Scalars member.now.model.now member.now.records.now member.now.id }
-    requires heard { member.now.heard.now ≡ wanted_places places.now.wanted.items member.now.records.now member.now.id member.now.emissions.now }
-    ensures { OnOk result (found.new ≡ found.old ++ scalars_by_places member.now.model.now member.now.records.now recorded.now member.now.emissions.now places.now member.now.id) }
+    requires wanted { is_wanted places.now.wanted.items member.now.id
+        ≡ wants Scalars member.now.model.now member.now.records.now member.now.id }
+    requires heard { member.now.heard.now ≡ wanted_places places.now.wanted.items
+        member.now.records.now member.now.id member.now.emissions.now }
+    ensures { OnOk result (found.new ≡ found.old ++ scalars_by_places member.now.model.now
+        member.now.records.now recorded.now member.now.emissions.now places.now member.now.id) }
 {
     let by = places_at(&places.recorded, member.id);
     push_all_recorded(found, alloc, member, recorded, by)?;
@@ -265,7 +288,8 @@ pub(crate) fn scalars<'r>(
     requires few { length records.now < 2 ^ 32 }
     requires wanted { AreWanted Scalars model.now records.now places.now.wanted.items }
     requires are { AreOfRun records.now _finished.now recorded.now emissions.now places.now }
-    ensures { IfOk result (λ found. found ≡ scalars_of model.now records.now _finished.now recorded.now emissions.now) }
+    ensures { IfOk result (λ found. found
+        ≡ scalars_of model.now records.now _finished.now recorded.now emissions.now) }
 {
     let mut found = Items::new(alloc);
     for (index, _record) in records.iter().enumerate() {

@@ -4,7 +4,12 @@ ghost use Rattle.std.specs.Prelude.{◌≡◌, IfOk, OnOk};
 ghost use Rattle.std.specs.Option.{option_copied};
 ghost use Rattle.model_data.specs.Models.{entries_in};
 ghost use Rattle.ned_trees.specs.Modes.{mode_name};
-ghost use Rattle.recorders.specs.Selection.{after_item, after_items, begins_signed, chosen_modes, first_modes, is_on, is_signed, modes_of, recorded_modes, records_scalar_among, records_scalar_named, records_scalars, records_statistic, records_vector, records_vector_named, result_name, selected_modes};
+ghost use Rattle.recorders.specs.Selection.{after_item, after_items, begins_signed, chosen_modes};
+ghost use Rattle.recorders.specs.Selection.{first_modes, is_on, is_signed, modes_of};
+ghost use Rattle.recorders.specs.Selection.{recorded_modes, records_scalar_among};
+ghost use Rattle.recorders.specs.Selection.{records_scalar_named, records_scalars};
+ghost use Rattle.recorders.specs.Selection.{records_statistic, records_vector};
+ghost use Rattle.recorders.specs.Selection.{records_vector_named, result_name, selected_modes};
 
 use crate::modes::{
     add_mode, add_modes, declared_modes, default_modes, in_order, is_among, without_mode,
@@ -170,7 +175,8 @@ fn modes_of(
     path: &[u8],
     statistic: &Statistic,
 ) -> Result<Items<Mode>, NoMemory>
-    ensures { IfOk result (λ found. found ≡ modes_of (entries_in model.now) path.now statistic.now) }
+    ensures { IfOk result
+        (λ found. found ≡ modes_of (entries_in model.now) path.now statistic.now) }
 {
     let name = statistic.name.as_bytes();
     let said = model.option_of(alloc, path, name, b"result-recording-modes")?;
@@ -189,7 +195,8 @@ pub fn selected_modes(
     path: &[u8],
     statistic: &Statistic,
 ) -> Result<Items<Mode>, NoMemory>
-    ensures { IfOk result (λ found. found ≡ selected_modes (entries_in model.now) path.now statistic.now) }
+    ensures { IfOk result
+        (λ found. found ≡ selected_modes (entries_in model.now) path.now statistic.now) }
 {
     if records_statistic(alloc, model, path, statistic.name.as_bytes())? {
         modes_of(alloc, model, path, statistic)
@@ -205,7 +212,8 @@ fn records_vector_named(
     path: &[u8],
     name: &[u8],
 ) -> Result<bool, NoMemory>
-    ensures { IfOk result (λ on. on ≡ records_vector_named (entries_in model.now) path.now name.now) }
+    ensures { IfOk result
+        (λ on. on ≡ records_vector_named (entries_in model.now) path.now name.now) }
 {
     let said = model.option_of(alloc, path, name, b"vector-recording")?;
     Ok(is_on(said))
@@ -218,7 +226,8 @@ pub fn records_scalar_named(
     path: &[u8],
     name: &[u8],
 ) -> Result<bool, NoMemory>
-    ensures { IfOk result (λ on. on ≡ records_scalar_named (entries_in model.now) path.now name.now) }
+    ensures { IfOk result
+        (λ on. on ≡ records_scalar_named (entries_in model.now) path.now name.now) }
 {
     let said = model.option_of(alloc, path, name, b"scalar-recording")?;
     Ok(is_on(said))
@@ -232,7 +241,8 @@ fn records_scalar_among(
     name: &[u8],
     modes: &[Mode],
 ) -> Result<bool, NoMemory>
-    ensures { IfOk result (λ on. on ≡ records_scalar_among (entries_in model.now) path.now name.now modes.now) }
+    ensures { IfOk result
+        (λ on. on ≡ records_scalar_among (entries_in model.now) path.now name.now modes.now) }
 {
     for mode in modes {
         let scalar = result_name(alloc, name, *mode)?;
@@ -250,7 +260,8 @@ pub fn records_scalars(
     path: &[u8],
     statistic: &Statistic,
 ) -> Result<bool, NoMemory>
-    ensures { IfOk result (λ on. on ≡ records_scalars (entries_in model.now) path.now statistic.now) }
+    ensures { IfOk result
+        (λ on. on ≡ records_scalars (entries_in model.now) path.now statistic.now) }
 {
     let modes = selected_modes(alloc, model, path, statistic)?;
     records_scalar_among(
@@ -271,7 +282,8 @@ pub fn records_vector(
     path: &[u8],
     statistic: &Statistic,
 ) -> Result<bool, NoMemory>
-    ensures { IfOk result (λ on. on ≡ records_vector (entries_in model.now) path.now statistic.now) }
+    ensures { IfOk result
+        (λ on. on ≡ records_vector (entries_in model.now) path.now statistic.now) }
 {
     let modes = selected_modes(alloc, model, path, statistic)?;
     if !is_among(Mode::Vector, modes.as_slice()) {

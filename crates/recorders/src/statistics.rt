@@ -20,7 +20,8 @@ pub fn values_at(
     places: &[usize],
     vector: &VectorLine,
 ) -> Result<Vec<i64>, AllocError>
-    ensures { IfOk result (λ values. values.items ≡ flat_map (of_place (value_of vector.now) emissions.now) places.now) }
+    ensures { IfOk result (λ values. values.items
+        ≡ flat_map (of_place (value_of vector.now) emissions.now) places.now) }
 {
     let mut values = Vec::new(alloc);
     for place in places {
@@ -35,7 +36,8 @@ fn push_value(
     emission: &Emission,
     vector: &VectorLine,
 ) -> Result<(), AllocError>
-    ensures { OnOk result (values.new.items ≡ values.old.items ++ value_of vector.now emission.now) }
+    ensures { OnOk result (values.new.items
+        ≡ values.old.items ++ value_of vector.now emission.now) }
 {
     if emission.signal.is(vector.source.as_bytes()) {
         values.push(emission.value)?;
@@ -50,7 +52,8 @@ fn push_value_at(
     place: usize,
     vector: &VectorLine,
 ) -> Result<(), AllocError>
-    ensures { OnOk result (values.new.items ≡ values.old.items ++ of_place (value_of vector.now) emissions.now place) }
+    ensures { OnOk result (values.new.items
+        ≡ values.old.items ++ of_place (value_of vector.now) emissions.now place) }
 {
     match at(emissions, place) {
         Some(emission) => push_value(values, emission, vector),

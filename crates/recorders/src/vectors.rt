@@ -60,8 +60,10 @@ fn push_vector(
     member: &Member<'_, '_, '_>,
     statistic: &Statistic,
 ) -> Result<(), NoMemory>
-    requires { member.now.heard.now ≡ heard_places member.now.records.now member.now.id member.now.emissions.now }
-    ensures { OnOk result (found.new ≡ found.old ++ vectors_among member.now.model.now member.now.records.now member.now.emissions.now member.now.id (statistic.now ∷ [])) }
+    requires { member.now.heard.now
+        ≡ heard_places member.now.records.now member.now.id member.now.emissions.now }
+    ensures { OnOk result (found.new ≡ found.old ++ vectors_among member.now.model.now
+        member.now.records.now member.now.emissions.now member.now.id (statistic.now ∷ [])) }
 {
     let vector = vector_of(alloc, member.records, member.id, statistic)?;
     if !records_vector(alloc, member.model, vector.path.as_bytes(), statistic)? {
@@ -80,8 +82,10 @@ fn push_vectors(
     member: &Member<'_, '_, '_>,
     statistics: &[Statistic],
 ) -> Result<(), NoMemory>
-    requires { member.now.heard.now ≡ heard_places member.now.records.now member.now.id member.now.emissions.now }
-    ensures { OnOk result (found.new ≡ found.old ++ vectors_among member.now.model.now member.now.records.now member.now.emissions.now member.now.id statistics.now) }
+    requires { member.now.heard.now
+        ≡ heard_places member.now.records.now member.now.id member.now.emissions.now }
+    ensures { OnOk result (found.new ≡ found.old ++ vectors_among member.now.model.now
+        member.now.records.now member.now.emissions.now member.now.id statistics.now) }
 {
     for statistic in statistics {
         push_vector(found, alloc, member, statistic)?;
@@ -95,8 +99,10 @@ fn push_vectors_at(
     alloc: Global,
     member: &Member<'_, '_, '_>,
 ) -> Result<(), NoMemory>
-    requires { member.now.heard.now ≡ heard_places member.now.records.now member.now.id member.now.emissions.now }
-    ensures { OnOk result (found.new ≡ found.old ++ vectors_at member.now.model.now member.now.records.now member.now.emissions.now member.now.id) }
+    requires { member.now.heard.now
+        ≡ heard_places member.now.records.now member.now.id member.now.emissions.now }
+    ensures { OnOk result (found.new ≡ found.old ++ vectors_at member.now.model.now
+        member.now.records.now member.now.emissions.now member.now.id) }
 {
     let statistics = member.statistics(alloc)?;
     push_vectors(found, alloc, member, statistics.as_slice())
@@ -109,9 +115,12 @@ fn push_wanted_vectors(
     member: &Member<'_, '_, '_>,
     wanted: &[bool],
 ) -> Result<(), NoMemory>
-    requires wanted { is_wanted wanted.now member.now.id ≡ wants Vector member.now.model.now member.now.records.now member.now.id }
-    requires heard { member.now.heard.now ≡ wanted_places wanted.now member.now.records.now member.now.id member.now.emissions.now }
-    ensures { OnOk result (found.new ≡ found.old ++ vectors_at member.now.model.now member.now.records.now member.now.emissions.now member.now.id) }
+    requires wanted { is_wanted wanted.now member.now.id
+        ≡ wants Vector member.now.model.now member.now.records.now member.now.id }
+    requires heard { member.now.heard.now
+        ≡ wanted_places wanted.now member.now.records.now member.now.id member.now.emissions.now }
+    ensures { OnOk result (found.new ≡ found.old ++ vectors_at member.now.model.now
+        member.now.records.now member.now.emissions.now member.now.id) }
 {
     if !is_wanted(wanted, member.id) {
         return Ok(());

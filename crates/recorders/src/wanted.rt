@@ -29,7 +29,8 @@ fn has_output(
     path: &[u8],
     statistic: &Statistic,
 ) -> Result<bool, NoMemory>
-    ensures { IfOk result (λ on. on ≡ has_output output (entries_in model.now) path.now statistic.now) }
+    ensures { IfOk result
+        (λ on. on ≡ has_output output (entries_in model.now) path.now statistic.now) }
 {
     match output {
         Output::Vector => records_vector(alloc, model, path, statistic),
@@ -45,7 +46,8 @@ fn has_output_among(
     path: &[u8],
     statistics: &[Statistic],
 ) -> Result<bool, NoMemory>
-    ensures { IfOk result (λ on. on ≡ has_output_among output (entries_in model.now) path.now statistics.now) }
+    ensures { IfOk result
+        (λ on. on ≡ has_output_among output (entries_in model.now) path.now statistics.now) }
 {
     for statistic in statistics {
         if has_output(output, alloc, model, path, statistic)? {

@@ -28,4 +28,5 @@ scalar_text_of m records finished recorded emissions =
 
 -- THE VECTOR FILE of a run of that model, with the modules of these records and these emissions
 abbrev pub vector_text_of : Model → List Record → List Emission → List ℕ
-vector_text_of m records emissions = vector_text (header_of m) (vectors_of m records emissions) records emissions
+vector_text_of m records emissions =
+    vector_text (header_of m) (vectors_of m records emissions) records emissions

@@ -14,7 +14,8 @@ escaped c = if is_quoting c then 92 ∷ c ∷ [] else c ∷ []
 -- a value in a result file: as it is where all its bytes are plain, else between `"`, with `\`
 -- before each `"` and `\`
 abbrev pub value_text : List ℕ → List ℕ
-value_text value = if list_all is_plain value then value else 34 ∷ (flat_map escaped value ++ 34 ∷ [])
+value_text value = if list_all is_plain value then value
+    else 34 ∷ (flat_map escaped value ++ 34 ∷ [])
 
 -- a line that gives a value to a key
 unfoldable pub item_line : List ℕ → List ℕ → List ℕ → List ℕ
@@ -37,7 +38,8 @@ run_lines config = codes "version 3\nrun " ++ (config ++ codes "-0\n")
 abbrev pub attribute_lines : List ℕ → List ℕ → List ℕ
 attribute_lines config network =
     item_line (codes "attr") (codes "configname") config
-    ++ (item_line (codes "attr") (codes "network") network ++ item_line (codes "attr") (codes "runnumber") (codes "0"))
+    ++ (item_line (codes "attr") (codes "network") network
+    ++ item_line (codes "attr") (codes "runnumber") (codes "0"))
 
 -- the header of the run with the number 0 of a configuration: an empty line ends it
 abbrev pub header_text : List ℕ → List ℕ → List IniEntry → List ℕ

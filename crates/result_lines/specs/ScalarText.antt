@@ -7,7 +7,8 @@ use Rattle.result_lines.specs.Fields.{field}
 
 -- the line of a scalar: its module's path, its name, and its value
 abbrev pub scalar_line : ScalarLine → List ℕ
-scalar_line s = codes "scalar " ++ (field s.path 32 ++ (field s.name 32 ++ field (signed_decimal s.value) 10))
+scalar_line s = codes "scalar "
+    ++ (field s.path 32 ++ (field s.name 32 ++ field (signed_decimal s.value) 10))
 
 -- a line for each of these scalars, in their order
 abbrev pub scalar_lines : List ScalarLine → List ℕ

@@ -1,5 +1,6 @@
 -- The entries of a text by the sections in which they stand.
-use Rattle.std.specs.Prelude.{◌≡◌, ◌≢◌, ℕ, ◌<◌, List, [], ◌∷◌, ◌++◌, Option, Some, None, Vec, length, map, slice_get}
+use Rattle.std.specs.Prelude.{◌≡◌, ◌≢◌, ℕ, ◌<◌, List, [], ◌∷◌, ◌++◌, Option, Some, None, Vec}
+use Rattle.std.specs.Prelude.{length, map, slice_get}
 use Rattle.std.specs.Borrow.{Bor}
 use Rattle.std.specs.declared.alloc.Global.{Global}
 use Rattle.ini_trees.specs.declared.lines.IniEntry.{IniEntry}
@@ -38,4 +39,5 @@ AddsTo number e old new =
 -- for each section the entries that stand in it
 abbrev pub HaveEntries : List IniLine → List Bytes → EntryLists → Type 0
 HaveEntries lines names lists =
-    (length lists ≡ length names) × ((k : ℕ) → k < length names → entries_at lists k ≡ entries_under (name_at names k) lines)
+    (length lists ≡ length names)
+    × ((k : ℕ) → k < length names → entries_at lists k ≡ entries_under (name_at names k) lines)

@@ -13,7 +13,8 @@ use Rattle.sim_time.specs.Text.{text_of_time}
 -- it
 abbrev pub vector_line : ℕ → VectorLine → List ℕ
 vector_line number v =
-    codes "vector " ++ (field (decimal number) 32 ++ (field v.path 32 ++ (field v.statistic 58 ++ codes "vector ETV\n")))
+    codes "vector " ++ (field (decimal number) 32
+    ++ (field v.path 32 ++ (field v.statistic 58 ++ codes "vector ETV\n")))
 
 -- the lines of vectors whose numbers count up from this one
 abbrev pub vector_lines : ℕ → List VectorLine → List ℕ
@@ -24,7 +25,8 @@ vector_lines number (v ∷ vs) = vector_line number v ++ vector_lines (number + 
 -- separated by tabs
 abbrev pub data_line : ℕ → Emission → List ℕ
 data_line number e =
-    field (decimal number) 9 ++ (field (decimal e.event) 9 ++ (field (text_of_time e.time) 9 ++ field (signed_decimal e.value) 10))
+    field (decimal number) 9 ++ (field (decimal e.event) 9
+    ++ (field (text_of_time e.time) 9 ++ field (signed_decimal e.value) 10))
 
 -- the line of the value in the vector of that number, where it hears it
 abbrev pub heard_line : List Record → Emission → ℕ → VectorLine → List ℕ
@@ -33,7 +35,8 @@ heard_line records e number v = if hears records v e then data_line number e els
 -- the lines of a value in vectors whose numbers count up from this one: one for each that hears it
 abbrev pub heard_lines : List Record → Emission → ℕ → List VectorLine → List ℕ
 heard_lines records e number [] = []
-heard_lines records e number (v ∷ vs) = heard_line records e number v ++ heard_lines records e (number + 1) vs
+heard_lines records e number (v ∷ vs) =
+    heard_line records e number v ++ heard_lines records e (number + 1) vs
 
 -- the lines of all values, in the order of their emission, and for one value by rising number of
 -- the vector

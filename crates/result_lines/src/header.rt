@@ -3,7 +3,9 @@
 ghost use Rattle.std.specs.Prelude.{◌≡◌, ◌++◌, ◌<◌, length, IfOk, OnOk};
 ghost use Rattle.std.specs.List.{flat_map};
 ghost use Rattle.ini_trees.specs.Sections.{entries_along};
-ghost use Rattle.result_lines.specs.Header.{escaped, value_text, item_line, run_lines, attribute_lines, config_line, config_lines, header_text, network_name, header_of};
+ghost use Rattle.result_lines.specs.Header.{escaped, value_text, item_line, run_lines};
+ghost use Rattle.result_lines.specs.Header.{attribute_lines, config_line, config_lines};
+ghost use Rattle.result_lines.specs.Header.{header_text, network_name, header_of};
 ghost use Rattle.result_lines.specs.Sections.{entries_at, entries_in};
 
 use crate::sections::section_entries;
@@ -54,7 +56,8 @@ fn push_value(header: &mut Vec<u8>, value: &[u8]) -> Result<(), AllocError>
 /// Adds a line that gives a value to a key.
 #[tactic(auto, unfolding(crate::specs::Header::item_line))]
 fn push_item(header: &mut Vec<u8>, word: &[u8], key: &[u8], value: &[u8]) -> Result<(), AllocError>
-    ensures { OnOk result (header.new.items ≡ header.old.items ++ item_line word.now key.now value.now) }
+    ensures { OnOk result (header.new.items
+        ≡ header.old.items ++ item_line word.now key.now value.now) }
 {
     header.extend_from_slice(word)?;
     header.push(b' ')?;
@@ -82,7 +85,8 @@ fn push_entry(header: &mut Vec<u8>, entry: &IniEntry) -> Result<(), AllocError>
 
 /// Adds the lines of these entries.
 fn push_listed(header: &mut Vec<u8>, entries: &[&IniEntry]) -> Result<(), AllocError>
-    ensures { OnOk result (header.new.items ≡ header.old.items ++ config_lines (entries_in entries.now)) }
+    ensures { OnOk result (header.new.items
+        ≡ header.old.items ++ config_lines (entries_in entries.now)) }
 {
     let mut rest = entries;
     while let [entry, after @ ..] = rest {
@@ -99,7 +103,8 @@ fn push_section(
     number: usize,
 ) -> Result<(), AllocError>
     requires { number < length lists.now }
-    ensures { OnOk result (header.new.items ≡ header.old.items ++ config_lines (entries_at lists.now number)) }
+    ensures { OnOk result (header.new.items
+        ≡ header.old.items ++ config_lines (entries_at lists.now number)) }
 {
     push_listed(header, lists[number].as_slice())
 }
@@ -112,7 +117,8 @@ fn push_entries(
     chain: &[Text],
     lines: &[IniLine],
 ) -> Result<(), AllocError>
-    ensures { OnOk result (header.new.items ≡ header.old.items ++ config_lines (entries_along chain.now lines.now)) }
+    ensures { OnOk result (header.new.items
+        ≡ header.old.items ++ config_lines (entries_along chain.now lines.now)) }
 {
     let names = section_names(alloc, lines)?;
     let lists = section_entries(alloc, lines, &names)?;
@@ -145,7 +151,8 @@ fn push_run(header: &mut Vec<u8>, config: &[u8]) -> Result<(), AllocError>
 
 /// Adds the lines of the run's attributes.
 fn push_attributes(header: &mut Vec<u8>, config: &[u8], network: &[u8]) -> Result<(), AllocError>
-    ensures { OnOk result (header.new.items ≡ header.old.items ++ attribute_lines config.now network.now) }
+    ensures { OnOk result (header.new.items
+        ≡ header.old.items ++ attribute_lines config.now network.now) }
 {
     push_item(header, b"attr", b"configname", config)?;
     push_item(header, b"attr", b"network", network)?;
@@ -161,7 +168,8 @@ pub fn header_text(
     chain: &[Text],
     lines: &[IniLine],
 ) -> Result<Text, AllocError>
-    ensures { IfOk result (λ header. header ≡ header_text config.now network.now (entries_along chain.now lines.now)) }
+    ensures { IfOk result (λ header. header
+        ≡ header_text config.now network.now (entries_along chain.now lines.now)) }
 {
     let mut header = Vec::new(alloc);
     push_run(&mut header, config)?;

@@ -44,7 +44,8 @@ fn signed_before(line: &mut [u8], end: usize, number: i64, mark: u8) -> usize
     requires { (21 ≤ end) × (end ≤ length line.old) }
     ensures within { result ≤ end }
     ensures short { end ≤ result + 21 }
-    ensures written { drop result line.new ≡ field (signed_decimal number) mark ++ drop end line.old }
+    ensures written { drop result line.new
+        ≡ field (signed_decimal number) mark ++ drop end line.old }
 {
     let at = byte_before(line, end, mark);
     let start = write_digits(number.unsigned_abs(), line, at);

@@ -4,7 +4,8 @@ ghost use Rattle.std.specs.Prelude.{◌≡◌, ◌+◌, ◌*◌, ◌^◌, ◌≤
 ghost use Rattle.result_lines.specs.Rising.{AreByModule};
 ghost use Rattle.result_lines.specs.Written.{Adds, written_in};
 ghost use Rattle.result_lines.specs.ScalarText.{scalar_line, scalar_lines};
-ghost use Rattle.result_lines.specs.VectorText.{vector_line, vector_lines, data_line, heard_line, heard_lines, data_lines};
+ghost use Rattle.result_lines.specs.VectorText.{vector_line, vector_lines, data_line, heard_line};
+ghost use Rattle.result_lines.specs.VectorText.{heard_lines, data_lines};
 
 use crate::line_bytes::{MAX_LINE, data_line_start};
 use crate::next_vector::{are_by_module, next_place};
@@ -23,7 +24,8 @@ fn put_scalar_line<O: Out>(
     scalar: &ScalarLine,
 ) -> WriteProgress
     requires { written_in progress < 2 ^ 125 }
-    ensures adds { Adds progress (O.taken out.old) result (O.taken out.new) (scalar_line scalar.now) }
+    ensures adds { Adds progress (O.taken out.old) result (O.taken out.new)
+        (scalar_line scalar.now) }
     ensures short { written_in result ≤ written_in progress + 2 ^ 65 }
 {
     let progress = put(out, progress, b"scalar ");
@@ -56,7 +58,8 @@ fn put_vector_line<O: Out>(
     vector: &VectorLine,
 ) -> WriteProgress
     requires { written_in progress < 2 ^ 125 }
-    ensures adds { Adds progress (O.taken out.old) result (O.taken out.new) (vector_line number vector.now) }
+    ensures adds { Adds progress (O.taken out.old) result (O.taken out.new)
+        (vector_line number vector.now) }
     ensures short { written_in result ≤ written_in progress + 2 ^ 65 }
 {
     let progress = put(out, progress, b"vector ");
@@ -73,7 +76,8 @@ pub fn put_vector_lines<O: Out>(
     vectors: &[VectorLine],
 ) -> WriteProgress
     requires { written_in progress < 2 ^ 65 }
-    ensures adds { Adds progress (O.taken out.old) result (O.taken out.new) (vector_lines 0 vectors.now) }
+    ensures adds { Adds progress (O.taken out.old) result (O.taken out.new)
+        (vector_lines 0 vectors.now) }
     ensures short { written_in result ≤ written_in progress + 2 ^ 122 }
 {
     let mut progress = progress;
@@ -92,7 +96,8 @@ fn put_data_line<O: Out>(
     emission: &Emission,
 ) -> WriteProgress
     requires { written_in progress < 2 ^ 125 }
-    ensures adds { Adds progress (O.taken out.old) result (O.taken out.new) (data_line number emission.now) }
+    ensures adds { Adds progress (O.taken out.old) result (O.taken out.new)
+        (data_line number emission.now) }
     ensures short { written_in result ≤ written_in progress + 256 }
 {
     let mut line = [0; MAX_LINE];
@@ -110,7 +115,8 @@ fn put_heard_line<O: Out>(
     vector: &VectorLine,
 ) -> WriteProgress
     requires { written_in progress < 2 ^ 125 }
-    ensures adds { Adds progress (O.taken out.old) result (O.taken out.new) (heard_line records.now emission.now number vector.now) }
+    ensures adds { Adds progress (O.taken out.old) result (O.taken out.new)
+        (heard_line records.now emission.now number vector.now) }
     ensures short { written_in result ≤ written_in progress + 256 }
 {
     if hears(records, vector, emission) {
@@ -130,7 +136,8 @@ fn put_heard_lines<O: Out>(
     vectors: &[VectorLine],
 ) -> WriteProgress
     requires { written_in progress < 2 ^ 124 }
-    ensures adds { Adds progress (O.taken out.old) result (O.taken out.new) (heard_lines records.now emission.now 0 vectors.now) }
+    ensures adds { Adds progress (O.taken out.old) result (O.taken out.new)
+        (heard_lines records.now emission.now 0 vectors.now) }
     ensures short { written_in result ≤ written_in progress + 2 ^ 65 }
 {
     let mut progress = progress;
@@ -151,7 +158,8 @@ fn put_lines_around<O: Out>(
 ) -> WriteProgress
     requires rising { AreByModule vectors.now }
     requires few { written_in progress < 2 ^ 124 }
-    ensures adds { Adds progress (O.taken out.old) result (O.taken out.new) (heard_lines records.now emission.now 0 vectors.now) }
+    ensures adds { Adds progress (O.taken out.old) result (O.taken out.new)
+        (heard_lines records.now emission.now 0 vectors.now) }
     ensures short { written_in result ≤ written_in progress + 2 ^ 65 }
 {
     let mut progress = progress;
@@ -179,7 +187,8 @@ fn put_value<O: Out>(
 ) -> WriteProgress
     requires rising { IsTrue by_module → AreByModule vectors.now }
     requires few { written_in progress < 2 ^ 124 }
-    ensures adds { Adds progress (O.taken out.old) result (O.taken out.new) (heard_lines records.now emission.now 0 vectors.now) }
+    ensures adds { Adds progress (O.taken out.old) result (O.taken out.new)
+        (heard_lines records.now emission.now 0 vectors.now) }
     ensures short { written_in result ≤ written_in progress + 2 ^ 65 }
 {
     if by_module {
@@ -200,7 +209,8 @@ pub fn put_data_lines<O: Out>(
     emissions: &[Emission],
 ) -> WriteProgress
     requires { written_in progress < 2 ^ 123 }
-    ensures { Adds progress (O.taken out.old) result (O.taken out.new) (data_lines records.now vectors.now emissions.now) }
+    ensures { Adds progress (O.taken out.old) result (O.taken out.new)
+        (data_lines records.now vectors.now emissions.now) }
 {
     let by_module = are_by_module(vectors);
     let mut progress = progress;

@@ -1,6 +1,7 @@
 //! Where the next vector stands that may hear what a module emits.
 
-ghost use Rattle.std.specs.Prelude.{◌≡◌, ℕ, ◌<◌, ◌≤◌, ◌==◌, Bool, true, false, IsTrue, length, if◌then◌else◌};
+ghost use Rattle.std.specs.Prelude.{◌≡◌, ℕ, ◌<◌, ◌≤◌, ◌==◌, Bool, true, false, IsTrue, length};
+ghost use Rattle.std.specs.Prelude.{if◌then◌else◌};
 ghost use Rattle.std.specs.List.{slice_index_or};
 ghost use Rattle.recorders.specs.Hearing.{is_within_up, is_within};
 ghost use Rattle.result_lines.specs.Rising.{IsLeastFrom, AreByModule};
@@ -55,7 +56,8 @@ pub fn are_by_module(vectors: &[VectorLine]) -> bool
 fn place_from(vectors: &[VectorLine], id: u32) -> usize
     requires { AreByModule vectors.now }
     ensures within { result ≤ length vectors.now }
-    ensures below { (k : ℕ) (d : VectorLine) → k < result → (slice_index_or vectors.now k d).id < id }
+    ensures below { (k : ℕ) (d : VectorLine) → k < result
+        → (slice_index_or vectors.now k d).id < id }
 {
     vectors.partition_point(|vector| vector.id < id)
 }

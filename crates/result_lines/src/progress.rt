@@ -20,7 +20,8 @@ pub enum WriteProgress {
 /// Writes a piece of a text that stands after so many bytes.
 fn put_all<O: Out>(out: &mut O, before: u128, piece: &[u8]) -> WriteProgress
     requires { before < 2 ^ 127 }
-    ensures { Adds (WriteProgress.Whole before) (O.taken out.old) result (O.taken out.new) piece.now }
+    ensures { Adds (WriteProgress.Whole before) (O.taken out.old) result
+        (O.taken out.new) piece.now }
 {
     let mut sent = 0;
     while sent < piece.len() {
@@ -67,7 +68,8 @@ pub fn put_number<O: Out>(
     end: u8,
 ) -> WriteProgress
     requires { written_in progress < 2 ^ 126 }
-    ensures adds { Adds progress (O.taken out.old) result (O.taken out.new) (field (decimal number) end) }
+    ensures adds { Adds progress (O.taken out.old) result (O.taken out.new)
+        (field (decimal number) end) }
     ensures short { written_in result ≤ written_in progress + 64 }
 {
     let mut buffer = Buffer::new();
@@ -82,7 +84,8 @@ pub fn put_wide<O: Out>(
     end: u8,
 ) -> WriteProgress
     requires { written_in progress < 2 ^ 126 }
-    ensures adds { Adds progress (O.taken out.old) result (O.taken out.new) (field (signed_decimal number) end) }
+    ensures adds { Adds progress (O.taken out.old) result (O.taken out.new)
+        (field (signed_decimal number) end) }
     ensures short { written_in result ≤ written_in progress + 64 }
 {
     let mut buffer = Buffer::new();

@@ -13,7 +13,8 @@ use std::alloc::{AllocError, Global};
 
 /// So many empty lists.
 fn empty_lists<'a>(alloc: Global, count: usize) -> Result<Vec<Vec<&'a IniEntry>>, AllocError>
-    ensures { IfOk result (λ lists. (length lists.items ≡ count) × ((k : ℕ) → entries_at lists.items k ≡ [])) }
+    ensures { IfOk result
+        (λ lists. (length lists.items ≡ count) × ((k : ℕ) → entries_at lists.items k ≡ [])) }
 {
     let mut lists = Vec::new(alloc);
     for _ in 0..count {
@@ -45,7 +46,8 @@ fn add_entry<'a>(
     requires apart { AreApart (name_at names.now) (length names.now) }
     requires size { length lists.old ≡ length names.now }
     ensures { OnOk result ((k : ℕ) → k < length names.now → entries_at lists.new k
-        ≡ entries_at lists.old k ++ one_of (entry_here (is_in (name_at names.now k) (option_copied section.entry)) line.now.meaning)) }
+        ≡ entries_at lists.old k ++ one_of (entry_here
+        (is_in (name_at names.now k) (option_copied section.entry)) line.now.meaning)) }
 {
     let LineMeaning::Entry(entry) = &line.meaning else {
         return Ok(());
@@ -68,7 +70,8 @@ fn add_entries<'a>(
     requires apart { AreApart (name_at names.now) (length names.now) }
     requires size { length lists.old ≡ length names.now }
     requires empty { (k : ℕ) → entries_at lists.old k ≡ [] }
-    ensures { OnOk result ((k : ℕ) → k < length names.now → entries_at lists.new k ≡ entries_under (name_at names.now k) lines.now) }
+    ensures { OnOk result ((k : ℕ) → k < length names.now
+        → entries_at lists.new k ≡ entries_under (name_at names.now k) lines.now) }
 {
     let mut section = None;
     for line in lines {

@@ -35,11 +35,13 @@ pub trait Out {
     /// Takes some of the bytes, from the first on, and answers how many.
     fn write(&mut self, bytes: &[u8]) -> Result<usize, WriteFault>
         ensures within { IfOk result (λ n. n ≤ length bytes.now) }
-        ensures bytes { IfOk result (λ n. (taken self.new).bytes ≡ (taken self.old).bytes ++ take n bytes.now) }
+        ensures bytes { IfOk result
+            (λ n. (taken self.new).bytes ≡ (taken self.old).bytes ++ take n bytes.now) }
         ensures counted { IfOk result (λ n. (taken self.new).failures
             ≡ count_behind n bytes.now (taken self.old).failures) }
         ensures unchanged { OnErr result ((taken self.new).bytes ≡ (taken self.old).bytes) }
-        ensures failed { OnErr result ((taken self.new).failures ≡ next_count (taken self.old).failures) };
+        ensures failed { OnErr result ((taken self.new).failures
+            ≡ next_count (taken self.old).failures) };
 }
 
 /// The device failed or took nothing, after so many bytes of the text.

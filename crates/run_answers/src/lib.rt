@@ -47,7 +47,8 @@ pub trait Answers {
         records: &[Record],
         id: u32,
     ) -> Result<Items<Parameter>, NoMemory>
-        ensures { IfOk result (λ parameters. parameters ≡ run.parameters_of answers records.now id) };
+        ensures { IfOk result
+            (λ parameters. parameters ≡ run.parameters_of answers records.now id) };
 
     /// All gates of the module of that id, in the order of their declaration.
     fn gates_of(

@@ -3,15 +3,25 @@ use Rattle.std.specs.Prelude.{◌≡◌, ℕ, List, [], ◌∷◌, ◌++◌, Opt
 use Rattle.model_questions.specs.declared.answer.AskedQuestion.{AskedQuestion}
 use Rattle.model_questions.specs.declared.answer.Question.TheVariants as question
 use Rattle.run_question_log.specs.declared.entry.LogEntry.{LogEntry}
-use Rattle.run_question_log.specs.declared.entry.LogEntry.TheVariants.{BeyondLimit, FirstInjection, Both, Other}
+use Rattle.run_question_log.specs.declared.entry.LogEntry.TheVariants.{BeyondLimit, FirstInjection}
+use Rattle.run_question_log.specs.declared.entry.LogEntry.TheVariants.{Both, Other}
 
 -- the questions that are noted so, in order, each with its event
 abbrev pub asked_in : LogEntry → List AskedQuestion
-asked_in (BeyondLimit event time) = record { event = event; question = question.BeyondLimit time } ∷ []
+asked_in (BeyondLimit event time) =
+    record { event = event; question = question.BeyondLimit time } ∷ []
 asked_in (FirstInjection priority event time) =
-    record { event = event; question = question.InjectionBefore (Some (record { time = time; priority = priority })) None } ∷ []
+    record {
+      event = event;
+      question =
+          question.InjectionBefore (Some (record { time = time; priority = priority })) None;
+    } ∷ []
 asked_in (Both priority event time) =
-    record { event = event; question = question.InjectionBefore (Some (record { time = time; priority = priority })) None }
+    record {
+      event = event;
+      question =
+          question.InjectionBefore (Some (record { time = time; priority = priority })) None;
+    }
     ∷ record { event = event; question = question.BeyondLimit time } ∷ []
 asked_in (Other event q) = record { event = event; question = q } ∷ []
 

@@ -14,5 +14,6 @@ AreAskedOnce (a ∷ rest) = (is_asked a.question rest ≡ false) × AreAskedOnce
 -- These are the questions about modules among those that were asked: one is among them exactly
 -- where it was asked, and it was asked once.
 pub record AreKeysOf (asked : List AskedQuestion) (keys : List Question) : Type 0 where
-  pub found : (q : Question) → is_of_modules q ≡ true → list_any (same_question q) keys ≡ is_asked q asked
+  pub found : (q : Question) → is_of_modules q ≡ true
+      → list_any (same_question q) keys ≡ is_asked q asked
   pub once : AreAskedOnce asked

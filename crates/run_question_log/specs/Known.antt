@@ -9,7 +9,8 @@ use Rattle.run_question_log.specs.declared.known_reads.KnownReads.{KnownReads}
 -- the parameters of these names were asked of the module of that id
 abbrev pub WereAsked : List AskedQuestion → ℕ → List (List ℕ) → Type 0
 WereAsked asked id [] = Unit {0}
-WereAsked asked id (name ∷ names) = (is_asked (Param id name) asked ≡ true) × WereAsked asked id names
+WereAsked asked id (name ∷ names) =
+    (is_asked (Param id name) asked ≡ true) × WereAsked asked id names
 
 -- so it is of each of these modules
 abbrev pub AreKnown : List AskedQuestion → List (Seated (List (List ℕ))) → Type 0

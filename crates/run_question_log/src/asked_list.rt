@@ -1,6 +1,7 @@
 //! The questions of a run, in few words.
 
-ghost use Rattle.std.specs.Prelude.{◌≡◌, [], ◌∷◌, ◌++◌, length, OnOk, OnErr, MatchOption, if◌then◌else◌, ◌<◌, vec_len, vec_capacity};
+ghost use Rattle.std.specs.Prelude.{◌≡◌, [], ◌∷◌, ◌++◌, length, OnOk, OnErr, MatchOption};
+ghost use Rattle.std.specs.Prelude.{if◌then◌else◌, ◌<◌, vec_len, vec_capacity};
 ghost use Rattle.run_question_log.specs.Entries.{asked_in, noted_in};
 
 use crate::entry::{LogEntry, joined, noted, parted};
@@ -57,7 +58,8 @@ impl AskedList {
 
     /// Notes a question at the end.
     pub fn push(&mut self, alloc: Global, event: u64, question: Question) -> Result<(), NoMemory>
-        ensures ok { OnOk result (self.new ≡ self.old ++ record { event = event; question = question } ∷ []) }
+        ensures ok { OnOk result (self.new
+            ≡ self.old ++ record { event = event; question = question } ∷ []) }
         ensures err { OnErr result (self.new ≡ self.old) }
     {
         if self.join(event, &question) {
@@ -70,7 +72,10 @@ impl AskedList {
 
     /// Notes a question at the end by the last entry, or tells that it can't stand for it too.
     fn join(&mut self, event: u64, question: &Question) -> bool
-        ensures { self.new ≡ (if result then self.old ++ record { event = event; question = question.now } ∷ [] else self.old) }
+        ensures { self.new ≡ (if result then self.old ++ record {
+          event = event;
+          question = question.now;
+        } ∷ [] else self.old) }
     {
         let Some(last) = self.entries.last() else {
             return false;
@@ -86,7 +91,8 @@ impl AskedList {
 
     /// Forgets the last question.
     pub fn pop(&mut self) -> Option<AskedQuestion>
-        ensures { MatchOption result ((self.old ≡ []) × (self.new ≡ [])) (λ last. self.old ≡ self.new ++ last ∷ []) }
+        ensures { MatchOption result ((self.old ≡ [])
+            × (self.new ≡ [])) (λ last. self.old ≡ self.new ++ last ∷ []) }
     {
         let last = pop_question(&mut self.entries)?;
         self.count -= 1;

@@ -74,7 +74,8 @@ fn of_injections(
     due: Option<Due>,
     last: Option<InjectionTurn>,
 ) -> Result<LogEntry, NoMemory>
-    ensures { IfOk result (λ entry. asked_in entry ≡ record { event = event; question = InjectionBefore due last } ∷ []) }
+    ensures { IfOk result (λ entry. asked_in entry
+        ≡ record { event = event; question = InjectionBefore due last } ∷ []) }
 {
     match (due, last) {
         (Some(due), None) => Ok(LogEntry::FirstInjection {
@@ -91,7 +92,8 @@ fn of_injections(
 
 /// What is noted of a question.
 pub fn noted(alloc: Global, event: u64, question: Question) -> Result<LogEntry, NoMemory>
-    ensures { IfOk result (λ entry. asked_in entry ≡ record { event = event; question = question } ∷ []) }
+    ensures { IfOk result
+        (λ entry. asked_in entry ≡ record { event = event; question = question } ∷ []) }
 {
     match question {
         Question::BeyondLimit(time) => Ok(LogEntry::BeyondLimit { event, time }),
@@ -106,7 +108,8 @@ pub fn noted(alloc: Global, event: u64, question: Question) -> Result<LogEntry, 
 /// What is noted of the questions of an entry and of this one after them, where one entry stands
 /// for them all.
 pub fn joined(last: &LogEntry, event: u64, question: &Question) -> Option<LogEntry>
-    ensures { IfSome result (λ entry. asked_in entry ≡ asked_in last.now ++ record { event = event; question = question.now } ∷ []) }
+    ensures { IfSome result (λ entry. asked_in entry
+        ≡ asked_in last.now ++ record { event = event; question = question.now } ∷ []) }
 {
     let Question::BeyondLimit(limit) = question else {
         return None;

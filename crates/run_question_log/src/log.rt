@@ -1,6 +1,7 @@
 //! The questions of a run, in the order in which they were asked.
 
-ghost use Rattle.std.specs.Prelude.{◌≡◌, [], ◌∷◌, ◌++◌, true, false, OnOk, OnErr, MatchOption, length, take};
+ghost use Rattle.std.specs.Prelude.{◌≡◌, [], ◌∷◌, ◌++◌, true, false, OnOk, OnErr, MatchOption};
+ghost use Rattle.std.specs.Prelude.{length, take};
 ghost use Rattle.model_questions.specs.Questions.{is_of_modules};
 ghost use Rattle.run_semantics.specs.World.{noted};
 ghost use Rattle.run_question_log.specs.Entries.{noted_in};
@@ -98,7 +99,8 @@ impl QuestionLog {
         question: Question,
     ) -> Result<(), NoMemory>
         requires { is_of_modules question ≡ false }
-        ensures ok { OnOk result (self.new ≡ self.old ++ record { event = event; question = question } ∷ []) }
+        ensures ok { OnOk result (self.new
+            ≡ self.old ++ record { event = event; question = question } ∷ []) }
         ensures err { OnErr result (self.new ≡ self.old) }
     {
         self.asked.push(alloc, event, question)?;
@@ -117,7 +119,8 @@ impl QuestionLog {
 
     /// Forgets the last question.
     fn pop(&mut self) -> Option<AskedQuestion>
-        ensures { MatchOption result ((self.old ≡ []) × (self.new ≡ [])) (λ last. self.old ≡ self.new ++ last ∷ []) }
+        ensures { MatchOption result ((self.old ≡ [])
+            × (self.new ≡ [])) (λ last. self.old ≡ self.new ++ last ∷ []) }
     {
         let last = self.asked.pop()?;
         if is_of_modules(&last.question) {

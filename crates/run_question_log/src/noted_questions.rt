@@ -107,7 +107,8 @@ impl NotedQuestions {
         question: Question,
     ) -> Result<(), NoMemory>
         requires { is_of_modules question ≡ false }
-        ensures ok { OnOk result (self.new ≡ self.old ++ record { event = event; question = question } ∷ []) }
+        ensures ok { OnOk result (self.new
+            ≡ self.old ++ record { event = event; question = question } ∷ []) }
         ensures err { OnErr result (self.new ≡ self.old) }
     {
         self.log.note_time(alloc, event, question)

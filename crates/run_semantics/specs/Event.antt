@@ -42,7 +42,8 @@ instance_in id (i ∷ is) = if i.id == id then Some i else instance_in id is
 -- the module of that id has a new state
 abbrev pub with_state : ℕ → List ℕ → List Instance → List Instance
 with_state id state [] = []
-with_state id state (i ∷ is) = if i.id == id then record i { state = state } ∷ is else i ∷ with_state id state is
+with_state id state (i ∷ is) = if i.id == id then record i { state = state } ∷ is
+    else i ∷ with_state id state is
 
 abbrev pub changed : ℕ → List ℕ → World → World
 changed id state w = record w { modules = with_state id state w.modules }
@@ -51,9 +52,11 @@ changed id state w = record w { modules = with_state id state w.modules }
 abbrev pub replied : (Reply → World → Flow) → ℕ → Replied → World → Flow
 replied follow id r w = follow r.reply (changed id r.state w)
 
-abbrev pub called : Behaviour → Answers → (Reply → World → Flow) → ℕ → CallReason → World → Option Instance → Flow
+abbrev pub called : Behaviour → Answers → (Reply → World → Flow) → ℕ → CallReason → World
+    → Option Instance → Flow
 called b m follow id prompt w None = On w
-called b m follow id prompt w (Some i) = replied follow id ((b.naming i.kind).reply i.state (call_of m id prompt w)) w
+called b m follow id prompt w (Some i) =
+    replied follow id ((b.naming i.kind).reply i.state (call_of m id prompt w)) w
 
 -- a call of the module of that id, and what follows its reply; a call of what isn't there is passed
 -- over
@@ -72,9 +75,22 @@ call_module b m id prompt w = call_at b m occasion.Event id prompt w
 
 -- the message that arrives
 abbrev pub message_by : ℤ → Happening → Message
-message_by priority (Timer timer kind) = record { kind = kind; priority = priority; bits = 0; payload = []; origin = origin.Timer timer }
-message_by priority (Arrival kind bits payload) = record { kind = kind; priority = priority; bits = bits; payload = payload; origin = origin.Outside }
-message_by priority (Delivery d) = record { kind = d.kind; priority = priority; bits = d.bits; payload = d.payload; origin = origin.Gate d.gate d.index }
+message_by priority (Timer timer kind) =
+    record { kind = kind; priority = priority; bits = 0; payload = []; origin = origin.Timer timer }
+message_by priority (Arrival kind bits payload) = record {
+  kind = kind;
+  priority = priority;
+  bits = bits;
+  payload = payload;
+  origin = origin.Outside;
+}
+message_by priority (Delivery d) = record {
+  kind = d.kind;
+  priority = priority;
+  bits = d.bits;
+  payload = d.payload;
+  origin = origin.Gate d.gate d.index;
+}
 
 abbrev pub message_of : Pending → Message
 message_of p = message_by p.priority p.what

@@ -1,6 +1,7 @@
 -- Words for what holds of the worlds that a run reaches.
 pub use Rattle.event_set.specs.Order.{Each, AreInOrder, HaveOwnNumbers}
-use Rattle.std.specs.Prelude.{◌≡◌, ◌⊎◌, ℕ, zero, suc, ◌≤◌, ◌&&◌, List, [], ◌∷◌, ◌++◌, None, IsSome, IsTrue, length, map}
+use Rattle.std.specs.Prelude.{◌≡◌, ◌⊎◌, ℕ, zero, suc, ◌≤◌, ◌&&◌, List, [], ◌∷◌, ◌++◌, None, IsSome}
+use Rattle.std.specs.Prelude.{IsTrue, length, map}
 use Rattle.std.specs.List.{filter}
 use Rattle.module_api.specs.Behaviour.{Behaviour}
 use Rattle.model_injections.specs.Injections.{first_undelivered}

@@ -1,5 +1,6 @@
 -- What a reply leads to.
-use Rattle.std.specs.Prelude.{ℕ, ℤ, zero, suc, ◌+◌, nat_lt, Bool, true, false, List, [], ◌∷◌, ◌++◌, Option, Some, None, Result, Ok, Err, if◌then◌else◌, length}
+use Rattle.std.specs.Prelude.{ℕ, ℤ, zero, suc, ◌+◌, nat_lt, Bool, true, false, List, [], ◌∷◌, ◌++◌}
+use Rattle.std.specs.Prelude.{Option, Some, None, Result, Ok, Err, if◌then◌else◌, length}
 use Rattle.std.specs.Option.{option_and_then}
 use Rattle.sim_time.specs.Time.{time_sum}
 use Rattle.channels.specs.declared.travels.ChannelFault.{ChannelFault}
@@ -8,7 +9,9 @@ use Rattle.channels.specs.declared.travels.Travel.{Travel}
 use Rattle.channels.specs.declared.travels.Travel.TheVariants.{Arrival, Lost}
 use Rattle.channels.specs.Travel.{transmissions, travel}
 use Rattle.module_api.specs.declared.reply.Action.{Action}
-use Rattle.module_api.specs.declared.reply.Action.TheVariants.{Emit, RecordScalar, Send, SendDelayed, SendDirect, ScheduleAt, ScheduleAfter, Cancel, Fail}
+use Rattle.module_api.specs.declared.reply.Action.TheVariants.{Emit, RecordScalar, Send}
+use Rattle.module_api.specs.declared.reply.Action.TheVariants.{SendDelayed, SendDirect, ScheduleAt}
+use Rattle.module_api.specs.declared.reply.Action.TheVariants.{ScheduleAfter, Cancel, Fail}
 use Rattle.module_api.specs.declared.reply.Flight.{Flight}
 use Rattle.module_api.specs.declared.reply.GatePlace.{GatePlace}
 use Rattle.module_api.specs.declared.reply.OwnGate.{OwnGate}
@@ -24,7 +27,8 @@ use Rattle.module_api.specs.Names.{is_scalar_name}
 use Rattle.model_questions.specs.declared.answer.Answer.{Answer}
 use Rattle.model_questions.specs.declared.answer.Answer.TheVariants as answer
 use Rattle.model_questions.specs.declared.answer.Question.{Question}
-use Rattle.model_questions.specs.declared.answer.Question.TheVariants.{Param, GateSize, Hop, HopBack}
+use Rattle.model_questions.specs.declared.answer.Question.TheVariants.{Param, GateSize, Hop}
+use Rattle.model_questions.specs.declared.answer.Question.TheVariants.{HopBack}
 use Rattle.model_questions.specs.Answers.{Answers, answer_of}
 use Rattle.model_questions.specs.declared.record.Record.{Record}
 use Rattle.model_questions.specs.Records.{path_of}
@@ -40,7 +44,9 @@ use Rattle.event_set.specs.Timers.{has_timer, without_timer}
 use Rattle.run_semantics.specs.declared.routes.NextHop.{NextHop}
 use Rattle.run_semantics.specs.declared.routes.PassedHop.{PassedHop}
 use Rattle.run_semantics.specs.declared.routes.PlacedGate.{PlacedGate}
-use Rattle.run_semantics.specs.Routes.{arriving, busy_of, channels_of, hop_by, is_connected, is_in_gate, is_out_gate, is_simple, module_at, transmission_gate, transmitting}
+use Rattle.run_semantics.specs.Routes.{arriving, busy_of, channels_of, hop_by, is_connected}
+use Rattle.run_semantics.specs.Routes.{is_in_gate, is_out_gate, is_simple, module_at}
+use Rattle.run_semantics.specs.Routes.{transmission_gate, transmitting}
 use Rattle.run_semantics.specs.World.{World, asked}
 
 -- where an event stands: it goes on; the rest of it is discarded; or a fault, told with a path, has
@@ -84,7 +90,13 @@ abbrev pub scheduled_at : ℕ → ℕ → ℤ → ℤ → World → ℕ → Flow
 scheduled_at id timer priority kind w time =
     if has_timer id timer w.pending then broken id fault.AlreadyScheduled w
     else On (record w {
-      pending = inserted (record { time = time; priority = priority; number = w.next; id = id; what = Timer timer kind }) w.pending;
+      pending = inserted (record {
+        time = time;
+        priority = priority;
+        number = w.next;
+        id = id;
+        what = Timer timer kind;
+      }) w.pending;
       next = w.next + 1;
     })
 
@@ -95,7 +107,8 @@ scheduled id s w (Some time) = scheduled_at id s.timer s.priority s.kind w time
 
 -- at a time of the run
 abbrev pub appointed : ℕ → Appointment → World → Flow
-appointed id a w = if nat_lt a.at w.clock then broken id fault.Past w else scheduled_at id a.timer a.priority a.kind w a.at
+appointed id a w = if nat_lt a.at w.clock then broken id fault.Past w
+    else scheduled_at id a.timer a.priority a.kind w a.at
 
 -- a timer is no more among the events to come, if it was
 abbrev pub with_cancelled : ℕ → ℕ → World → World
@@ -103,13 +116,23 @@ with_cancelled id timer w = record w { pending = without_timer id timer w.pendin
 
 -- a scalar more
 abbrev pub with_scalar : ℕ → List ℕ → ℤ → World → World
-with_scalar id name value w = record w { scalars = w.scalars ++ record { id = id; name = name; value = value } ∷ [] }
+with_scalar id name value w =
+    record w { scalars = w.scalars ++ record { id = id; name = name; value = value } ∷ [] }
 
 -- ONE DEED of the module of that id
 abbrev pub deed : ℕ → Action → World → Flow
 deed id (Emit signal value) w =
-    On (record w { emissions = w.emissions ++ record { id = id; signal = signal; event = w.count; time = w.clock; value = value } ∷ [] })
-deed id (RecordScalar name value) w = if is_scalar_name name then On (with_scalar id name value w) else broken id fault.BadName w
+    On (record w {
+      emissions = w.emissions ++ record {
+        id = id;
+        signal = signal;
+        event = w.count;
+        time = w.clock;
+        value = value;
+      } ∷ [];
+    })
+deed id (RecordScalar name value) w = if is_scalar_name name then On (with_scalar id name value w)
+    else broken id fault.BadName w
 deed id (ScheduleAt a) w = appointed id a w
 deed id (ScheduleAfter s) w = scheduled id s w (time_sum w.clock s.delay)
 deed id (Cancel timer) w = On (with_cancelled id timer w)
@@ -141,17 +164,21 @@ abbrev pub with_hop : List PassedHop → PlacedGate → NextHop → List PassedH
 with_hop passed g h = passed ++ record { from = g; channel = h.channel } ∷ []
 
 -- after a hop: at a simple module the chain ends
-abbrev pub after_hop : ℕ → (PlacedGate → List PassedHop → World → Flow) → (List PassedHop → PlacedGate → World → Flow) → PlacedGate → List PassedHop → Option NextHop → World → Flow
+abbrev pub after_hop : ℕ → (PlacedGate → List PassedHop → World → Flow) → (List PassedHop
+    → PlacedGate → World → Flow) → PlacedGate → List PassedHop → Option NextHop → World → Flow
 after_hop id further reached g passed None w = broken id fault.NotConnected w
 after_hop id further reached g passed (Some h) w =
-    if is_simple w.records h.to.id then reached (with_hop passed g h) h.to w else further h.to (with_hop passed g h) w
+    if is_simple w.records h.to.id then reached (with_hop passed g h) h.to w
+    else further h.to (with_hop passed g h) w
 
 -- THE CHAIN OF HOPS from a gate to a simple module, of at most so many hops more, and what is done
 -- where it is reached. Where no hop more is allowed it is asked for one still: so it is known
 -- whether there are too many, or none.
-abbrev pub chain : Answers → ℕ → (List PassedHop → PlacedGate → World → Flow) → ℕ → PlacedGate → List PassedHop → World → Flow
+abbrev pub chain : Answers → ℕ → (List PassedHop → PlacedGate → World → Flow) → ℕ → PlacedGate
+    → List PassedHop → World → Flow
 chain m id reached zero g passed w = next_hop m g (past_last id) w
-chain m id reached (suc left) g passed w = next_hop m g (after_hop id (chain m id reached left) reached g passed) w
+chain m id reached (suc left) g passed w =
+    next_hop m g (after_hop id (chain m id reached left) reached g passed) w
 
 -- how many hops a chain has at most
 unfoldable pub most_hops : ℕ
@@ -161,59 +188,71 @@ most_hops = 1000
 -- of its gate, and the arrival is one of the events to come
 abbrev pub completed : Outgoing → Option PlacedGate → PlacedGate → World → Travel → World
 completed message from end w (Lost until) = transmitting from until w
-completed message from end w (Arrival time until) = arriving end message time (transmitting from until w)
+completed message from end w (Arrival time until) =
+    arriving end message time (transmitting from until w)
 
-abbrev pub travelled : ℕ → Outgoing → Option PlacedGate → PlacedGate → World → Result Travel ChannelFault → Flow
+abbrev pub travelled : ℕ → Outgoing → Option PlacedGate → PlacedGate → World
+    → Result Travel ChannelFault → Flow
 travelled id message from end w (Err f) = broken id (channel_fault f) w
 travelled id message from end w (Ok found) = On (completed message from end w found)
 
 -- a message departs over these hops, where its departure is a time
 abbrev pub sent_over : ℕ → Outgoing → Option ℕ → List PassedHop → PlacedGate → World → Flow
 sent_over id message (Some departure) hops end w =
-    travelled id message (transmission_gate hops) end w (travel (channels_of hops) departure message.bits (busy_of (transmission_gate hops) w.transmissions))
+    travelled id message (transmission_gate hops) end w (travel (channels_of hops) departure
+    message.bits (busy_of (transmission_gate hops) w.transmissions))
 sent_over id message None hops end w =
-    broken id (if nat_lt 1 (transmissions (channels_of hops)) then fault.TwoTransmissionChannels else fault.TimeOverflow) w
+    broken id (if nat_lt 1 (transmissions (channels_of hops)) then fault.TwoTransmissionChannels
+    else fault.TimeOverflow) w
 
 -- a gate was asked about: a message goes out through it, if it is there and of that direction
 abbrev pub sent_through : Answers → ℕ → PlacedGate → Outgoing → Option ℕ → Answer → World → Flow
 sent_through m id g message departure a w =
-    if is_out_gate a g.index then chain m id (sent_over id message departure) most_hops g [] w else broken id fault.NoGate w
+    if is_out_gate a g.index then chain m id (sent_over id message departure) most_hops g [] w
+    else broken id fault.NoGate w
 
 -- A MESSAGE IS SENT through a gate of the module's own (OMNeT++ Simulation Manual, "Sending
 -- Messages")
 abbrev pub sent : Answers → ℕ → OwnGate → Outgoing → Option ℕ → World → Flow
 sent m id gate message departure w =
-    asking m (GateSize id gate.name) (sent_through m id (record { id = id; name = gate.name; index = gate.index }) message departure) w
+    asking m (GateSize id gate.name) (sent_through m id
+    (record { id = id; name = gate.name; index = gate.index }) message departure) w
 
 -- a message is at a gate at that time: it arrives, or goes on inside of a compound module
 abbrev pub entering : Answers → ℕ → Outgoing → PlacedGate → Option ℕ → World → Flow
 entering m id message g None w = broken id fault.TimeOverflow w
 entering m id message g (Some time) w =
-    if is_simple w.records g.id then On (arriving g message time w) else chain m id (sent_over id message (Some time)) most_hops g [] w
+    if is_simple w.records g.id then On (arriving g message time w)
+    else chain m id (sent_over id message (Some time)) most_hops g [] w
 
 -- when a message that goes directly to a gate is there
 abbrev pub flight_end : ℕ → Flight → Option ℕ
-flight_end clock flight = option_and_then (λ time. time_sum time flight.duration) (time_sum clock flight.delay)
+flight_end clock flight =
+    option_and_then (λ time. time_sum time flight.duration) (time_sum clock flight.delay)
 
 -- it was asked what is connected to the gate from outside: nothing may be
 abbrev pub entered : Answers → ℕ → PlacedGate → Outgoing → Flight → Answer → World → Flow
 entered m id g message flight a w =
-    if is_connected a then broken id fault.AlreadyConnected w else entering m id message g (flight_end w.clock flight) w
+    if is_connected a then broken id fault.AlreadyConnected w
+    else entering m id message g (flight_end w.clock flight) w
 
 -- a gate was asked about: a message comes in through it, if it is there and of that direction
 abbrev pub sent_into : Answers → ℕ → PlacedGate → Outgoing → Flight → Answer → World → Flow
 sent_into m id g message flight a w =
-    if is_in_gate a g.index then asking m (HopBack g.id g.name g.index) (entered m id g message flight) w else broken id fault.NoGate w
+    if is_in_gate a g.index then asking m (HopBack g.id g.name g.index)
+    (entered m id g message flight) w else broken id fault.NoGate w
 
 abbrev pub sent_to : Answers → ℕ → GatePlace → Outgoing → Flight → World → Option ℕ → Flow
 sent_to m id place message flight w None = broken id fault.NoModule w
 sent_to m id place message flight w (Some target) =
-    asking m (GateSize target place.name) (sent_into m id (record { id = target; name = place.name; index = place.index }) message flight) w
+    asking m (GateSize target place.name) (sent_into m id
+    (record { id = target; name = place.name; index = place.index }) message flight) w
 
 -- A MESSAGE IS SENT DIRECTLY to a gate of a module (OMNeT++ Simulation Manual, "Direct Message
 -- Sending")
 abbrev pub sent_direct : Answers → ℕ → GatePlace → Outgoing → Flight → World → Flow
-sent_direct m id place message flight w = sent_to m id place message flight w (module_at place.path w)
+sent_direct m id place message flight w =
+    sent_to m id place message flight w (module_at place.path w)
 
 -- ---- reads
 
@@ -262,7 +301,8 @@ first_fault None other = other
 abbrev pub read_fault : Answers → List Record → ℕ → List Read → Option RunFault
 read_fault m records id [] = None
 read_fault m records id (r ∷ rs) =
-    first_fault (fault_of_read r (answer_of m records (question_of id r))) (read_fault m records id rs)
+    first_fault (fault_of_read r (answer_of m records (question_of id r)))
+    (read_fault m records id rs)
 
 -- ---- actions
 
@@ -271,7 +311,8 @@ abbrev pub perform : Behaviour → Answers → ℕ → Action → World → Flow
 perform b m id (Emit signal value) w = deed id (Emit signal value) w
 perform b m id (RecordScalar name value) w = deed id (RecordScalar name value) w
 perform b m id (Send gate message) w = sent m id gate message (Some w.clock) w
-perform b m id (SendDelayed gate message delay) w = sent m id gate message (time_sum w.clock delay) w
+perform b m id (SendDelayed gate message delay) w =
+    sent m id gate message (time_sum w.clock delay) w
 perform b m id (SendDirect place message flight) w = sent_direct m id place message flight w
 perform b m id (ScheduleAt a) w = deed id (ScheduleAt a) w
 perform b m id (ScheduleAfter s) w = deed id (ScheduleAfter s) w
@@ -310,7 +351,8 @@ act_all b m o id actions w = for_each (act b m o id) actions w
 
 -- its actions, where there are at most 1,000
 abbrev pub acted : Behaviour → Answers → Occasion → ℕ → List Action → World → Flow
-acted b m o id actions w = if nat_lt 1000 (length actions) then broken id fault.TooManyActions w else act_all b m o id actions w
+acted b m o id actions w = if nat_lt 1000 (length actions) then broken id fault.TooManyActions w
+    else act_all b m o id actions w
 
 -- whether the questions of what a reply read are noted: those of the end belong to no event
 abbrev pub is_noted : Occasion → Bool
@@ -328,4 +370,5 @@ unless_fault id None go w = go w
 -- then its actions are performed in order
 abbrev pub answered : Behaviour → Answers → Occasion → ℕ → Reply → World → Flow
 answered b m o id reply w =
-    unless_fault id (read_fault m w.records id reply.reads) (acted b m o id reply.actions) (ask_noted o id reply.reads w)
+    unless_fault id (read_fault m w.records id reply.reads) (acted b m o id reply.actions)
+    (ask_noted o id reply.reads w)

@@ -1,5 +1,7 @@
 -- Ways of messages through gates (OMNeT++ Simulation Manual, "Gates" and "Connections").
-use Rattle.std.specs.Prelude.{ℕ, ◌+◌, suc, ◌==◌, nat_lt, Bool, true, false, not, ◌&&◌, bytes_eq, is_some, List, [], ◌∷◌, ◌++◌, Option, Some, None, map, slice_set, if◌then◌else◌}
+use Rattle.std.specs.Prelude.{ℕ, ◌+◌, suc, ◌==◌, nat_lt, Bool, true, false, not, ◌&&◌, bytes_eq}
+use Rattle.std.specs.Prelude.{is_some, List, [], ◌∷◌, ◌++◌, Option, Some, None, map, slice_set}
+use Rattle.std.specs.Prelude.{if◌then◌else◌}
 use Rattle.channels.specs.Travel.{is_transmission}
 use Rattle.module_api.specs.declared.call.Direction.{Direction}
 use Rattle.module_api.specs.declared.call.Direction.TheVariants.{Input, Output, Inout}
@@ -77,7 +79,8 @@ is_at path w id = bytes_eq (path_of w.records id) path && not (among id w.dead)
 
 abbrev pub first_from : (ℕ → Bool) → ℕ → List Record → Option ℕ
 first_from is_wanted id [] = None
-first_from is_wanted id (r ∷ rs) = if is_wanted id then Some id else first_from is_wanted (suc id) rs
+first_from is_wanted id (r ∷ rs) =
+    if is_wanted id then Some id else first_from is_wanted (suc id) rs
 
 -- the module of that path that lives, where there is one
 abbrev pub module_at : List ℕ → World → Option ℕ
@@ -95,7 +98,14 @@ is_simple records id = has_class (record_at records id)
 
 abbrev pub next_by : NextGate → Option ℕ → Option NextHop
 next_by next None = None
-next_by next (Some id) = Some (record { to = record { id = id; name = next.gate; index = next.index }; channel = next.channel })
+next_by next (Some id) = Some (record {
+  to = record {
+    id = id;
+    name = next.gate;
+    index = next.index;
+  };
+  channel = next.channel;
+})
 
 abbrev pub leading_to : List Record → ℕ → Option NextGate → Option NextHop
 leading_to records id None = None
@@ -154,7 +164,8 @@ with_transmission t ts = put_at (place_of t.gate ts) t ts
 
 -- a transmission that began at that gate ends then, where there is one
 abbrev pub transmitting : Option PlacedGate → Option ℕ → World → World
-transmitting (Some g) (Some end) w = record w { transmissions = with_transmission (record { gate = g; end = end }) w.transmissions }
+transmitting (Some g) (Some end) w =
+    record w { transmissions = with_transmission (record { gate = g; end = end }) w.transmissions }
 transmitting (Some g) None w = w
 transmitting None end w = w
 
@@ -162,13 +173,26 @@ transmitting None end w = w
 
 -- the message as it is known at the gate at which it arrives
 abbrev pub delivery_at : PlacedGate → Outgoing → Happening
-delivery_at g message = Delivery (record { kind = message.kind; bits = message.bits; payload = message.payload; gate = g.name; index = g.index })
+delivery_at g message = Delivery (record {
+  kind = message.kind;
+  bits = message.bits;
+  payload = message.payload;
+  gate = g.name;
+  index = g.index;
+})
 
 -- the event that a message becomes as it arrives at a gate at that time, with the message's own
 -- priority
 abbrev pub arriving_at : PlacedGate → Outgoing → ℕ → ℕ → Pending
-arriving_at g message time number = record { time = time; priority = message.priority; number = number; id = g.id; what = delivery_at g message }
+arriving_at g message time number = record {
+  time = time;
+  priority = message.priority;
+  number = number;
+  id = g.id;
+  what = delivery_at g message;
+}
 
 -- a message is to arrive at a gate at that time
 abbrev pub arriving : PlacedGate → Outgoing → ℕ → World → World
-arriving g message time w = record w { pending = inserted (arriving_at g message time w.next) w.pending; next = w.next + 1 }
+arriving g message time w =
+    record w { pending = inserted (arriving_at g message time w.next) w.pending; next = w.next + 1 }

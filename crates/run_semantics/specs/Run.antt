@@ -1,5 +1,7 @@
 -- Whole runs.
-use Rattle.std.specs.Prelude.{◌≡◌, ℕ, suc, zero, ◌-◌, nat_lt, max, min, ◌&&◌, not, Bool, true, false, List, [], ◌∷◌, ◌++◌, Option, Some, None, map, length, slice_get, if◌then◌else◌}
+use Rattle.std.specs.Prelude.{◌≡◌, ℕ, suc, zero, ◌-◌, nat_lt, max, min, ◌&&◌, not, Bool, true}
+use Rattle.std.specs.Prelude.{false, List, [], ◌∷◌, ◌++◌, Option, Some, None, map, length}
+use Rattle.std.specs.Prelude.{slice_get, if◌then◌else◌}
 use Rattle.std.specs.List.{filter}
 use Rattle.module_api.specs.declared.call.CallReason.TheVariants as prompt
 use Rattle.module_api.specs.Behaviour.{Behaviour}
@@ -11,10 +13,12 @@ use Rattle.model_questions.specs.Answers.{Answers, answer_of}
 use Rattle.model_questions.specs.declared.record.Origin.TheVariants as origin
 use Rattle.model_questions.specs.declared.record.Record.{Record}
 use Rattle.model_questions.specs.Records.{path_of, path_under, own_name}
-use Rattle.model_questions.specs.declared.answer.ModelFault.TheVariants.{TooManyModules, UnknownType}
+use Rattle.model_questions.specs.declared.answer.ModelFault.TheVariants.{TooManyModules}
+use Rattle.model_questions.specs.declared.answer.ModelFault.TheVariants.{UnknownType}
 use Rattle.run_semantics.specs.declared.outcome.RunFault.TheVariants as fault
 use Rattle.run_semantics.specs.declared.outcome.Outcome.{Outcome}
-use Rattle.run_semantics.specs.declared.outcome.Outcome.TheVariants.{Ended, EventLimit, NoMoreEvents, TimeLimit, Fault}
+use Rattle.run_semantics.specs.declared.outcome.Outcome.TheVariants.{Ended, EventLimit}
+use Rattle.run_semantics.specs.declared.outcome.Outcome.TheVariants.{NoMoreEvents, TimeLimit, Fault}
 use Rattle.event_set.specs.declared.pending.Pending.{Pending}
 use Rattle.run_semantics.specs.declared.traces.Instance.{Instance}
 use Rattle.run_semantics.specs.World.{World, empty, live_count, live_of}
@@ -27,7 +31,8 @@ use Rattle.run_semantics.specs.Upcoming.{Upcoming, Comes, Nothing, upcoming}
 
 -- the network has the id 1
 abbrev pub network_record : List ℕ → Record
-network_record name = record { parent = 0; name = name; index = None; class = None; origin = origin.Built }
+network_record name =
+    record { parent = 0; name = name; index = None; class = None; origin = origin.Built }
 
 abbrev pub with_network : List ℕ → World → World
 with_network name w = record w { records = network_record name ∷ [] }
@@ -45,7 +50,13 @@ rooted (answer.Injection i) w = Broken w [] (fault.Model UnknownType)
 rooted answer.Absent w = Broken w [] (fault.Model UnknownType)
 
 abbrev pub record_under : ℕ → Built → Record
-record_under parent b = record { parent = parent; name = b.name; index = b.index; class = b.class; origin = origin.Built }
+record_under parent b = record {
+  parent = parent;
+  name = b.name;
+  index = b.index;
+  class = b.class;
+  origin = origin.Built;
+}
 
 abbrev pub with_submodules : ℕ → List Built → World → World
 with_submodules parent bs w = record w { records = w.records ++ map (record_under parent) bs }
@@ -56,7 +67,8 @@ room_in w = min (65536 - live_count w) (1000000 - length w.records)
 
 -- the module that would be one too many is told
 abbrev pub unless_many : ℕ → List Built → World → Option Built → Flow
-unless_many parent bs w (Some b) = Broken w (path_under (path_of w.records parent) (own_name b.name b.index)) (fault.Model TooManyModules)
+unless_many parent bs w (Some b) = Broken w
+    (path_under (path_of w.records parent) (own_name b.name b.index)) (fault.Model TooManyModules)
 unless_many parent bs w None = On (with_submodules parent bs w)
 
 -- submodules are created, in their order, as was answered
@@ -94,7 +106,8 @@ compounds_from id (b ∷ bs) = if_compound id b.class (compounds_from (suc id) b
 -- what is inside of a module: its submodules are created, and then each compound one of them is set
 -- up, in this order
 abbrev pub built : (ℕ → World → Flow) → ℕ → Answer → World → Flow
-built inner parent found w = created parent found w >>= for_each inner (compounds_from (suc (length w.records)) (inside_of found))
+built inner parent found w = created parent found w
+    >>= for_each inner (compounds_from (suc (length w.records)) (inside_of found))
 
 -- THE SETUP of a compound module, with so many levels from its own on: it is asked what is inside
 -- of it
@@ -176,7 +189,8 @@ most_stages b is (id ∷ ids) = max (stages_in b (instance_in id is)) (most_stag
 -- a module is called for the stages below its own number; one that has no box, as a compound
 -- module, or is dead has none
 abbrev pub initialize : Behaviour → Answers → ℕ → ℕ → World → Flow
-initialize b m stage id w = if nat_lt stage (stages_in b (instance_in id w.modules)) then call_module b m id (prompt.Initialize stage) w else On w
+initialize b m stage id w = if nat_lt stage (stages_in b (instance_in id w.modules))
+    then call_module b m id (prompt.Initialize stage) w else On w
 
 -- one stage of these modules, in this order
 abbrev pub one_stage : Behaviour → Answers → ℕ → List ℕ → World → Flow
@@ -185,7 +199,8 @@ one_stage b m stage ids w = for_each (initialize b m stage) ids w
 -- as many stages, from this one on
 abbrev pub stages_from : Behaviour → Answers → List ℕ → ℕ → ℕ → World → Flow
 stages_from b m ids stage zero w = On w
-stages_from b m ids stage (suc left) w = one_stage b m stage ids w >>= stages_from b m ids (suc stage) left
+stages_from b m ids stage (suc left) w =
+    one_stage b m stage ids w >>= stages_from b m ids (suc stage) left
 
 -- these modules count as started
 abbrev pub with_started : List ℕ → World → World
@@ -194,7 +209,8 @@ with_started ids w = record w { started = w.started ++ ids }
 -- A START of some modules: they count as started, and are called in that order, stage 0 of all,
 -- stage 1, and so on (OMNeT++ Simulation Manual, "Multi-Stage Initialization")
 abbrev pub started : Behaviour → Answers → List ℕ → List ℕ → World → Flow
-started b m ids calls w = stages_from b m calls 0 (most_stages b w.modules calls) (with_started ids w)
+started b m ids calls w =
+    stages_from b m calls 0 (most_stages b w.modules calls) (with_started ids w)
 
 -- the network is started, with all modules that live
 abbrev pub initialize_all : Behaviour → Answers → World → Flow
@@ -256,7 +272,8 @@ is_after_limit m records p = says_beyond (answer_of m records (BeyondLimit p.tim
 -- as delivered
 abbrev pub went : Behaviour → Answers → World → Upcoming → Stage
 went b m w (Nothing asked) = Over w NoMoreEvents
-went b m w (Comes asked p rest) = if is_after_limit m asked.records p then Over w TimeLimit else settled (event b m p rest asked)
+went b m w (Comes asked p rest) = if is_after_limit m asked.records p then Over w TimeLimit
+    else settled (event b m p rest asked)
 
 abbrev pub next_stage : Behaviour → Answers → Stage → Stage
 next_stage b m (Running w) = if w.ended then Over w Ended else went b m w (upcoming m w)

@@ -1,5 +1,6 @@
 -- What comes next in a run: an event, or an injection that goes before it.
-use Rattle.std.specs.Prelude.{ℕ, zero, suc, List, [], ◌∷◌, Option, Some, None, bytes_eq, length, if◌then◌else◌}
+use Rattle.std.specs.Prelude.{ℕ, zero, suc, List, [], ◌∷◌, Option, Some, None, bytes_eq, length}
+use Rattle.std.specs.Prelude.{if◌then◌else◌}
 use Rattle.model_questions.specs.declared.answer.Answer.{Answer}
 use Rattle.model_questions.specs.declared.answer.Answer.TheVariants as answer
 use Rattle.model_questions.specs.declared.answer.Question.TheVariants.{InjectionBefore}
@@ -28,7 +29,8 @@ delivered i w = record w { delivered = Some (turn_of i) }
 -- the simple module that stands at a path
 abbrev pub id_at : List Record → List ℕ → List Instance → Option ℕ
 id_at records path [] = None
-id_at records path (i ∷ is) = if bytes_eq (path_of records i.id) path then Some i.id else id_at records path is
+id_at records path (i ∷ is) = if bytes_eq (path_of records i.id) path then Some i.id
+    else id_at records path is
 
 abbrev pub target_of : List ℕ → World → Option ℕ
 target_of path w = id_at w.records path w.modules
@@ -36,7 +38,13 @@ target_of path w = id_at w.records path w.modules
 -- the event that it becomes, of the module of that id; it is never among those to come, and its
 -- insertion number says nothing
 abbrev pub arrival : Injection → ℕ → Pending
-arrival i id = record { time = i.due.time; priority = i.due.priority; number = 0; id = id; what = Arrival i.kind i.bits i.payload }
+arrival i id = record {
+  time = i.due.time;
+  priority = i.due.priority;
+  number = 0;
+  id = id;
+  what = Arrival i.kind i.bits i.payload;
+}
 
 -- ---- what comes next
 
@@ -58,7 +66,8 @@ aimed go_on w ps i (Some id) = Comes w (arrival i id) ps
 aimed go_on w ps i None = go_on w
 
 abbrev pub chosen : (World → Upcoming) → World → List Pending → Answer → Upcoming
-chosen go_on w ps (answer.Injection (Some i)) = aimed go_on (delivered i w) ps i (target_of i.path w)
+chosen go_on w ps (answer.Injection (Some i)) =
+    aimed go_on (delivered i w) ps i (target_of i.path w)
 chosen go_on w ps (answer.Injection None) = first_of w ps
 chosen go_on w ps (answer.Root name) = first_of w ps
 chosen go_on w ps (answer.Inside bs) = first_of w ps
@@ -74,7 +83,8 @@ chosen go_on w ps answer.Absent = first_of w ps
 abbrev pub upcoming_in : ℕ → Answers → List Pending → World → Upcoming
 upcoming_in zero m ps w = Nothing w
 upcoming_in (suc left) m ps w =
-    chosen (upcoming_in left m ps) (asked_next (InjectionBefore (first_due ps) w.delivered) w) ps (answer_of m w.records (InjectionBefore (first_due ps) w.delivered))
+    chosen (upcoming_in left m ps) (asked_next (InjectionBefore (first_due ps) w.delivered) w) ps
+    (answer_of m w.records (InjectionBefore (first_due ps) w.delivered))
 
 -- WHAT COMES NEXT, where at most all injections of the model are discarded before it: as many looks
 -- as it has injections, and one

@@ -1,5 +1,6 @@
 -- What a run is at a moment.
-use Rattle.std.specs.Prelude.{ℕ, ◌+◌, ◌-◌, ◌*◌, ◌^◌, ◌≤◌, Bool, false, List, [], ◌∷◌, ◌++◌, length, Option, None, if◌then◌else◌}
+use Rattle.std.specs.Prelude.{ℕ, ◌+◌, ◌-◌, ◌*◌, ◌^◌, ◌≤◌, Bool, false, List, [], ◌∷◌, ◌++◌, length}
+use Rattle.std.specs.Prelude.{Option, None, if◌then◌else◌}
 use Rattle.std.specs.List.{list_any}
 use Rattle.model_questions.specs.declared.answer.AskedQuestion.{AskedQuestion}
 use Rattle.model_questions.specs.declared.answer.Question.{Question}
@@ -84,7 +85,8 @@ timed q w = record w { questions = w.questions ++ record { event = w.count; ques
 
 -- a question about times is asked for the event after it, which may not come
 abbrev pub asked_next : Question → World → World
-asked_next q w = record w { questions = w.questions ++ record { event = w.count + 1; question = q } ∷ [] }
+asked_next q w =
+    record w { questions = w.questions ++ record { event = w.count + 1; question = q } ∷ [] }
 
 -- insertion numbers are far from running out: an event inserts fewer than 2^40 events, as it calls
 -- at most 2^16 modules for at most 2^8 stages each, and a reply has at most 1,000 actions

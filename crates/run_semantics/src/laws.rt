@@ -12,10 +12,13 @@ ghost use Rattle.run_semantics.specs.Ending.{ending};
 ghost use Rattle.run_semantics.specs.Event.{instance_in};
 ghost use Rattle.run_semantics.specs.Example.{ExampleNests};
 ghost use Rattle.run_semantics.specs.Sends.{ExampleSends};
-ghost use Rattle.run_semantics.specs.Laws.{Each, AreInOrder, AreInTurn, HaveOwnNumbers, HasGrown, GoesOn, CanBeCalled, HasEnded, AreFrom, AreStates, IsBounded, gone_on, noted_all, parts_standing};
+ghost use Rattle.run_semantics.specs.Laws.{Each, AreInOrder, AreInTurn, HaveOwnNumbers, HasGrown};
+ghost use Rattle.run_semantics.specs.Laws.{GoesOn, CanBeCalled, HasEnded, AreFrom, AreStates};
+ghost use Rattle.run_semantics.specs.Laws.{IsBounded, gone_on, noted_all, parts_standing};
 ghost use Rattle.run_semantics.specs.Upcoming.{Nothing, upcoming};
 ghost use Rattle.run_semantics.specs.World.{World, live_of};
-ghost use Rattle.run_semantics.specs.Run.{Ran, Running, Over, IsReached, next_stage, after, stopped, run_to, world_at, standing, parts_of};
+ghost use Rattle.run_semantics.specs.Run.{Ran, Running, Over, IsReached, next_stage, after};
+ghost use Rattle.run_semantics.specs.Run.{stopped, run_to, world_at, standing, parts_of};
 
 /// After n events at most n are counted.
 pub fn at_most_n_are_counted()
@@ -24,8 +27,10 @@ pub fn at_most_n_are_counted()
 
 /// A run that is over after so many events is the same to each limit that is no less.
 pub fn over_is_over()
-    ensures { (b : Behaviour) (m : Answers) (w : World) (outcome : Outcome) (k limit : ℕ) → k ≤ limit
-        → Over w outcome ≡ after b m k → run_to b m limit ≡ record { world = w; outcome = outcome } }
+    ensures { (b : Behaviour) (m : Answers) (w : World) (outcome : Outcome) (k limit : ℕ)
+        → k ≤ limit
+        → Over w outcome ≡ after b m k
+        → run_to b m limit ≡ record { world = w; outcome = outcome } }
 {}
 
 /// Two models that answer alike all that the run of the first one asked up to an event have the
@@ -35,7 +40,8 @@ pub fn equal_answers_equal_runs()
     ensures all { (b : Behaviour) → IsLawful b → (m n : Answers) (v : ℕ)
         → Agrees m n (world_at (after b m v)).records (questions_of m (after b m v))
         → after b m v ≡ after b n v }
-    ensures reached { (b : Behaviour) → IsLawful b → (m n : Answers) (v : ℕ) → IsReached (after b m v) v
+    ensures reached { (b : Behaviour) → IsLawful b → (m n : Answers) (v : ℕ)
+        → IsReached (after b m v) v
         → Agrees m n (world_at (after b m v)).records (world_at (after b m v)).questions
         → after b m v ≡ after b n v }
 {}
@@ -47,7 +53,8 @@ pub fn equal_runs_up_to_an_event()
     ensures all { (b : Behaviour) → IsLawful b → (m n : Answers) (v k : ℕ) → v ≤ k
         → AgreesUpTo v m n (world_at (after b m k)).records (questions_of m (after b m k))
         → after b m v ≡ after b n v }
-    ensures reached { (b : Behaviour) → IsLawful b → (m n : Answers) (v k : ℕ) → v ≤ k → IsReached (after b m v) v
+    ensures reached { (b : Behaviour) → IsLawful b → (m n : Answers) (v k : ℕ) → v ≤ k
+        → IsReached (after b m v) v
         → AgreesUpTo v m n (world_at (after b m k)).records (world_at (after b m k)).questions
         → after b m v ≡ after b n v }
 {}
@@ -57,13 +64,15 @@ pub fn equal_runs_up_to_an_event()
 pub fn answers_stay()
     ensures { (b : Behaviour) (m other : Answers) (n k : ℕ) → n ≤ k
         → Each (λ a. answer_of other (world_at (after b m k)).records a.question
-        ≡ answer_of other (world_at (after b m n)).records a.question) (questions_of m (after b m n)) }
+        ≡ answer_of other (world_at (after b m n)).records a.question)
+        (questions_of m (after b m n)) }
 {}
 
 /// What is to come rests on where the run stands alone: n + k events are k more from the stage
 /// after n.
 pub fn runs_go_on()
-    ensures { (b : Behaviour) (m : Answers) (n k : ℕ) → after b m (n + k) ≡ gone_on b m k (after b m n) }
+    ensures { (b : Behaviour) (m : Answers) (n k : ℕ)
+        → after b m (n + k) ≡ gone_on b m k (after b m n) }
 {}
 
 /// So a world that is kept after event v serves each model that answers alike what was asked up to
@@ -72,7 +81,8 @@ pub fn kept_worlds_serve()
     ensures all { (b : Behaviour) → IsLawful b → (m n : Answers) (v k : ℕ) → v ≤ k
         → AgreesUpTo v m n (world_at (after b m k)).records (questions_of m (after b m k))
         → (more : ℕ) → after b n (v + more) ≡ gone_on b n more (after b m v) }
-    ensures reached { (b : Behaviour) → IsLawful b → (m n : Answers) (v k : ℕ) → v ≤ k → IsReached (after b m v) v
+    ensures reached { (b : Behaviour) → IsLawful b → (m n : Answers) (v k : ℕ) → v ≤ k
+        → IsReached (after b m v) v
         → AgreesUpTo v m n (world_at (after b m k)).records (world_at (after b m k)).questions
         → (more : ℕ) → after b n (v + more) ≡ gone_on b n more (after b m v) }
 {}
@@ -82,7 +92,8 @@ pub fn kept_worlds_serve()
 pub fn one_event_more()
     ensures running { (b : Behaviour) (m : Answers) (n : ℕ) (w : World) → after b m n ≡ Running w
         → run_to b m (suc n) ≡ stopped (next_stage b m (Running w)) }
-    ensures over { (b : Behaviour) (m : Answers) (n : ℕ) (w : World) (outcome : Outcome) → after b m n ≡ Over w outcome
+    ensures over { (b : Behaviour) (m : Answers) (n : ℕ) (w : World) (outcome : Outcome)
+        → after b m n ≡ Over w outcome
         → run_to b m (suc n) ≡ run_to b m n }
 {}
 
@@ -102,7 +113,8 @@ pub fn modules_stay_until_the_end()
     ensures nobody { (b : Behaviour) (m : Answers) (n : ℕ) → (world_at (after b m n)).dead ≡ [] }
     ensures started { (b : Behaviour) (m : Answers) (n k : ℕ) → n ≤ k
         → (world_at (after b m k)).started ≡ (world_at (after b m n)).started }
-    ensures finished { (b : Behaviour) (m : Answers) (n : ℕ) → (world_at (after b m n)).finished ≡ [] }
+    ensures finished { (b : Behaviour) (m : Answers) (n : ℕ)
+        → (world_at (after b m n)).finished ≡ [] }
 {}
 
 /// A run that goes on after n events got as far as event n.
@@ -118,7 +130,8 @@ pub fn events_are_in_order()
 
 /// No two events to come have the same insertion number, and the next one is above them all.
 pub fn no_two_events_share_a_number()
-    ensures own { (b : Behaviour) (m : Answers) (n : ℕ) → HaveOwnNumbers (world_at (after b m n)).pending }
+    ensures own { (b : Behaviour) (m : Answers) (n : ℕ)
+        → HaveOwnNumbers (world_at (after b m n)).pending }
     ensures below { (b : Behaviour) (m : Answers) (n : ℕ)
         → Each (λ e. e.number < (world_at (after b m n)).next) (world_at (after b m n)).pending }
 {}
@@ -132,9 +145,11 @@ pub fn no_event_is_late()
 /// What was emitted stands in the order of events: along it neither event numbers nor times fall,
 /// and none is above the count or the clock.
 pub fn emissions_are_in_turn()
-    ensures turn { (b : Behaviour) (m : Answers) (n : ℕ) → AreInTurn (world_at (after b m n)).emissions }
+    ensures turn { (b : Behaviour) (m : Answers) (n : ℕ)
+        → AreInTurn (world_at (after b m n)).emissions }
     ensures past { (b : Behaviour) (m : Answers) (n : ℕ)
-        → Each (λ e. (e.event ≤ (world_at (after b m n)).count) × (e.time ≤ (world_at (after b m n)).clock))
+        → Each (λ e. (e.event ≤ (world_at (after b m n)).count)
+        × (e.time ≤ (world_at (after b m n)).clock))
         (world_at (after b m n)).emissions }
 {}
 
@@ -142,7 +157,8 @@ pub fn emissions_are_in_turn()
 /// was started and lives. So no event is passed over, and none calls a module before it is started.
 pub fn events_are_for_started_modules()
     ensures found { (b : Behaviour) (m : Answers) (n : ℕ)
-        → Each (λ e. IsSome (instance_in e.id (world_at (after b m n)).modules)) (world_at (after b m n)).pending }
+        → Each (λ e. IsSome (instance_in e.id (world_at (after b m n)).modules))
+        (world_at (after b m n)).pending }
     ensures started { (b : Behaviour) (m : Answers) (n : ℕ) (w : World) → after b m n ≡ Running w
         → Each (λ e. CanBeCalled w e.id) w.pending }
 {}
@@ -158,7 +174,8 @@ pub fn created_modules_stand()
 
 /// In a run of a lawful catalogue the state of each module is one of its kind, at each moment.
 pub fn states_are_of_their_kinds()
-    ensures { (b : Behaviour) → IsLawful b → (m : Answers) (n : ℕ) → AreStates b (world_at (after b m n)).modules }
+    ensures { (b : Behaviour) → IsLawful b → (m : Answers) (n : ℕ)
+        → AreStates b (world_at (after b m n)).modules }
 {}
 
 /// On which of its first events two models agree is the same by what a run asked up to there and by
@@ -172,25 +189,35 @@ pub fn longer_runs_agree_alike()
 /// A run stands where it stood after the last event that it executed, whatever its limit was; and
 /// one that got as far as an event got as far as each one before.
 pub fn runs_stand_at_their_last_event()
-    ensures stands { (b : Behaviour) (m : Answers) (n : ℕ) → world_at (after b m (world_at (after b m n)).count) ≡ world_at (after b m n) }
-    ensures reached { (b : Behaviour) (m : Answers) (v k : ℕ) → v ≤ k → IsReached (after b m k) k → IsReached (after b m v) v }
+    ensures stands { (b : Behaviour) (m : Answers) (n : ℕ)
+        → world_at (after b m (world_at (after b m n)).count) ≡ world_at (after b m n) }
+    ensures reached { (b : Behaviour) (m : Answers) (v k : ℕ) → v ≤ k → IsReached (after b m k) k
+        → IsReached (after b m v) v }
 {}
 
 /// The end of a run asks nothing that is noted, creates no module, and counts no event.
 pub fn the_end_asks_nothing()
-    ensures questions { (b : Behaviour) (m : Answers) (ran : Ran) → (ending b m ran).world.questions ≡ ran.world.questions }
-    ensures records { (b : Behaviour) (m : Answers) (ran : Ran) → (ending b m ran).world.records ≡ ran.world.records }
-    ensures count { (b : Behaviour) (m : Answers) (ran : Ran) → (ending b m ran).world.count ≡ ran.world.count }
+    ensures questions { (b : Behaviour) (m : Answers) (ran : Ran)
+        → (ending b m ran).world.questions ≡ ran.world.questions }
+    ensures records { (b : Behaviour) (m : Answers) (ran : Ran)
+        → (ending b m ran).world.records ≡ ran.world.records }
+    ensures count { (b : Behaviour) (m : Answers) (ran : Ran)
+        → (ending b m ran).world.count ≡ ran.world.count }
 {}
 
 /// The end of a run undoes nothing: the same modules live and count as started, and what is
 /// finished, emitted and recorded is added after what was there.
 pub fn the_end_only_adds()
-    ensures live { (b : Behaviour) (m : Answers) (ran : Ran) → live_of (ending b m ran).world ≡ live_of ran.world }
-    ensures started { (b : Behaviour) (m : Answers) (ran : Ran) → (ending b m ran).world.started ≡ ran.world.started }
-    ensures finished { (b : Behaviour) (m : Answers) (ran : Ran) → GoesOn ran.world.finished (ending b m ran).world.finished }
-    ensures emissions { (b : Behaviour) (m : Answers) (ran : Ran) → GoesOn ran.world.emissions (ending b m ran).world.emissions }
-    ensures scalars { (b : Behaviour) (m : Answers) (ran : Ran) → GoesOn ran.world.scalars (ending b m ran).world.scalars }
+    ensures live { (b : Behaviour) (m : Answers) (ran : Ran)
+        → live_of (ending b m ran).world ≡ live_of ran.world }
+    ensures started { (b : Behaviour) (m : Answers) (ran : Ran)
+        → (ending b m ran).world.started ≡ ran.world.started }
+    ensures finished { (b : Behaviour) (m : Answers) (ran : Ran)
+        → GoesOn ran.world.finished (ending b m ran).world.finished }
+    ensures emissions { (b : Behaviour) (m : Answers) (ran : Ran)
+        → GoesOn ran.world.emissions (ending b m ran).world.emissions }
+    ensures scalars { (b : Behaviour) (m : Answers) (ran : Ran)
+        → GoesOn ran.world.scalars (ending b m ran).world.scalars }
 {}
 
 /// At each moment of a run at most 65,536 modules live, and at most 1,000,000 were created.
@@ -201,14 +228,16 @@ pub fn modules_are_bounded()
 /// Nothing comes next only where no event is left and each injection of the model is delivered: one
 /// at whose path no module stands is discarded, and the next one is looked at.
 pub fn nothing_comes_where_nothing_is_left()
-    ensures { (m : Answers) (w end : World) → upcoming m w ≡ Nothing end → HasEnded m w.pending end }
+    ensures { (m : Answers) (w end : World) → upcoming m w ≡ Nothing end
+        → HasEnded m w.pending end }
 {}
 
 /// To note a question once is enough: two models agree on what is noted, up to each event, just
 /// where they agree on the plain list of all that was asked, event by event.
 #[tactic(auto, using(crate::proofs::Once::once_agrees))]
 pub fn noting_once_is_enough()
-    ensures { (m n : Answers) (records : List Record) (v : ℕ) (plain : List AskedQuestion) → AreFrom 0 plain
+    ensures { (m n : Answers) (records : List Record) (v : ℕ) (plain : List AskedQuestion)
+        → AreFrom 0 plain
         → AgreesUpTo v m n records (noted_all plain []) ↔ AgreesUpTo v m n records plain }
 {}
 

@@ -1,7 +1,9 @@
 //! Ways of messages through gates.
 
 ghost use Rattle.std.specs.Prelude.{◌≡◌, ◌<◌, IfOk, IfSome, length};
-ghost use Rattle.run_semantics.specs.Routes.{is_output, is_out_gate, is_input, is_in_gate, is_connected, is_simple, is_gate, place_of, busy_at, busy_of, channels_of, transmission_gate};
+ghost use Rattle.run_semantics.specs.Routes.{is_output, is_out_gate, is_input, is_in_gate};
+ghost use Rattle.run_semantics.specs.Routes.{is_connected, is_simple, is_gate, place_of, busy_at};
+ghost use Rattle.run_semantics.specs.Routes.{busy_of, channels_of, transmission_gate};
 
 use channels::is_transmission;
 use model_questions::answer::{Answer, Channel};

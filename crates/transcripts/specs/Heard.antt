@@ -32,5 +32,7 @@ whole-parts OutOfMemory = refl
 -- what is heard is stored as a text, as three texts, or as two; or as nothing, where memory ran out
 abbrev pub heard_code : Coded Heard
 heard_code = code_by (Option (List ℕ ⊎ ((List ℕ × (List ℕ × List ℕ)) ⊎ (List ℕ × List ℕ))))
-    (coded_option (coded⊎ (coded_list coded_ℕ) (coded⊎ (coded× (coded_list coded_ℕ) (coded× (coded_list coded_ℕ) (coded_list coded_ℕ))) (coded× (coded_list coded_ℕ) (coded_list coded_ℕ)))))
+    (coded_option (coded⊎ (coded_list coded_ℕ)
+    (coded⊎ (coded× (coded_list coded_ℕ) (coded× (coded_list coded_ℕ) (coded_list coded_ℕ)))
+    (coded× (coded_list coded_ℕ) (coded_list coded_ℕ)))))
     parts whole whole-parts

@@ -51,7 +51,10 @@ impl Clerk {
     /// What it does where it begins.
     fn begin(&self, alloc: Global) -> Result<Reply, NoMemory>
         ensures { IfOk result (λ reply. reply
-            ≡ record { reads = []; actions = actions_of self.now.is_clerk (CallReason.Initialize 0) }) }
+            ≡ record {
+              reads = [];
+              actions = actions_of self.now.is_clerk (CallReason.Initialize 0);
+            }) }
     {
         let mut reply = nothing(alloc);
         if self.is_clerk {
