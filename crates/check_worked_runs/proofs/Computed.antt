@@ -3,7 +3,7 @@ use Rattle.std.proofs.Common.{◌≡◌, ◌∙◌, ℕ, List, Option, Some, Non
 use Rattle.ned_trees.specs.declared.declarations.TypeDeclaration.{TypeDeclaration}
 use Rattle.ned_trees.specs.declared.declarations.TypeKind.{TypeKind}
 use Rattle.ned_trees.specs.declared.declarations.TypeKind.TheVariants as kind
-use Rattle.inside_parts.specs.declared.fault.InsideFault.{InsideFault}
+use Rattle.sim_values.specs.declared.model_fault.ModelFault.{ModelFault}
 use Rattle.inside_keys.specs.declared.found.Found.{Found}
 use Rattle.inside_keys.specs.declared.key.Key.{Key}
 use Rattle.inside_keys.specs.declared.key.What.TheVariants as what
@@ -24,14 +24,14 @@ use Rattle.check_worked_runs.proofs.Literals.{alike, asks_of, value_by, value_so
 
 -- ---- answers where keys have these values
 
-abbrev pub value_with : (Key → Result Found InsideFault) → List ℕ → Option TypeDeclaration → List ℕ → Answer
+abbrev pub value_with : (Key → Result Found ModelFault) → List ℕ → Option TypeDeclaration → List ℕ → Answer
 value_with values path None name = answer.Absent
 value_with values path (Some t) name = value_answer path (values (key (module_at path) (what.Param name)))
 
-abbrev pub found_with : (Key → Result Found InsideFault) → ModuleRules → List ℕ → Result Found (List ℕ × InsideFault)
+abbrev pub found_with : (Key → Result Found ModelFault) → ModuleRules → List ℕ → Result Found (List ℕ × ModelFault)
 found_with values s path = placed values (module_at path) (s.stands (module_at path)).around (asking_of s (key (module_at path) what.Inside))
 
-abbrev pub inside_kind : (Key → Result Found InsideFault) → ModuleRules → List ℕ → TypeDeclaration → TypeKind → Answer
+abbrev pub inside_kind : (Key → Result Found ModelFault) → ModuleRules → List ℕ → TypeDeclaration → TypeKind → Answer
 inside_kind values s path t kind.Network = built_answer s path t (found_with values s path)
 inside_kind values s path t kind.Module = built_answer s path t (found_with values s path)
 inside_kind values s path t kind.Simple = answer.Absent
@@ -39,7 +39,7 @@ inside_kind values s path t kind.Channel = answer.Absent
 inside_kind values s path t kind.ModuleInterface = answer.Absent
 inside_kind values s path t kind.ChannelInterface = answer.Absent
 
-abbrev pub inside_with : (Key → Result Found InsideFault) → ModuleRules → List ℕ → Option TypeDeclaration → Answer
+abbrev pub inside_with : (Key → Result Found ModelFault) → ModuleRules → List ℕ → Option TypeDeclaration → Answer
 inside_with values s path t = typed t (λ u. inside_kind values s path u u.kind)
 
 value_same : (s : ModuleRules) (path : List ℕ) (t : Option TypeDeclaration) (name : List ℕ) → param_answer s path t name ≡ value_with (value_at s) path t name
@@ -64,10 +64,10 @@ values_are : (s : ModuleRules) → value_at s ≡ value_by (asks_of s)
 values_are s = alike (value_at s) (value_by (asks_of s)) (value_so s)
 
 value_is : (s : ModuleRules) (path : List ℕ) (t : Option TypeDeclaration) (name : List ℕ) → param_answer s path t name ≡ value_with (value_by (asks_of s)) path t name
-value_is s path t name = value_same s path t name ∙ ap (λ (v : Key → Result Found InsideFault). value_with v path t name) (values_are s)
+value_is s path t name = value_same s path t name ∙ ap (λ (v : Key → Result Found ModelFault). value_with v path t name) (values_are s)
 
 inside_is : (s : ModuleRules) (path : List ℕ) (t : Option TypeDeclaration) → inside_answer s path t ≡ inside_with (value_by (asks_of s)) s path t
-inside_is s path t = inside_same s path t ∙ ap (λ (v : Key → Result Found InsideFault). inside_with v s path t) (values_are s)
+inside_is s path t = inside_same s path t ∙ ap (λ (v : Key → Result Found ModelFault). inside_with v s path t) (values_are s)
 
 -- the answers of a model, with these of what is inside and of values
 abbrev pub answers_with : Model → (Lineage → Answer) → (Lineage → List ℕ → Answer) → Answers

@@ -5,8 +5,8 @@ use Rattle.param_following.specs.Following.{or_circle, value_of, value_within}
 use Rattle.ned_trees.specs.declared.expressions.Expression.{Expression, the_lemmas}
 use Rattle.ned_trees.specs.declared.expressions.Expression.TheVariants as expression
 use Rattle.sim_values.specs.declared.value.Value.{Value}
-use Rattle.inside_parts.specs.declared.fault.InsideFault.{InsideFault}
-use Rattle.inside_parts.specs.declared.fault.InsideFault.TheVariants.{Unassigned, Circle}
+use Rattle.sim_values.specs.declared.model_fault.ModelFault.{ModelFault}
+use Rattle.sim_values.specs.declared.model_fault.ModelFault.TheVariants.{Unassigned, Circle}
 use Rattle.inside_keys.specs.declared.found.Found.{Found}
 use Rattle.inside_keys.specs.Keys.{same_key}
 use Rattle.param_eval.specs.Values.{Valued, valued}
@@ -37,7 +37,7 @@ asks s m w = asking_by s m w
 abbrev pub asks_of : ModuleRules → Key → KeyAsking
 asks_of s k = asks s k.site k.what
 
-abbrev pub value_by : (Key → KeyAsking) → Key → Result Found InsideFault
+abbrev pub value_by : (Key → KeyAsking) → Key → Result Found ModelFault
 value_by asking k = or_circle Circle (value_within (record { same = same_key; asking = asking; circle = Circle }) (2 ^ 64) [] k)
 
 at_literal : (v : Value) → valued (expression.Literal v) ≡ Done (Ok v)

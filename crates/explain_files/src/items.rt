@@ -1,7 +1,6 @@
 //! Which connection of a compound module has a fault: the first with which the fault comes.
 
 use crate::modules::placed_at;
-use inside_parts::fault::InsideFault;
 use model_data::model::Model;
 use model_settings::setting::ModelSetting;
 use ned_inheritance::table::{BuildError, flat_types};
@@ -9,6 +8,7 @@ use ned_scopes::copies::copy_type;
 use ned_trees::declarations::TypeDeclaration;
 use ned_types::table::TypeTable;
 use sim_values::NoMemory;
+use sim_values::model_fault::ModelFault;
 use sqlite_items::Items;
 use std::alloc::Global;
 
@@ -21,7 +21,7 @@ pub struct Faulted<'a> {
     /// The module's type and all that it extends, the root first.
     pub order: &'a [&'a TypeDeclaration],
     pub path: &'a [u8],
-    pub fault: InsideFault,
+    pub fault: ModelFault,
 }
 
 /// How many items of connections these types have.
@@ -82,7 +82,7 @@ fn has_fault(
     alloc: Global,
     model: &Model,
     path: &[u8],
-    fault: InsideFault,
+    fault: ModelFault,
 ) -> Result<bool, NoMemory> {
     let setting = ModelSetting::new(alloc, model)?;
     match placed_at(alloc, &setting, path)? {

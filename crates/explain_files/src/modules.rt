@@ -3,7 +3,6 @@
 use ini_trees::speaks::last_name;
 use inside_keys::found::Found;
 use inside_keys::key::Module;
-use inside_parts::fault::InsideFault;
 use inside_run::placed::placed;
 use inside_run::values::empty_table;
 use model_answers::plain::PlainAnswers;
@@ -14,6 +13,7 @@ use ned_trees::declarations::{Submodule, TypeDeclaration};
 use ned_types::flat::submodule_named;
 use run_semantics::outcome::RunFault;
 use sim_values::NoMemory;
+use sim_values::model_fault::ModelFault;
 use sim_values::text::Text;
 use sqlite_items::Items;
 use std::alloc::Global;
@@ -79,7 +79,7 @@ pub fn placed_at(
     alloc: Global,
     setting: &ModelSetting<'_>,
     path: &[u8],
-) -> Result<Result<Found, (Text, InsideFault)>, NoMemory> {
+) -> Result<Result<Found, (Text, ModelFault)>, NoMemory> {
     let mut table = empty_table(alloc, setting);
     let site = module_of(alloc, path)?;
     let around = around_of(alloc, &site)?;

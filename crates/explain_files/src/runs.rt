@@ -18,7 +18,7 @@ use ini_trees::lines::IniEntry;
 use model_answers::evaluated::EvaluatedModel;
 use model_answers::plain::PlainAnswers;
 use model_data::model::Model;
-use model_questions::answer::{Answer, ModelFault};
+use model_questions::answer::Answer;
 use model_questions::record::path_under;
 use model_reading::begin::model_of;
 use ned_trees::declarations::{
@@ -28,6 +28,7 @@ use ned_trees::expressions::Expression;
 use ned_types::flat::{class_of, last_value};
 use run_semantics::outcome::RunFault;
 use sim_values::NoMemory;
+use sim_values::model_fault::ModelFault;
 use std::alloc::Global;
 
 /// A module of a model that answers: its path, its type, and its declaration, which the network has

@@ -13,7 +13,6 @@ use explain_types::names::shown;
 use explain_types::ned_files::{Files, type_named};
 use explain_types::sources::Sources;
 use inside_keys::sizes::misplaced;
-use inside_parts::fault::InsideFault;
 use inside_parts::gates::gates_of;
 use model_answers::plain::PlainAnswers;
 use model_questions::record::path_under;
@@ -21,6 +20,7 @@ use ned_trees::declarations::{
     GateDeclaration, GateLine, GateSize, ParameterValue, SubmoduleType, TypeDeclaration, TypeKind,
 };
 use sim_values::NoMemory;
+use sim_values::model_fault::ModelFault;
 use sim_values::text::Text;
 use std::alloc::Global;
 
@@ -47,7 +47,7 @@ struct Case<'a> {
     answers: &'a PlainAnswers<'a>,
     files: &'a Files<'a>,
     told: ToldFault<'a>,
-    fault: InsideFault,
+    fault: ModelFault,
 }
 
 /// Says where the connection stands with which the fault comes, of the module of that type, and
@@ -240,8 +240,8 @@ fn tell_misplaced_of(
 }
 
 /// Whether a fault is one of the type that is chosen for a submodule.
-fn is_of_choice(fault: InsideFault) -> bool {
-    matches!(fault, InsideFault::UnknownType | InsideFault::Interface)
+fn is_of_choice(fault: ModelFault) -> bool {
+    matches!(fault, ModelFault::UnknownType | ModelFault::Interface)
 }
 
 /// Whether an entry of the ini text may choose the type of a submodule.
@@ -277,7 +277,7 @@ fn tell_case(
     of: Option<&TypeDeclaration>,
 ) -> Result<(), NoMemory> {
     let declared = declared_at(told.alloc(), it.answers, it.told.path.as_bytes())?;
-    if let (InsideFault::Unconnected, Some(of)) = (it.fault, of) {
+    if let (ModelFault::Unconnected, Some(of)) = (it.fault, of) {
         if tell_unconnected(told, it, of)? {
             return Ok(());
         }
@@ -308,7 +308,7 @@ pub fn tell_misplaced(
         answers,
         files: &files,
         told: fault,
-        fault: InsideFault::NoGate,
+        fault: ModelFault::NoGate,
     };
     tell_misplaced_of(told, it, of)
 }
@@ -320,7 +320,7 @@ pub fn tell_fault_inside(
     sources: &Sources<'_>,
     answers: &PlainAnswers<'_>,
     fault: ToldFault<'_>,
-    kind: InsideFault,
+    kind: ModelFault,
     of: Option<&TypeDeclaration>,
 ) -> Result<(), NoMemory> {
     let types = read_types(told.alloc(), sources)?;

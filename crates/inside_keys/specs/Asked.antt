@@ -4,9 +4,9 @@ use Rattle.std.specs.Prelude.{nat_lt, if◌then◌else◌}
 use Rattle.param_following.specs.Asking.{Asking, Done, Ask}
 use Rattle.sim_values.specs.declared.value.Value.{Value}
 use Rattle.sim_values.specs.declared.value.Value.TheVariants as value
-use Rattle.inside_parts.specs.declared.fault.InsideFault.{InsideFault}
-use Rattle.inside_parts.specs.declared.fault.InsideFault.TheVariants.{UnknownType, Unassigned}
-use Rattle.inside_parts.specs.declared.fault.InsideFault.TheVariants.{Mismatch, GateSize}
+use Rattle.sim_values.specs.declared.model_fault.ModelFault.{ModelFault}
+use Rattle.sim_values.specs.declared.model_fault.ModelFault.TheVariants.{UnknownType, Unassigned}
+use Rattle.sim_values.specs.declared.model_fault.ModelFault.TheVariants.{Mismatch, GateSize}
 use Rattle.inside_parts.specs.Faults.{of_value}
 use Rattle.inside_wiring.specs.declared.wiring.Carrier.{Carrier}
 use Rattle.param_eval.specs.References.{Reference}
@@ -19,7 +19,7 @@ use Rattle.inside_keys.specs.declared.place.Meaning.TheVariants as meaning
 
 -- an asking for values of keys
 abbrev pub KeyAsking : Type 0
-KeyAsking = Asking Key Found InsideFault Found
+KeyAsking = Asking Key Found ModelFault Found
 
 -- with a value; an inside is never asked for where a value is wanted
 abbrev pub value_then : (Value → KeyAsking) → Found → KeyAsking
@@ -42,7 +42,7 @@ abbrev pub carried_then : Key → (Carrier → KeyAsking) → KeyAsking
 carried_then k next = Ask k (carrier_then next)
 
 -- the first fault, or the rest
-abbrev pub result_then : {A : Type 0} → Result A InsideFault → (A → KeyAsking) → KeyAsking
+abbrev pub result_then : {A : Type 0} → Result A ModelFault → (A → KeyAsking) → KeyAsking
 result_then (Ok x) next = next x
 result_then (Err f) next = Done (Err f)
 
@@ -52,11 +52,11 @@ whole_then (value.Whole z) next = next z
 whole_then _ next = Done (Err Mismatch)
 
 -- a size of 0 to 65,536, as keys of sizes have
-abbrev pub small : ℤ → Result ℕ InsideFault
+abbrev pub small : ℤ → Result ℕ ModelFault
 small (pos n) = if nat_lt 65536 n then Err GateSize else Ok n
 small (negsuc n) = Err GateSize
 
-abbrev pub sized_by : Value → Result ℕ InsideFault
+abbrev pub sized_by : Value → Result ℕ ModelFault
 sized_by (value.Whole z) = small z
 sized_by _ = Err Mismatch
 
@@ -64,11 +64,11 @@ abbrev pub size_then : Value → (ℕ → KeyAsking) → KeyAsking
 size_then v next = result_then (sized_by v) next
 
 -- the number of a type, as keys of types have
-abbrev pub natural_in : ℤ → Result ℕ InsideFault
+abbrev pub natural_in : ℤ → Result ℕ ModelFault
 natural_in (pos n) = Ok n
 natural_in (negsuc n) = Err Mismatch
 
-abbrev pub numbered_by : Value → Result ℕ InsideFault
+abbrev pub numbered_by : Value → Result ℕ ModelFault
 numbered_by (value.Whole z) = natural_in z
 numbered_by _ = Err Mismatch
 

@@ -2,7 +2,7 @@
 use Rattle.std.specs.Prelude.{ℕ, ◌==◌, ◌++◌, ◌||◌, ◌&&◌, not, Bool, true, false, List, ◌∷◌, Option}
 use Rattle.std.specs.Prelude.{Some, None, Result, Ok, Err, bytes_eq}
 use Rattle.param_following.specs.Asking.{Done, Ask}
-use Rattle.inside_parts.specs.declared.fault.InsideFault.{InsideFault}
+use Rattle.sim_values.specs.declared.model_fault.ModelFault.{ModelFault}
 use Rattle.inside_keys.specs.declared.found.Found.{Found}
 use Rattle.inside_keys.specs.declared.key.Key.{Key}
 use Rattle.inside_keys.specs.declared.key.Module.{Module}
@@ -38,14 +38,14 @@ abbrev pub blamed : Module → Option Module → Key → List ℕ
 blamed m around k =
     blamed_by m (not (is_param k.what) || (is_at (Some m) k.site || is_at around k.site)) k
 
-abbrev pub placed_by : List ℕ → Result Found InsideFault
-    → (Found → Result Found (List ℕ × InsideFault)) → Result Found (List ℕ × InsideFault)
+abbrev pub placed_by : List ℕ → Result Found ModelFault
+    → (Found → Result Found (List ℕ × ModelFault)) → Result Found (List ℕ × ModelFault)
 placed_by path (Ok v) next = next v
 placed_by path (Err f) next = Err (path, f)
 
 -- WHAT COMES OF AN INSIDE where keys have these values, or the first fault with its path
-abbrev pub placed : (Key → Result Found InsideFault) → Module → Option Module → KeyAsking
-    → Result Found (List ℕ × InsideFault)
+abbrev pub placed : (Key → Result Found ModelFault) → Module → Option Module → KeyAsking
+    → Result Found (List ℕ × ModelFault)
 placed values m around (Done (Ok f)) = Ok f
 placed values m around (Done (Err f)) = Err (m.path, f)
 placed values m around (Ask k rest) =

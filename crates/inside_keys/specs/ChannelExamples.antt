@@ -8,8 +8,8 @@ use Rattle.ned_trees.specs.declared.connections.ConnectionItem.TheVariants as it
 use Rattle.ned_trees.specs.declared.declarations.SubmoduleType.TheVariants.{Like}
 use Rattle.ned_trees.specs.declared.declarations.TypeDeclaration.{TypeDeclaration}
 use Rattle.ned_trees.specs.declared.declarations.TypeKind.TheVariants as kinds
-use Rattle.inside_parts.specs.declared.fault.InsideFault.{InsideFault}
-use Rattle.inside_parts.specs.declared.fault.InsideFault.TheVariants as fault
+use Rattle.sim_values.specs.declared.model_fault.ModelFault.{ModelFault}
+use Rattle.sim_values.specs.declared.model_fault.ModelFault.TheVariants as fault
 use Rattle.inside_wiring.specs.declared.wiring.Carrier.{Carrier}
 use Rattle.inside_wiring.specs.declared.wiring.Link.{Link}
 use Rattle.inside_keys.specs.declared.found.Found.{Found}
@@ -66,12 +66,12 @@ setting_of types = record {
 abbrev pub plugs : List ConnectionItem → ModuleRules
 plugs items = setting_of (network (codes "Plug") items ∷ plug ∷ [])
 
-abbrev pub inside_by : ModuleRules → Option (Result Found InsideFault)
+abbrev pub inside_by : ModuleRules → Option (Result Found ModelFault)
 inside_by s = followed (rules_of s) 6 (key the_network what.Inside)
 
 -- what the links do, the last one first
-abbrev pub carriers_in : Option (Result Found InsideFault)
-    → Option (Result (List Carrier) InsideFault)
+abbrev pub carriers_in : Option (Result Found ModelFault)
+    → Option (Result (List Carrier) ModelFault)
 carriers_in None = None
 carriers_in (Some (Ok (found.Inside i))) = Some (Ok (map (λ (l : Link). l.carrier) i.wiring.links))
 carriers_in (Some (Ok (found.Value v))) = None
@@ -79,7 +79,7 @@ carriers_in (Some (Ok (found.Carrier c))) = None
 carriers_in (Some (Err f)) = Some (Err f)
 
 -- the first part that lacks a connection
-abbrev pub lacking_by : List ConnectionItem → Option (Result Found InsideFault) → Option ℕ
+abbrev pub lacking_by : List ConnectionItem → Option (Result Found ModelFault) → Option ℕ
 lacking_by items (Some (Ok (found.Inside i))) =
     unconnected (network (codes "Plug") items) (type_gates (plugs items)) i
 lacking_by items _ = None

@@ -18,8 +18,8 @@ use Rattle.ned_trees.specs.declared.declarations.Submodule.{Submodule}
 use Rattle.ned_trees.specs.declared.declarations.SubmoduleType.TheVariants.{Named}
 use Rattle.ned_trees.specs.declared.declarations.TypeDeclaration.{TypeDeclaration}
 use Rattle.ned_trees.specs.declared.declarations.TypeKind.TheVariants.{Simple, Network}
-use Rattle.inside_parts.specs.declared.fault.InsideFault.{InsideFault}
-use Rattle.inside_parts.specs.declared.fault.InsideFault.TheVariants as fault
+use Rattle.sim_values.specs.declared.model_fault.ModelFault.{ModelFault}
+use Rattle.sim_values.specs.declared.model_fault.ModelFault.TheVariants as fault
 use Rattle.inside_wiring.specs.declared.wiring.Link.{Link}
 use Rattle.inside_keys.specs.declared.found.Found.{Found}
 use Rattle.inside_keys.specs.declared.found.Found.TheVariants as found
@@ -142,11 +142,11 @@ setting type items = record {
 }
 
 -- what is found inside of the network by following what is asked for
-abbrev pub found_in : List ℕ → List ConnectionItem → Option (Result Found InsideFault)
+abbrev pub found_in : List ℕ → List ConnectionItem → Option (Result Found ModelFault)
 found_in type items = followed (rules_of (setting type items)) 4 (key the_network what.Inside)
 
 -- the sizes of its gate vectors
-abbrev pub sizes_in : Option (Result Found InsideFault) → Option (Result (List ℕ) InsideFault)
+abbrev pub sizes_in : Option (Result Found ModelFault) → Option (Result (List ℕ) ModelFault)
 sizes_in None = None
 sizes_in (Some (Ok (found.Inside i))) = Some (Ok i.wiring.sizes)
 sizes_in (Some (Ok (found.Value v))) = None
@@ -154,18 +154,18 @@ sizes_in (Some (Ok (found.Carrier c))) = None
 sizes_in (Some (Err f)) = Some (Err f)
 
 -- of a network of three routers
-abbrev pub sizes : List ConnectionItem → Option (Result (List ℕ) InsideFault)
+abbrev pub sizes : List ConnectionItem → Option (Result (List ℕ) ModelFault)
 sizes items = sizes_in (found_in (codes "Router") items)
 
 -- of a network of three plugs
-abbrev pub plugged : List ConnectionItem → Option (Result (List ℕ) InsideFault)
+abbrev pub plugged : List ConnectionItem → Option (Result (List ℕ) ModelFault)
 plugged items = sizes_in (found_in (codes "Plug") items)
 
 abbrev pub ends_of : Link → (ℕ × ℕ) × (ℕ × ℕ)
 ends_of l = ((l.from.vector, l.from.index), (l.to.vector, l.to.index))
 
 -- the links, the last one first, by the numbers of vectors and indexes
-abbrev pub links_in : Option (Result Found InsideFault) → List ((ℕ × ℕ) × (ℕ × ℕ))
+abbrev pub links_in : Option (Result Found ModelFault) → List ((ℕ × ℕ) × (ℕ × ℕ))
 links_in (Some (Ok (found.Inside i))) = map ends_of i.wiring.links
 links_in _ = []
 

@@ -24,7 +24,7 @@ use Rattle.ned_trees.specs.declared.declarations.Submodule.{Submodule}
 use Rattle.ned_trees.specs.declared.declarations.TypeDeclaration.{TypeDeclaration}
 use Rattle.ned_trees.specs.declared.expressions.Expression.{Expression}
 use Rattle.sim_values.specs.declared.value.Value.{Value}
-use Rattle.inside_parts.specs.declared.fault.InsideFault.TheVariants.{NoGate, TooManyTurns}
+use Rattle.sim_values.specs.declared.model_fault.ModelFault.TheVariants.{NoGate, TooManyTurns}
 use Rattle.inside_parts.specs.declared.gates.TypeGate.{TypeGate}
 use Rattle.inside_parts.specs.declared.gates.TypeGates.{TypeGates}
 use Rattle.inside_parts.specs.declared.parts.Made.TheVariants.{Absent, Single, Vector}

@@ -23,10 +23,11 @@ use Rattle.param_values.specs.Values.{first_given}
 use Rattle.sim_values.specs.declared.value.Value.{Value}
 use Rattle.sim_values.specs.declared.value.Value.TheVariants as value
 use Rattle.param_eval.specs.Values.{valued}
-use Rattle.inside_parts.specs.declared.fault.InsideFault.{InsideFault}
-use Rattle.inside_parts.specs.declared.fault.InsideFault.TheVariants.{UnknownType, Interface}
-use Rattle.inside_parts.specs.declared.fault.InsideFault.TheVariants.{Unassigned, Mismatch, Circle}
-use Rattle.inside_parts.specs.declared.fault.InsideFault.TheVariants.{NoGate, TooDeep}
+use Rattle.sim_values.specs.declared.model_fault.ModelFault.{ModelFault}
+use Rattle.sim_values.specs.declared.model_fault.ModelFault.TheVariants.{UnknownType, Interface}
+use Rattle.sim_values.specs.declared.model_fault.ModelFault.TheVariants.{Unassigned, Mismatch}
+use Rattle.sim_values.specs.declared.model_fault.ModelFault.TheVariants.{Circle, NoGate}
+use Rattle.sim_values.specs.declared.model_fault.ModelFault.TheVariants.{TooDeep}
 use Rattle.inside_parts.specs.Gates as type_gates
 use Rattle.inside_parts.specs.Names.{is_one, position_of}
 use Rattle.inside_wiring.specs.declared.wiring.Carrier.{Carrier}
@@ -56,7 +57,7 @@ use Rattle.inside_keys.specs.Settings.{type_gates, type_names}
 abbrev pub is : Value → KeyAsking
 is v = Done (Ok (found.Value v))
 
-abbrev pub kept : Result Value InsideFault → KeyAsking
+abbrev pub kept : Result Value ModelFault → KeyAsking
 kept (Ok v) = is v
 kept (Err f) = Done (Err f)
 
@@ -204,7 +205,7 @@ module _ (s : ModuleRules) where
       if keeps p body u then is (value.Whole (pos n)) else Done (Err Interface)
 
   -- a built-in channel is no type of modules
-  abbrev pub no_type : List ℕ → InsideFault
+  abbrev pub no_type : List ℕ → ModelFault
   no_type name = if is_built_in (last_name name) then Interface else UnknownType
 
   abbrev pub type_found : ParametricType → SubmoduleBody → List ℕ → Option ℕ → KeyAsking
@@ -322,9 +323,9 @@ module _ (s : ModuleRules) where
   abbrev pub asking_of : Key → KeyAsking
   asking_of k = asking_by k.site k.what
 
-  abbrev pub rules_of : Rules Key Found InsideFault
+  abbrev pub rules_of : Rules Key Found ModelFault
   rules_of = record { same = same_key; asking = asking_of; circle = Circle }
 
   -- THE VALUE OF A KEY, or why it has none: Circle where it rests on itself
-  abbrev pub value_at : Key → Result Found InsideFault
+  abbrev pub value_at : Key → Result Found ModelFault
   value_at k = value_of rules_of k

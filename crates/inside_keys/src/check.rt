@@ -4,8 +4,9 @@ ghost use Rattle.std.specs.Prelude.{◌≡◌};
 ghost use Rattle.inside_keys.specs.Checks.{amount, checked, not_negative, told};
 ghost use Rattle.param_values.specs.Kinds.{of_kind};
 
-use inside_parts::fault::{InsideFault, of_value};
+use inside_parts::fault::of_value;
 use param_values::kind::{Kind, of_kind};
+use sim_values::model_fault::ModelFault;
 use sim_values::value::Value;
 
 /// What the value of an expression has to be.
@@ -26,23 +27,23 @@ pub enum Check {
 }
 
 /// The value, where it isn't a negative amount.
-fn not_negative(value: Value) -> Result<Value, InsideFault>
+fn not_negative(value: Value) -> Result<Value, ModelFault>
     ensures { result ≡ not_negative value }
 {
     match value {
         Value::Quantity(dimension, amount) => {
             if amount < 0 {
-                Err(InsideFault::Mismatch)
+                Err(ModelFault::Mismatch)
             } else {
                 Ok(Value::Quantity(dimension, amount))
             }
         }
-        _ => Err(InsideFault::Mismatch),
+        _ => Err(ModelFault::Mismatch),
     }
 }
 
 /// The value of a parameter of that kind.
-fn parameter(kind: Kind, value: Value) -> Result<Value, InsideFault>
+fn parameter(kind: Kind, value: Value) -> Result<Value, ModelFault>
     ensures { result ≡ told (of_kind kind value) }
 {
     match of_kind(kind, value) {
@@ -52,7 +53,7 @@ fn parameter(kind: Kind, value: Value) -> Result<Value, InsideFault>
 }
 
 /// The value of a parameter of that kind, which isn't negative.
-fn amount(kind: Kind, value: Value) -> Result<Value, InsideFault>
+fn amount(kind: Kind, value: Value) -> Result<Value, ModelFault>
     ensures { result ≡ amount kind value }
 {
     match parameter(kind, value) {
@@ -62,7 +63,7 @@ fn amount(kind: Kind, value: Value) -> Result<Value, InsideFault>
 }
 
 /// The value, where it is what it has to be.
-pub fn checked(check: Check, value: Value) -> Result<Value, InsideFault>
+pub fn checked(check: Check, value: Value) -> Result<Value, ModelFault>
     ensures { result ≡ checked check value }
 {
     match (check, value) {
@@ -72,20 +73,20 @@ pub fn checked(check: Check, value: Value) -> Result<Value, InsideFault>
         (Check::Condition, Value::Truth(holds)) => Ok(Value::Truth(holds)),
         (Check::VectorSize, Value::Whole(size)) => {
             if size < 0 {
-                Err(InsideFault::Mismatch)
+                Err(ModelFault::Mismatch)
             } else if size > 65536 {
-                Err(InsideFault::TooManyModules)
+                Err(ModelFault::TooManyModules)
             } else {
                 Ok(Value::Whole(size))
             }
         }
         (Check::GateSize, Value::Whole(size)) => {
             if size < 0 || size > 65536 {
-                Err(InsideFault::GateSize)
+                Err(ModelFault::GateSize)
             } else {
                 Ok(Value::Whole(size))
             }
         }
-        _ => Err(InsideFault::Mismatch),
+        _ => Err(ModelFault::Mismatch),
     }
 }

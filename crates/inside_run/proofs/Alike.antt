@@ -3,7 +3,7 @@ use Rattle.std.proofs.Common.{◌≡◌, Bool, ap, sym}
 use mathlib.Core.Path.{fun_ext}
 use Rattle.param_engine.specs.Tables.{Entries, known}
 use Rattle.param_engine.specs.Working.{ruled}
-use Rattle.inside_parts.specs.declared.fault.InsideFault.TheVariants.{Circle}
+use Rattle.sim_values.specs.declared.model_fault.ModelFault.TheVariants.{Circle}
 use Rattle.inside_keys.specs.declared.found.Found.{Found}
 use Rattle.inside_keys.specs.declared.key.Key.{Key}
 use Rattle.inside_keys.specs.Keys.{same_key}

@@ -10,7 +10,7 @@ use Rattle.ned_types.specs.Flat.{submodule_named}
 use Rattle.param_eval.specs.Evaluating.{resumed}
 use Rattle.sim_values.specs.declared.value.Value.{Value}
 use Rattle.sim_values.specs.declared.value.Value.TheVariants as value
-use Rattle.inside_parts.specs.declared.fault.InsideFault.TheVariants.{NoGate, Unassigned}
+use Rattle.sim_values.specs.declared.model_fault.ModelFault.TheVariants.{NoGate, Unassigned}
 use Rattle.inside_parts.specs.declared.fault.InsideError.{InsideError}
 use Rattle.inside_parts.specs.declared.fault.InsideError.TheVariants as stop
 use Rattle.inside_wiring.specs.Ends.{natural, part_named}

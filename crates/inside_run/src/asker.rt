@@ -2,7 +2,7 @@
 
 ghost use Rattle.std.specs.Prelude.{◌≡◌, ◌+◌, ◌≤◌, ℕ, IfOk};
 ghost use Rattle.param_engine.specs.Turns.{came_to, asks};
-ghost use Rattle.inside_parts.specs.declared.fault.InsideFault.TheVariants.{Circle};
+ghost use Rattle.sim_values.specs.declared.model_fault.ModelFault.TheVariants.{Circle};
 ghost use Rattle.inside_keys.specs.Asked.{KeyAsking as asked_type};
 ghost use Rattle.inside_keys.specs.Settings.{ModuleRules};
 ghost use Rattle.inside_keys.specs.Values.{asking_of};
@@ -23,13 +23,14 @@ use crate::scene::{ModuleSource, Stands, submodule_in};
 use crate::types::{go_on_chosen, type_in};
 use inside_keys::found::{Found, Inside};
 use inside_keys::key::{Key, Module, What};
-use inside_parts::fault::{InsideError, InsideFault};
+use inside_parts::fault::InsideError;
 use inside_walk::submodules::number;
 use inside_wiring::wiring::Carrier;
 use ned_trees::declarations::TypeDeclaration;
 use param_engine::asker::Asker;
 use param_engine::turn::EngineStep;
 use sim_values::NoMemory;
+use sim_values::model_fault::ModelFault;
 use sim_values::text::Text;
 use sim_values::value::Value;
 use std::alloc::Global;
@@ -81,7 +82,7 @@ fn type_found<'m, S: ModuleSource>(
     let number = number(value)?;
     match scene.types().get(number) {
         Some(declared) => Ok((number, declared)),
-        None => Err(InsideError::Fault(InsideFault::UnknownType)),
+        None => Err(InsideError::Fault(ModelFault::UnknownType)),
     }
 }
 
@@ -157,7 +158,7 @@ fn inside_around<'m, S: ModuleSource>(
 {
     let (number, _) = type_found(scene, value)?;
     let Some(names) = scene.submodules(number) else {
-        return Err(InsideError::Fault(InsideFault::UnknownType));
+        return Err(InsideError::Fault(ModelFault::UnknownType));
     };
     let key = site.key(alloc, What::Joined)?;
     Ok(Moved::Asks(key, KeyProgress::Joined(names, stands, gate)))
@@ -186,7 +187,7 @@ fn on_value<'m, S: ModuleSource>(
         KeyProgress::InsideAround(site, stands, gate) => {
             inside_around(alloc, scene, &site, stands, gate, value)
         }
-        KeyProgress::Joined(_, _, _) => Err(InsideError::Fault(InsideFault::NoGate)),
+        KeyProgress::Joined(_, _, _) => Err(InsideError::Fault(ModelFault::NoGate)),
         KeyProgress::Condition(site, name, reading) => held(alloc, site, name, reading, value),
         KeyProgress::VectorSize(site, name, reading) => sized(alloc, site, name, reading, value),
         KeyProgress::Posed(posing) => go_on_posed(alloc, posing.into_inner(), value),
@@ -210,7 +211,7 @@ fn on_inside<'m, S: ModuleSource>(
 {
     match progress {
         KeyProgress::Joined(names, stands, gate) => size_from(scene, names, &stands, &gate, inside),
-        _ => Err(InsideError::Fault(InsideFault::Mismatch)),
+        _ => Err(InsideError::Fault(ModelFault::Mismatch)),
     }
 }
 
@@ -228,8 +229,8 @@ fn on_carrier<'m, S: ModuleSource>(
 {
     match progress {
         KeyProgress::Inside(walking) => carried_inside(alloc, walking.into_inner(), carrier),
-        KeyProgress::Joined(_, _, _) => Err(InsideError::Fault(InsideFault::NoGate)),
-        _ => Err(InsideError::Fault(InsideFault::Mismatch)),
+        KeyProgress::Joined(_, _, _) => Err(InsideError::Fault(ModelFault::NoGate)),
+        _ => Err(InsideError::Fault(ModelFault::Mismatch)),
     }
 }
 
@@ -271,7 +272,7 @@ fn begin<'m, S: ModuleSource>(
 /// Where a key has come to, with how it goes on.
 fn turned<'m>(
     moved: Result<Moved<'m>, InsideError>,
-) -> Result<(KeyProgress<'m>, EngineStep<Key, Found, InsideFault>), NoMemory>
+) -> Result<(KeyProgress<'m>, EngineStep<Key, Found, ModelFault>), NoMemory>
     ensures moves { (s : ModuleRules) (t : asked_type) → Moves s moved.entry t
         → IfOk result (λ turned. came_to (goes_on s turned.0) turned.1 ≡ t) }
     ensures costs { (s : ModuleRules) (n : ℕ) → Costs s n moved.entry
@@ -290,7 +291,7 @@ impl<'m, S: ModuleSource> Asker for Keys<'m, S> {
 
     type Value = Found;
 
-    type Fault = InsideFault;
+    type Fault = ModelFault;
 
     type Evaluation = Going<'m, S>;
 
@@ -303,15 +304,15 @@ impl<'m, S: ModuleSource> Asker for Keys<'m, S> {
 
     ghost left = { λ evaluation. weight (S.setting evaluation.scene.now) evaluation.progress };
 
-    fn circle(&self) -> InsideFault {
-        InsideFault::Circle
+    fn circle(&self) -> ModelFault {
+        ModelFault::Circle
     }
 
     fn start(
         &self,
         alloc: Global,
         key: &Key,
-    ) -> Result<(Going<'m, S>, EngineStep<Key, Found, InsideFault>), NoMemory> {
+    ) -> Result<(Going<'m, S>, EngineStep<Key, Found, ModelFault>), NoMemory> {
         let scene = self.scene;
         let (progress, turn) = turned(begin(alloc, scene, key))?;
         Ok((Going { scene, progress }, turn))
@@ -322,7 +323,7 @@ impl<'m, S: ModuleSource> Asker for Keys<'m, S> {
         alloc: Global,
         evaluation: &mut Going<'m, S>,
         value: &Found,
-    ) -> Result<EngineStep<Key, Found, InsideFault>, NoMemory> {
+    ) -> Result<EngineStep<Key, Found, ModelFault>, NoMemory> {
         let progress = replace(&mut evaluation.progress, KeyProgress::Over);
         let (progress, turn) = turned(proceed(alloc, evaluation.scene, progress, value))?;
         evaluation.progress = progress;

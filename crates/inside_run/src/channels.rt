@@ -28,7 +28,7 @@ use inside_keys::found::Found;
 use inside_keys::key::{ChannelAt, Module, What, WrittenAt};
 use inside_keys::place::{Binding, ExpressionPlace, Section};
 use inside_keys::turn::LoopTurn;
-use inside_parts::fault::{InsideError, InsideFault};
+use inside_parts::fault::InsideError;
 use inside_parts::stack::Stack;
 use inside_wiring::wiring::Carrier;
 use ned_trees::connections::{
@@ -38,6 +38,7 @@ use ned_trees::declarations::{Declaration, SectionLine, TypeDeclaration};
 use ned_types::flat::{declaration_named, last_value};
 use param_values::scene::{Given, Section as WrittenSection, Written};
 use sim_values::NoMemory;
+use sim_values::model_fault::ModelFault;
 use sim_values::text::Text;
 use sim_values::value::Value;
 use sqlite_items::Boxed;
@@ -531,7 +532,7 @@ pub fn begin_carrier<'m, S: ModuleSource>(
         (lines_weight (given.channel_lines (S.setting scene.now) declared.now channel)) result }
 {
     let Some(lines) = lines_at(alloc, scene, &channel, declared)? else {
-        return Err(InsideError::Fault(InsideFault::UnknownType));
+        return Err(InsideError::Fault(ModelFault::UnknownType));
     };
     let carrier = carrier_begun(channel_kind(lines));
     carry(alloc, site, channel, lines, carrier)

@@ -19,7 +19,7 @@ use crate::scene::{ModuleSource, Stands};
 use inside_keys::found::{Found, Inside};
 use inside_keys::key::Module;
 use inside_keys::place::Section;
-use inside_parts::fault::{InsideError, InsideFault};
+use inside_parts::fault::InsideError;
 use inside_parts::gates::TypeGates;
 use inside_parts::names::Names;
 use inside_parts::stack::Stack;
@@ -28,6 +28,7 @@ use inside_wiring::ends::{gate_named, part_named};
 use inside_wiring::wiring::Carrier;
 use ned_trees::declarations::TypeDeclaration;
 use sim_values::NoMemory;
+use sim_values::model_fault::ModelFault;
 use sim_values::text::Text;
 use sim_values::value::Value;
 use sqlite_items::Boxed;
@@ -75,7 +76,7 @@ pub fn begin_inside<'m, S: ModuleSource>(
         (inside_weight (S.setting scene.now) declared.now) result }
 {
     let Some(submodules) = scene.submodules(number) else {
-        return Err(InsideError::Fault(InsideFault::UnknownType));
+        return Err(InsideError::Fault(ModelFault::UnknownType));
     };
     let place = place_in(alloc, scene, &site, Section::OfInside)?;
     let ground = Ground {

@@ -24,10 +24,11 @@ use crate::scene::{ModuleSource, Stands, submodule_in};
 use inside_keys::found::Found;
 use inside_keys::key::{Module, What};
 use inside_keys::sizes::has_vector;
-use inside_parts::fault::{InsideError, InsideFault};
+use inside_parts::fault::InsideError;
 use inside_parts::gates::gates_of;
 use ned_trees::declarations::{Submodule, TypeDeclaration};
 use sim_values::NoMemory;
+use sim_values::model_fault::ModelFault;
 use sim_values::text::Text;
 use sim_values::value::Value;
 use std::alloc::Global;
@@ -90,7 +91,7 @@ fn declared_gate<'m, S: ModuleSource>(
         (values.body_by (option_copied submodule.entry)) name.now)) result }
 {
     if !is_gate_vector(alloc, declared, name)? {
-        return Err(InsideError::Fault(InsideFault::NoGate));
+        return Err(InsideError::Fault(ModelFault::NoGate));
     }
     declared_size(alloc, scene, site, name, declared, submodule)
 }
@@ -132,7 +133,7 @@ pub fn with_body<'m, S: ModuleSource>(
     match what {
         What::Param(name) => parameter_of(alloc, scene, site, name, declared, submodule),
         What::Declared(name) => declared_gate(alloc, scene, site, name, declared, submodule),
-        _ => Err(InsideError::Fault(InsideFault::Unassigned)),
+        _ => Err(InsideError::Fault(ModelFault::Unassigned)),
     }
 }
 
@@ -216,7 +217,7 @@ pub fn numbered<'m>(number: Option<usize>) -> Result<Moved<'m>, InsideError>
 {
     match number {
         Some(number) => Ok(Moved::Done(Found::Value(Value::Whole(number as i64)))),
-        None => Err(InsideError::Fault(InsideFault::UnknownType)),
+        None => Err(InsideError::Fault(ModelFault::UnknownType)),
     }
 }
 
@@ -233,7 +234,7 @@ pub fn begin_type<'m, S: ModuleSource>(
     match declarer_of(&stands) {
         Some(around) => {
             if scene.is_too_deep(site) {
-                return Err(InsideError::Fault(InsideFault::TooDeep));
+                return Err(InsideError::Fault(ModelFault::TooDeep));
             }
             let key = around.key(alloc, What::Type)?;
             let name = stands.name.copy(alloc)?;

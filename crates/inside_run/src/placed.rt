@@ -13,11 +13,11 @@ use crate::scene::ModuleSource;
 use crate::values::value_of;
 use inside_keys::found::Found;
 use inside_keys::key::{Key, Module, What};
-use inside_parts::fault::InsideFault;
 use param_engine::asker::Asker;
 use param_engine::table::Table;
 use param_engine::turn::EngineStep;
 use sim_values::NoMemory;
+use sim_values::model_fault::ModelFault;
 use sim_values::text::Text;
 use std::alloc::Global;
 
@@ -85,7 +85,7 @@ pub fn placed<S: ModuleSource>(
     table: &mut Table<Key, Found>,
     site: &Module,
     around: Option<&Module>,
-) -> Result<Result<Found, (Text, InsideFault)>, NoMemory>
+) -> Result<Result<Found, (Text, ModelFault)>, NoMemory>
     requires { IsKept (rules_of (S.setting scene.now)) table.old.entries }
     ensures placed { IfOk result (λ found. found
         ≡ blame.placed (value_at (S.setting scene.now)) site.now (option_copied around.entry)

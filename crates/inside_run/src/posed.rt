@@ -26,7 +26,7 @@ use inside_keys::check::{Check, checked};
 use inside_keys::found::Found;
 use inside_keys::key::Module;
 use inside_keys::place::{Binding, ExpressionPlace, Section};
-use inside_parts::fault::{InsideError, InsideFault};
+use inside_parts::fault::InsideError;
 use inside_parts::stack::Stack;
 use ned_trees::declarations::{
     Declaration, GateLine, GateSize, ParameterValue, SectionLine, Submodule, TypeDeclaration,
@@ -36,6 +36,7 @@ use ned_types::flat::{declaration_named, last_value};
 use param_eval::evaluation::{Evaluation, EvaluationStep};
 use param_values::scene::{Given, Section as WrittenSection, Written};
 use sim_values::NoMemory;
+use sim_values::model_fault::ModelFault;
 use sim_values::text::Text;
 use sim_values::value::Value;
 use sqlite_items::Boxed;
@@ -98,7 +99,7 @@ pub fn begin_posed<'m>(alloc: Global, posed: Option<Posable<'m>>) -> Result<Move
     ensures costs { (s : ModuleRules) → Costs s (posed_weight (maybe_posed posed.entry)) result }
 {
     let Some(posed) = posed else {
-        return Err(InsideError::Fault(InsideFault::Unassigned));
+        return Err(InsideError::Fault(ModelFault::Unassigned));
     };
     let Posable {
         expression,

@@ -9,10 +9,11 @@ ghost use Rattle.inside_run.specs.Runs.{Reaches, needs};
 use crate::variables::Variables;
 use inside_keys::key::Key;
 use inside_keys::place::{ExpressionPlace, Meaning};
-use inside_parts::fault::{InsideError, InsideFault, of_value};
+use inside_parts::fault::{InsideError, of_value};
 use param_eval::evaluation::{Evaluation, EvaluationStep};
 use param_eval::names::Name;
 use sim_values::NoMemory;
+use sim_values::model_fault::ModelFault;
 use sim_values::value::Value;
 use std::alloc::Global;
 
@@ -63,7 +64,7 @@ pub fn reach<'m, V: Variables>(
             EvaluationStep::Ask(name) => match meaning(alloc, place, variables, name)? {
                 Meaning::Is(value) => evaluation.go_on(alloc, value)?,
                 Meaning::Of(key) => return Ok(Reached::Key(key)),
-                Meaning::Nothing => return Err(InsideError::Fault(InsideFault::Unassigned)),
+                Meaning::Nothing => return Err(InsideError::Fault(ModelFault::Unassigned)),
             },
         };
     }

@@ -15,9 +15,10 @@ ghost use Rattle.inside_run.specs.Weights.{Costs};
 use crate::progress::{KeyProgress, Moved, Reading};
 use inside_keys::found::Found;
 use inside_keys::key::{Module, What};
-use inside_parts::fault::{InsideError, InsideFault};
+use inside_parts::fault::InsideError;
 use inside_walk::submodules::size;
 use ned_trees::declarations::Submodule;
+use sim_values::model_fault::ModelFault;
 use sim_values::text::Text;
 use sim_values::value::Value;
 use std::alloc::Global;
@@ -29,7 +30,7 @@ fn unread<'m>(reading: &Reading) -> Result<Moved<'m>, InsideError>
 {
     match reading {
         Reading::Member(_) | Reading::Element(_, _) | Reading::Size => {
-            Err(InsideError::Fault(InsideFault::Unassigned))
+            Err(InsideError::Fault(ModelFault::Unassigned))
         }
         Reading::Exists | Reading::ExistsAt(_) => Ok(Moved::Done(Found::Value(Value::Truth(
             false,
@@ -44,7 +45,7 @@ fn absent<'m>(reading: &Reading) -> Result<Moved<'m>, InsideError>
 {
     match reading {
         Reading::Member(_) | Reading::Element(_, _) => Err(InsideError::Fault(
-            InsideFault::Unassigned,
+            ModelFault::Unassigned,
         )),
         Reading::Exists | Reading::ExistsAt(_) => Ok(Moved::Done(Found::Value(Value::Truth(
             false,
@@ -133,7 +134,7 @@ fn at_index<'m>(
 {
     match index {
         Some(index) => of_child(alloc, site, name, Some(index), parameter),
-        None => Err(InsideError::Fault(InsideFault::Unassigned)),
+        None => Err(InsideError::Fault(ModelFault::Unassigned)),
     }
 }
 
@@ -150,7 +151,7 @@ fn counted<'m>(
     ensures costs { (s : ModuleRules) → Costs s 1 result }
 {
     match reading {
-        Reading::Member(_) | Reading::Exists => Err(InsideError::Fault(InsideFault::Unassigned)),
+        Reading::Member(_) | Reading::Exists => Err(InsideError::Fault(ModelFault::Unassigned)),
         Reading::Element(index, parameter) => {
             at_index(alloc, site, name, among(count, index), parameter)
         }
@@ -226,7 +227,7 @@ pub fn held<'m>(
     match value {
         Value::Truth(true) => there(alloc, site, name, reading),
         Value::Truth(false) => absent(&reading),
-        _ => Err(InsideError::Fault(InsideFault::Mismatch)),
+        _ => Err(InsideError::Fault(ModelFault::Mismatch)),
     }
 }
 

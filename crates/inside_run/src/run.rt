@@ -18,7 +18,7 @@ ghost use Rattle.inside_walk.specs.Weights.{Spends, of_task, of_want, cost_of_ta
 use crate::reach::{Reached, reach};
 use inside_keys::found::{Found, Inside, State};
 use inside_keys::key::WrittenAt;
-use inside_parts::fault::{InsideError, InsideFault};
+use inside_parts::fault::InsideError;
 use inside_parts::parts::{Part, Parts};
 use inside_parts::stack::Stack;
 use inside_walk::ends::{at, end, part};
@@ -34,6 +34,7 @@ use ned_trees::connections::Clause;
 use ned_trees::declarations::TypeDeclaration;
 use param_eval::evaluation::{Evaluation, EvaluationStep};
 use sim_values::NoMemory;
+use sim_values::model_fault::ModelFault;
 use sim_values::value::Value;
 use sqlite_items::{Boxed, Items};
 use std::alloc::Global;
@@ -82,7 +83,7 @@ fn wanted_number<'m>(
         tasks.old state.turns result tasks.new }
 {
     match want {
-        Want::If(_, _) => Err(InsideError::Fault(InsideFault::Mismatch)),
+        Want::If(_, _) => Err(InsideError::Fault(ModelFault::Mismatch)),
         Want::First(variable, last, list, body) => {
             let want = Want::Last(variable, number, list, body);
             Ok(evaluate(alloc, last, want, state)?)
@@ -139,7 +140,7 @@ fn wanted_truth<'m>(
 {
     match want {
         Want::If(list, body) => decided(alloc, ground, tasks, list, body, holds, state),
-        _ => Err(InsideError::Fault(InsideFault::Mismatch)),
+        _ => Err(InsideError::Fault(ModelFault::Mismatch)),
     }
 }
 
@@ -160,7 +161,7 @@ fn wanted<'m>(
     match value {
         Value::Whole(number) => wanted_number(alloc, ground, tasks, want, number, state),
         Value::Truth(holds) => wanted_truth(alloc, ground, tasks, want, holds, state),
-        _ => Err(InsideError::Fault(InsideFault::Mismatch)),
+        _ => Err(InsideError::Fault(ModelFault::Mismatch)),
     }
 }
 
@@ -383,7 +384,7 @@ fn resume<'m>(
         Doing::Expression(evaluation, want) => {
             resume_expression(alloc, ground, tasks, evaluation, want, state, value)
         }
-        Doing::Carrier(_) => Err(InsideError::Fault(InsideFault::Mismatch)),
+        Doing::Carrier(_) => Err(InsideError::Fault(ModelFault::Mismatch)),
     }
 }
 
@@ -422,8 +423,8 @@ fn resume_carrier<'m>(
 {
     match doing {
         Doing::Carrier(carry) => carried(alloc, ground, tasks, carry, carrier, state),
-        Doing::Key(_) => Err(InsideError::Fault(InsideFault::Mismatch)),
-        Doing::Expression(_, _) => Err(InsideError::Fault(InsideFault::Mismatch)),
+        Doing::Key(_) => Err(InsideError::Fault(ModelFault::Mismatch)),
+        Doing::Expression(_, _) => Err(InsideError::Fault(ModelFault::Mismatch)),
     }
 }
 

@@ -27,7 +27,7 @@ use ini_trees::speaks::last_name;
 use inside_keys::channel::is_built_in;
 use inside_keys::key::Module;
 use inside_keys::place::{ExpressionPlace, Section};
-use inside_parts::fault::{InsideError, InsideFault};
+use inside_parts::fault::InsideError;
 use ned_trees::declarations::{
     ParametricType, SectionLine, Submodule, SubmoduleBody, SubmoduleType, TypeDeclaration, TypeKind,
 };
@@ -35,6 +35,7 @@ use ned_types::given::{fixes, name_in, value_in};
 use param_eval::evaluation::{Evaluation, EvaluationStep};
 use param_values::scene::{Section as WrittenSection, Written};
 use sim_values::NoMemory;
+use sim_values::model_fault::ModelFault;
 use sim_values::text::Text;
 use sim_values::value::Value;
 use sqlite_items::Boxed;
@@ -187,10 +188,10 @@ fn kept_type<'m>(
             if keeps(parametric, body, declared) {
                 numbered(Some(number))
             } else {
-                Err(InsideError::Fault(InsideFault::Interface))
+                Err(InsideError::Fault(ModelFault::Interface))
             }
         }
-        None => Err(InsideError::Fault(InsideFault::UnknownType)),
+        None => Err(InsideError::Fault(ModelFault::UnknownType)),
     }
 }
 
@@ -202,13 +203,13 @@ fn type_at<S: ModuleSource>(scene: &S, number: usize) -> Option<&TypeDeclaration
 }
 
 /// What is wrong with a name that no type has: a built-in channel is no type of modules.
-fn no_type(name: &Text) -> InsideFault
+fn no_type(name: &Text) -> ModelFault
     ensures { (s : ModuleRules) → result ≡ values.no_type s name.now }
 {
     if is_built_in(last_name(name.as_bytes())) {
-        InsideFault::Interface
+        ModelFault::Interface
     } else {
-        InsideFault::UnknownType
+        ModelFault::UnknownType
     }
 }
 
@@ -247,7 +248,7 @@ fn told<'m, S: ModuleSource>(
 {
     match value {
         Value::Text(name) => named_type(alloc, scene, declared, parametric, body, &name),
-        _ => Err(InsideError::Fault(InsideFault::Mismatch)),
+        _ => Err(InsideError::Fault(ModelFault::Mismatch)),
     }
 }
 
@@ -354,7 +355,7 @@ fn begin_chosen<'m, S: ModuleSource>(
         (values.type_written (S.setting scene.now) site.now parametric.now)) result }
 {
     let Some(written) = written(alloc, scene, site, parametric)? else {
-        return Err(InsideError::Fault(InsideFault::Unassigned));
+        return Err(InsideError::Fault(ModelFault::Unassigned));
     };
     let place = place_in(alloc, scene, around, Section::OfInside)?;
     let (evaluation, turn) = Evaluation::start(alloc, written.expression)?;
@@ -409,6 +410,6 @@ pub fn type_in<'m, S: ModuleSource>(
 {
     match submodule {
         Some(submodule) => type_by(alloc, scene, site, around, declared, submodule),
-        None => Err(InsideError::Fault(InsideFault::UnknownType)),
+        None => Err(InsideError::Fault(ModelFault::UnknownType)),
     }
 }

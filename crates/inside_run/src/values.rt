@@ -9,10 +9,10 @@ use crate::asker::Keys;
 use crate::scene::ModuleSource;
 use inside_keys::found::Found;
 use inside_keys::key::Key;
-use inside_parts::fault::InsideFault;
 use param_engine::engine;
 use param_engine::table::Table;
 use sim_values::NoMemory;
+use sim_values::model_fault::ModelFault;
 use std::alloc::Global;
 
 /// A table of which nothing is known. It may be kept, whatever the model.
@@ -32,7 +32,7 @@ pub fn value_of<S: ModuleSource>(
     scene: &S,
     table: &mut Table<Key, Found>,
     key: Key,
-) -> Result<Result<usize, InsideFault>, NoMemory>
+) -> Result<Result<usize, ModelFault>, NoMemory>
     requires { IsKept (rules_of (S.setting scene.now)) table.old.entries }
     ensures value { IfOk result
         (λ found. found_in table.new.entries found ≡ Some (value_at (S.setting scene.now) key)) }

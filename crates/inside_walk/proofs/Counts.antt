@@ -8,7 +8,7 @@ use Rattle.inside_keys.specs.declared.found.State.{State}
 use Rattle.inside_keys.specs.Asked.{KeyAsking}
 use Rattle.inside_keys.specs.Inside.{Rest, looped, counted, turns, count, or_zero}
 use Rattle.inside_keys.specs.Places.{Scope, bind}
-use Rattle.inside_parts.specs.declared.fault.InsideFault.TheVariants.{TooManyTurns}
+use Rattle.sim_values.specs.declared.model_fault.ModelFault.TheVariants.{TooManyTurns}
 use Rattle.ned_trees.specs.declared.connections.Clause.{Clause}
 use Rattle.inside_walk.specs.declared.task.Body.{Body}
 use Rattle.inside_walk.specs.declared.task.Ground.{Ground}

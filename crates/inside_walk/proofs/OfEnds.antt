@@ -5,8 +5,8 @@ use Rattle.inside_keys.specs.declared.found.State.{State}
 use Rattle.inside_keys.specs.Asked.{KeyAsking, result_then}
 use Rattle.inside_keys.specs.Inside.{Rest}
 use Rattle.inside_keys.specs.Places.{Scope}
-use Rattle.inside_parts.specs.declared.fault.InsideFault.{InsideFault}
-use Rattle.inside_parts.specs.declared.fault.InsideFault.TheVariants.{NoGate}
+use Rattle.sim_values.specs.declared.model_fault.ModelFault.{ModelFault}
+use Rattle.sim_values.specs.declared.model_fault.ModelFault.TheVariants.{NoGate}
 use Rattle.inside_parts.specs.declared.fault.InsideError.{InsideError}
 use Rattle.ned_trees.specs.declared.connections.Connection.{Connection}
 use Rattle.ned_trees.specs.declared.connections.End.{End}
@@ -32,8 +32,8 @@ module _ (g : Ground) (c : Connection) where
   module _ (at : Side) (ts us : List Task) (s : State) (gate : NamedGate) (t : Taken) (r : Result Next InsideError)
       (h : Leads g r us (taken g c at (scope_of ts) (record { parts = s.parts; wiring = t.wiring; turns = s.turns; written = s.written }) (continued g ts) t)) (other : Option GateId) (role : Role)
       (same_other : other ≡ other_at at c) (same_role : role ≡ role_at at c) where
-    led : (found : Result Taken InsideFault) → found ≡ Ok t → Leads g r us (result_then found (taken g c at (scope_of ts) s (continued g ts)))
-    led found e = subst (λ y. Leads g r us y) (taken_same at (scope_of ts) s (continued g ts) t ∙ sym (ap (λ (f : Result Taken InsideFault). result_then f (taken g c at (scope_of ts) s (continued g ts))) e)) h
+    led : (found : Result Taken ModelFault) → found ≡ Ok t → Leads g r us (result_then found (taken g c at (scope_of ts) s (continued g ts)))
+    led found e = subst (λ y. Leads g r us y) (taken_same at (scope_of ts) s (continued g ts) t ∙ sym (ap (λ (f : Result Taken ModelFault). result_then f (taken g c at (scope_of ts) s (continued g ts))) e)) h
 
     pub single_leads : at_single s.wiring other role gate ≡ Ok t → Leads g r us (result_then (at_single s.wiring (other_at at c) (role_at at c) gate) (taken g c at (scope_of ts) s (continued g ts)))
     single_leads e = led (at_single s.wiring (other_at at c) (role_at at c) gate)
@@ -55,7 +55,7 @@ module _ (g : Ground) (c : Connection) where
   part_leads at ts us s part n e role gate b r same_end same_role same_count found is_fit fit h =
       subst (λ y. Leads g r us y)
       (sym (
-      ap (λ (f : Result NamedGate InsideFault). result_then f next)
+      ap (λ (f : Result NamedGate ModelFault). result_then f next)
       (sym (ap (λ k. gate_named g.gates.now s.parts k part (end_at at c).gate.name) same_count) ∙ sym (ap (λ (d : End). gate_named g.gates.now s.parts n part d.gate.name) same_end) ∙ found)
       ∙ ap (λ x. if x then gate_begun g c at (scope_of ts) s (continued g ts) gate else Done (Err NoGate))
       (sym (ap (λ l. fits gate.is_own gate.kind.direction (end_at at c).gate.half l) same_role) ∙ sym (ap (λ (d : End). fits gate.is_own gate.kind.direction d.gate.half role) same_end) ∙ sym is_fit ∙ fit)

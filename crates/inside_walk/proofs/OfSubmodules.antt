@@ -10,7 +10,7 @@ use Rattle.inside_keys.specs.Asked.{KeyAsking, ask_then, number_then, numbered_b
 use Rattle.inside_keys.specs.Inside.{gates, gates_in, is_vector, parameters, element, element_of, element_typed, elements, misplaced_of, sized, sizes, submodule_there, submodule, submodules}
 use Rattle.inside_keys.specs.Keys.{child, key}
 use Rattle.inside_keys.specs.States.{grown, noted, part_added}
-use Rattle.inside_parts.specs.declared.fault.InsideFault.{InsideFault}
+use Rattle.sim_values.specs.declared.model_fault.ModelFault.{ModelFault}
 use Rattle.inside_parts.specs.declared.fault.InsideError.{InsideError}
 use Rattle.inside_parts.specs.declared.gates.TypeGate.{TypeGate}
 use Rattle.inside_parts.specs.declared.gates.TypeGates.{TypeGates}
@@ -149,7 +149,7 @@ module _ (g : Ground) where
   known_leads ts us l index v n m s r e f h =
       subst (λ x. Leads g r us x)
       (ap (λ (a : Module). element_typed g.site g.types.now g.gates.now g.is_whole l a index n s (continued g ts)) f
-      ∙ sym (ap (λ (x : Result ℕ InsideFault). result_then x (λ k. element_typed g.site g.types.now g.gates.now g.is_whole l (child g.site l.name index) index k s (continued g ts))) e))
+      ∙ sym (ap (λ (x : Result ℕ ModelFault). result_then x (λ k. element_typed g.site g.types.now g.gates.now g.is_whole l (child g.site l.name index) index k s (continued g ts))) e))
       h
 
   -- what is made of a declaration that is no vector

@@ -14,7 +14,7 @@ use crate::loops::evaluate;
 use crate::task::{Ground, Next, Side, Task, Want};
 use inside_keys::found::State;
 use inside_keys::key::WrittenAt;
-use inside_parts::fault::{InsideError, InsideFault};
+use inside_parts::fault::InsideError;
 use inside_parts::parts::{NamedGate, Parts};
 use inside_parts::stack::Stack;
 use inside_wiring::ends::{
@@ -23,6 +23,7 @@ use inside_wiring::ends::{
 };
 use inside_wiring::wiring::{GateId, Role};
 use ned_trees::connections::{Connection, End, GateIndex, Owner};
+use sim_values::model_fault::ModelFault;
 use sqlite_items::Boxed;
 use std::alloc::Global;
 
@@ -173,7 +174,7 @@ fn placed<'m>(
         + 2) 0 tasks.old state.turns result tasks.new }
 {
     if !gate.kind.is_vector {
-        return Err(InsideError::Fault(InsideFault::NoGate));
+        return Err(InsideError::Fault(ModelFault::NoGate));
     }
     match place {
         GateIndex::At(index) => {
@@ -204,7 +205,7 @@ fn position<'m>(
         Some(place) => placed(alloc, ground, tasks, connection, side, place, gate, state),
         None => {
             if gate.kind.is_vector {
-                return Err(InsideError::Fault(InsideFault::NoGate));
+                return Err(InsideError::Fault(ModelFault::NoGate));
             }
             single(alloc, ground, tasks, connection, side, gate, state)
         }
@@ -236,7 +237,7 @@ pub fn part<'m>(
     )?;
     let role = role_at(side, connection);
     if !has_role(gate.is_own, gate.kind.direction, end.gate.half, role) {
-        return Err(InsideError::Fault(InsideFault::NoGate));
+        return Err(InsideError::Fault(ModelFault::NoGate));
     }
     position(alloc, ground, tasks, connection, side, gate, state)
 }

@@ -18,12 +18,13 @@ ghost use Rattle.inside_walk.specs.declared.task.Task.{Task as task_type};
 use crate::task::{Body, Ground, Next, Side, Task, Want};
 use inside_keys::found::State;
 use inside_keys::key::WrittenAt;
-use inside_parts::fault::{InsideError, InsideFault};
+use inside_parts::fault::InsideError;
 use inside_parts::stack::Stack;
 use ned_trees::connections::{Clause, ConnectionGroup, ConnectionItem, ConnectionLine};
 use ned_trees::expressions::Expression;
 use param_eval::evaluation::Evaluation;
 use sim_values::NoMemory;
+use sim_values::model_fault::ModelFault;
 use sim_values::text::Text;
 use std::alloc::Global;
 
@@ -165,7 +166,7 @@ pub fn turns_from<'m>(
         written,
     } = state;
     if turns == 0 {
-        return Err(InsideError::Fault(InsideFault::TooManyTurns));
+        return Err(InsideError::Fault(ModelFault::TooManyTurns));
     }
     tasks.push(Task::Turns(variable, number, last, clauses, body))?;
     tasks.push(Task::Clauses(clauses, body))?;

@@ -19,12 +19,13 @@ use crate::task::{Ground, Next, Sort, Task, Wait};
 use inside_keys::found::State;
 use inside_keys::key::{Module, What};
 use inside_keys::sizes::misplaced_in;
-use inside_parts::fault::{InsideError, InsideFault};
+use inside_parts::fault::InsideError;
 use inside_parts::gates::{TypeGate, TypeGates};
 use inside_parts::parts::{Made, Part, Parts};
 use inside_parts::stack::Stack;
 use ned_trees::declarations::{SectionLine, Submodule, TypeDeclaration};
 use sim_values::NoMemory;
+use sim_values::model_fault::ModelFault;
 use sim_values::text::Text;
 use sim_values::value::Value;
 use sqlite_items::Boxed;
@@ -333,7 +334,7 @@ fn typed<'m>(
         result tasks.new }
 {
     let Some(declared) = type_at(ground.types, number) else {
-        return Err(InsideError::Fault(InsideFault::UnknownType));
+        return Err(InsideError::Fault(ModelFault::UnknownType));
     };
     of_type(
         alloc, ground, tasks, submodule, child, index, number, declared, state,
@@ -468,12 +469,12 @@ pub fn size(value: &Value) -> Result<u32, InsideError>
     match value {
         Value::Whole(number) => {
             if *number < 0 || *number > 65536 {
-                Err(InsideError::Fault(InsideFault::GateSize))
+                Err(InsideError::Fault(ModelFault::GateSize))
             } else {
                 Ok(*number as u32)
             }
         }
-        _ => Err(InsideError::Fault(InsideFault::Mismatch)),
+        _ => Err(InsideError::Fault(ModelFault::Mismatch)),
     }
 }
 
@@ -484,12 +485,12 @@ pub fn number(value: &Value) -> Result<usize, InsideError>
     match value {
         Value::Whole(number) => {
             if *number < 0 {
-                Err(InsideError::Fault(InsideFault::Mismatch))
+                Err(InsideError::Fault(ModelFault::Mismatch))
             } else {
                 Ok(*number as usize)
             }
         }
-        _ => Err(InsideError::Fault(InsideFault::Mismatch)),
+        _ => Err(InsideError::Fault(ModelFault::Mismatch)),
     }
 }
 
@@ -535,7 +536,7 @@ fn held<'m>(
             let state = noted(state, Made::Absent)?;
             Ok(Next::Go(state))
         }
-        _ => Err(InsideError::Fault(InsideFault::Mismatch)),
+        _ => Err(InsideError::Fault(ModelFault::Mismatch)),
     }
 }
 

@@ -1,7 +1,7 @@
 -- An index of a gate vector that isn't there.
 use Rattle.std.proofs.Common.{◌≡◌, ℕ, ◌≤◌, ℤ, Option, Some, None, Err, nat_lt, if◌then◌else◌, arith, length, refl, ap, ◌∙◌, false}
 use Rattle.std.proofs.lemmas.List.{get_or_past}
-use Rattle.inside_parts.specs.declared.fault.InsideFault.TheVariants.{GateSize}
+use Rattle.sim_values.specs.declared.model_fault.ModelFault.TheVariants.{GateSize}
 use Rattle.inside_parts.specs.declared.parts.NamedGate.{NamedGate}
 use Rattle.inside_wiring.specs.declared.wiring.GateId.{GateId}
 use Rattle.inside_wiring.specs.declared.wiring.Role.{Role}

@@ -2,9 +2,9 @@
 use Rattle.std.specs.Prelude.{ℕ, ℤ, pos, negsuc, ◌+◌, Bool, true, false, ◌&&◌, ◌||◌, not, nat_lt}
 use Rattle.std.specs.Prelude.{List, ◌∷◌, Option, Some, None, Result, Ok, Err, if◌then◌else◌}
 use Rattle.std.specs.Prelude.{slice_index, slice_set, slice_get, length}
-use Rattle.inside_parts.specs.declared.fault.InsideFault.{InsideFault}
-use Rattle.inside_parts.specs.declared.fault.InsideFault.TheVariants.{NoGate, GateSize}
-use Rattle.inside_parts.specs.declared.fault.InsideFault.TheVariants.{AlreadyConnected}
+use Rattle.sim_values.specs.declared.model_fault.ModelFault.{ModelFault}
+use Rattle.sim_values.specs.declared.model_fault.ModelFault.TheVariants.{NoGate, GateSize}
+use Rattle.sim_values.specs.declared.model_fault.ModelFault.TheVariants.{AlreadyConnected}
 use Rattle.ned_trees.specs.declared.connections.Arrow.{Arrow}
 use Rattle.ned_trees.specs.declared.connections.Arrow.TheVariants.{Right, Left, Both as BothWays}
 use Rattle.ned_trees.specs.declared.declarations.GateDirection.{GateDirection}
@@ -29,7 +29,7 @@ use Rattle.inside_wiring.specs.declared.wiring.Role.TheVariants.{Source, Target,
 use Rattle.inside_wiring.specs.declared.ends.Taken.{Taken}
 use Rattle.inside_wiring.specs.Wired.{Wired, is_open, key, next_index}
 
-abbrev pub or_fault : {A : Type 0} → InsideFault → Option A → Result A InsideFault
+abbrev pub or_fault : {A : Type 0} → ModelFault → Option A → Result A ModelFault
 or_fault f None = Err f
 or_fault f (Some x) = Ok x
 
@@ -59,7 +59,7 @@ part_at ps (Some line) index = part_of (length ps.parts) (slice_get ps.made line
 
 -- WHICH SUBMODULE a name and an index mean, where these are the names of those that are declared:
 -- the number of its part
-abbrev pub part_named : List (List ℕ) → Parts → List ℕ → Option ℤ → Result ℕ InsideFault
+abbrev pub part_named : List (List ℕ) → Parts → List ℕ → Option ℤ → Result ℕ ModelFault
 part_named names ps name index = or_fault NoGate (part_at ps (position_of name names) index)
 
 -- of the part of that number
@@ -90,7 +90,7 @@ gate_of count number types name (Some part) =
 
 -- WHICH GATE a name means in a part, where the types have these gates; `count` is the number of all
 -- gate vectors
-abbrev pub gate_named : List TypeGates → Parts → ℕ → ℕ → List ℕ → Result NamedGate InsideFault
+abbrev pub gate_named : List TypeGates → Parts → ℕ → ℕ → List ℕ → Result NamedGate ModelFault
 gate_named types ps count part name =
     or_fault NoGate (gate_of count part types name (slice_get ps.parts part))
 
@@ -119,7 +119,7 @@ abbrev pub extended : Wired → ℕ → Wired
 extended w v = record { sizes = slice_set w.sizes v (slice_index w.sizes v + 1); links = w.links }
 
 -- a gate at an index within the vector
-abbrev pub unless_taken : Wired → Option GateId → Role → GateId → Result Taken InsideFault
+abbrev pub unless_taken : Wired → Option GateId → Role → GateId → Result Taken ModelFault
 unless_taken w other role id = if is_open w.links other role (key id)
     then Ok (record { wiring = w; id = id }) else Err AlreadyConnected
 
@@ -128,16 +128,16 @@ abbrev pub gate_of_vector : NamedGate → ℕ → GateId
 gate_of_vector g i = record { part = g.part; vector = g.vector; index = i }
 
 abbrev pub at_natural : Wired → Option GateId → Role → NamedGate → Option ℕ
-    → Result Taken InsideFault
+    → Result Taken ModelFault
 at_natural w other role g None = Err GateSize
 at_natural w other role g (Some i) = if nat_lt i (slice_index w.sizes g.vector)
     then unless_taken w other role (gate_of_vector g i) else Err GateSize
 
 -- `[index]`
-abbrev pub at_index : Wired → Option GateId → Role → NamedGate → ℤ → Result Taken InsideFault
+abbrev pub at_index : Wired → Option GateId → Role → NamedGate → ℤ → Result Taken ModelFault
 at_index w other role g z = at_natural w other role g (natural z)
 
-abbrev pub at_free : Wired → NamedGate → ℕ → Result Taken InsideFault
+abbrev pub at_free : Wired → NamedGate → ℕ → Result Taken ModelFault
 at_free w g i =
     if nat_lt i (slice_index w.sizes g.vector)
     then Ok (record { wiring = w; id = gate_of_vector g i })
@@ -145,11 +145,11 @@ at_free w g i =
     else Ok (record { wiring = extended w g.vector; id = gate_of_vector g i })
 
 -- `++`: the first free gate, or one more of a submodule's vector
-abbrev pub at_next : Wired → Option GateId → Role → NamedGate → Result Taken InsideFault
+abbrev pub at_next : Wired → Option GateId → Role → NamedGate → Result Taken ModelFault
 at_next w other role g = at_free w g (next_index w other role g.vector)
 
 -- a single gate
-abbrev pub at_single : Wired → Option GateId → Role → NamedGate → Result Taken InsideFault
+abbrev pub at_single : Wired → Option GateId → Role → NamedGate → Result Taken ModelFault
 at_single w other role g = unless_taken w other role (gate_of_vector g 0)
 
 abbrev pub left_role : Arrow → Role

@@ -8,13 +8,14 @@ ghost use Rattle.inside_wiring.specs.Ends as ends;
 ghost use Rattle.inside_wiring.specs.Wired.{next_index};
 
 use crate::wiring::{Carrier, GateId, Link, Role, Wiring};
-use inside_parts::fault::{InsideError, InsideFault};
+use inside_parts::fault::InsideError;
 use inside_parts::gates::{TypeGate, TypeGates};
 use inside_parts::names::Names;
 use inside_parts::parts::{Made, NamedGate, Part, Parts};
 use ned_trees::connections::{Arrow, Half};
 use ned_trees::declarations::GateDirection;
 use sim_values::NoMemory;
+use sim_values::model_fault::ModelFault;
 use sim_values::text::Text;
 
 /// A gate that an end of a connection takes, and the connections so far with the vector extended
@@ -82,7 +83,7 @@ pub fn part_named(
     };
     match part {
         Some(part) => Ok(part),
-        None => Err(InsideError::Fault(InsideFault::NoGate)),
+        None => Err(InsideError::Fault(ModelFault::NoGate)),
     }
 }
 
@@ -127,7 +128,7 @@ pub fn gate_named(
     };
     match found {
         Some(found) => Ok(found),
-        None => Err(InsideError::Fault(InsideFault::NoGate)),
+        None => Err(InsideError::Fault(ModelFault::NoGate)),
     }
 }
 
@@ -194,7 +195,7 @@ fn unless_taken(
     if wiring.is_open(other, role, id.vector, id.index) {
         Ok(Taken { wiring, id })
     } else {
-        Err(InsideError::Fault(InsideFault::AlreadyConnected))
+        Err(InsideError::Fault(ModelFault::AlreadyConnected))
     }
 }
 
@@ -236,10 +237,10 @@ fn at_natural(
                 };
                 unless_taken(wiring, other, role, id)
             } else {
-                Err(InsideError::Fault(InsideFault::GateSize))
+                Err(InsideError::Fault(ModelFault::GateSize))
             }
         }
-        None => Err(InsideError::Fault(InsideFault::GateSize)),
+        None => Err(InsideError::Fault(ModelFault::GateSize)),
     }
 }
 
@@ -254,7 +255,7 @@ pub fn at_index(
     ensures { Tells result (ends.at_index wiring other role found index) }
 {
     if found.vector >= wiring.count() {
-        return Err(InsideError::Fault(InsideFault::GateSize));
+        return Err(InsideError::Fault(ModelFault::GateSize));
     }
     at_natural(wiring, other, role, found, natural(index))
 }
@@ -281,7 +282,7 @@ pub fn at_next(
         return Ok(Taken { wiring, id });
     }
     if found.is_own || index >= 65536 {
-        return Err(InsideError::Fault(InsideFault::GateSize));
+        return Err(InsideError::Fault(ModelFault::GateSize));
     }
     let mut wiring = wiring.note_next(other, role, id)?;
     wiring.extend(vector);

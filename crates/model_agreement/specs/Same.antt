@@ -7,7 +7,7 @@ use denote.Enum.Bare.{sameb}
 use Rattle.sim_values.specs.contracts.value.Dimension as dimension_kind
 use Rattle.sim_values.specs.declared.value.Value.{Value}
 use Rattle.sim_values.specs.declared.value.Value.TheVariants as value
-use Rattle.model_questions.specs.contracts.answer.ModelFault as fault_kind
+use Rattle.sim_values.specs.contracts.model_fault.ModelFault as fault_kind
 use Rattle.model_questions.specs.declared.answer.Answer.{Answer}
 use Rattle.model_questions.specs.declared.answer.Answer.TheVariants as answer
 use Rattle.model_questions.specs.declared.answer.Built.{Built}

@@ -6,7 +6,7 @@ use Rattle.param_following.specs.Edits.{answer_of}
 use Rattle.param_engine.specs.Tables.{Entries, IsKept, known}
 use Rattle.param_engine.proofs.Going.{kept_value}
 use Rattle.param_engine.proofs.Order.{closed}
-use Rattle.inside_parts.specs.declared.fault.InsideFault.{InsideFault}
+use Rattle.sim_values.specs.declared.model_fault.ModelFault.{ModelFault}
 use Rattle.inside_keys.specs.Asked.{KeyAsking}
 use Rattle.inside_keys.specs.Blamed.{blamed, placed, placed_by}
 use Rattle.inside_keys.specs.Keys.{key, same_key}
@@ -28,12 +28,12 @@ found_at s path site around stands e f g =
     ap (λ (a : Option Module). placed (value_at s) site a (asking_of s (key site what.Inside))) (g ∙ ap (λ (t : Whereabouts). t.around) f)
     ∙ ap (λ (m : Module). placed (value_at s) m (s.stands m).around (asking_of s (key m what.Inside))) e
 
-abbrev is_ok : Option (Result Found InsideFault) → Bool
+abbrev is_ok : Option (Result Found ModelFault) → Bool
 is_ok (Some (Ok v)) = true
 is_ok (Some (Err e)) = false
 is_ok None = false
 
-abbrev value_or : Found → Option (Result Found InsideFault) → Found
+abbrev value_or : Found → Option (Result Found ModelFault) → Found
 value_or d (Some (Ok v)) = v
 value_or d (Some (Err e)) = d
 value_or d None = d

@@ -10,7 +10,7 @@ use Rattle.ned_trees.specs.declared.declarations.TypeKind.{TypeKind}
 use Rattle.ned_trees.specs.declared.declarations.TypeKind.TheVariants.{Simple, Module, Network}
 use Rattle.ned_trees.specs.declared.declarations.TypeKind.TheVariants.{Channel, ModuleInterface}
 use Rattle.ned_trees.specs.declared.declarations.TypeKind.TheVariants.{ChannelInterface}
-use Rattle.inside_parts.specs.declared.fault.InsideFault.{InsideFault}
+use Rattle.sim_values.specs.declared.model_fault.ModelFault.{ModelFault}
 use Rattle.inside_parts.specs.declared.gates.TypeGate.{TypeGate}
 use Rattle.inside_parts.specs.declared.parts.Part.{Part}
 use Rattle.inside_parts.specs.Gates as type_gates
@@ -31,12 +31,11 @@ use Rattle.inside_keys.specs.Values.{asking_of, value_at}
 use Rattle.model_inside.specs.Built.{built_parts, name_of_part}
 use Rattle.model_inside.specs.Hops.{half_named, is_outwards, next_in}
 use Rattle.model_inside.specs.Sized.{direction_of, finished_size}
-use Rattle.model_inside.specs.Told.{told_as}
 use Rattle.model_inside.specs.declared.hops.Seen.TheVariants.{FromOutside, FromInside}
 use Rattle.model_inside.specs.declared.hops.Way.{Way}
 use Rattle.model_questions.specs.declared.answer.Answer.{Answer}
 use Rattle.model_questions.specs.declared.answer.Answer.TheVariants as answer
-use Rattle.model_questions.specs.declared.answer.ModelFault.TheVariants.{Unconnected}
+use Rattle.sim_values.specs.declared.model_fault.ModelFault.TheVariants.{Unconnected}
 use Rattle.model_questions.specs.declared.answer.NextGate.{NextGate}
 use Rattle.model_answers.specs.Keyed.{module_at, type_of, typed, value_of}
 
@@ -54,15 +53,15 @@ connected_answer s path t i None = answer.Inside (built_parts s.types t.submodul
 connected_answer s path t i (Some n) = answer.Fault path Unconnected
 
 abbrev pub built_answer : ModuleRules → List ℕ → TypeDeclaration
-    → Result Found (List ℕ × InsideFault) → Answer
+    → Result Found (List ℕ × ModelFault) → Answer
 built_answer s path t (Ok (found.Inside i)) =
     connected_answer s path t i (unconnected t (settings.type_gates s) i)
 built_answer s path t (Ok (found.Value v)) = answer.Absent
 built_answer s path t (Ok (found.Carrier c)) = answer.Absent
-built_answer s path t (Err f) = answer.Fault f.0 (told_as f.1)
+built_answer s path t (Err f) = answer.Fault f.0 f.1
 
 -- the inside of the module of that path, or its first fault with the path that it is told with
-abbrev pub inside_found : ModuleRules → List ℕ → Result Found (List ℕ × InsideFault)
+abbrev pub inside_found : ModuleRules → List ℕ → Result Found (List ℕ × ModelFault)
 inside_found s path = placed (value_at s) (module_at path) (s.stands (module_at path)).around
     (asking_of s (key (module_at path) what.Inside))
 
@@ -88,13 +87,13 @@ pub record Seat : Type 0 where
   pub inside : Inside
   pub part : ℕ
 
-abbrev pub inside_in : Result Found InsideFault → Option Inside
+abbrev pub inside_in : Result Found ModelFault → Option Inside
 inside_in (Ok (found.Inside i)) = Some i
 inside_in (Ok (found.Value v)) = None
 inside_in (Ok (found.Carrier c)) = None
 inside_in (Err f) = None
 
-abbrev pub maybe_inside : Option (Result Found InsideFault) → Option Inside
+abbrev pub maybe_inside : Option (Result Found ModelFault) → Option Inside
 maybe_inside None = None
 maybe_inside (Some found) = inside_in found
 
@@ -125,13 +124,13 @@ seat_of s path = seat_by s (s.stands (module_at path)) (declarer s (module_at pa
 
 -- ---- gates
 
-abbrev pub size_in : Result Found InsideFault → Option ℕ
+abbrev pub size_in : Result Found ModelFault → Option ℕ
 size_in (Ok (found.Value v)) = result_ok (sized_by v)
 size_in (Ok (found.Carrier c)) = None
 size_in (Ok (found.Inside i)) = None
 size_in (Err f) = None
 
-abbrev pub maybe_size : Option (Result Found InsideFault) → Option ℕ
+abbrev pub maybe_size : Option (Result Found ModelFault) → Option ℕ
 maybe_size None = None
 maybe_size (Some found) = size_in found
 

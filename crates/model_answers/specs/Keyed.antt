@@ -7,7 +7,7 @@ use Rattle.ned_trees.specs.declared.declarations.SectionLine.{SectionLine}
 use Rattle.ned_trees.specs.declared.declarations.SectionLine.TheVariants as line
 use Rattle.ned_trees.specs.declared.declarations.TypeDeclaration.{TypeDeclaration}
 use Rattle.ned_types.specs.Flat.{or_else}
-use Rattle.inside_parts.specs.declared.fault.InsideFault.{InsideFault}
+use Rattle.sim_values.specs.declared.model_fault.ModelFault.{ModelFault}
 use Rattle.inside_parts.specs.declared.gates.TypeGate.{TypeGate}
 use Rattle.inside_parts.specs.declared.gates.TypeGates.{TypeGates}
 use Rattle.inside_parts.specs.Gates as type_gates
@@ -24,29 +24,28 @@ use Rattle.inside_keys.specs.Values.{value_at}
 use Rattle.module_api.specs.declared.call.Parameter.{Parameter}
 use Rattle.model_questions.specs.declared.answer.Answer.{Answer}
 use Rattle.model_questions.specs.declared.answer.Answer.TheVariants as answer
-use Rattle.model_questions.specs.declared.answer.ModelFault.{ModelFault}
+use Rattle.sim_values.specs.declared.model_fault.ModelFault.{ModelFault}
 use Rattle.model_questions.specs.declared.record.Record.{Record}
 use Rattle.model_questions.specs.Answers.{is_declared, with_values}
 use Rattle.model_questions.specs.Records.{Lineage, path_along, record_there}
-use Rattle.model_inside.specs.Told.{told_as}
 
 -- the module of that path: none was created while the model ran
 abbrev pub module_at : List ℕ → Module
 module_at path = record { created = 0; path = path }
 
 -- what something of the module of that path has as its value
-abbrev pub value_of : ModuleRules → List ℕ → What → Result Found InsideFault
+abbrev pub value_of : ModuleRules → List ℕ → What → Result Found ModelFault
 value_of s path w = value_at s (key (module_at path) w)
 
 -- ---- types
 
-abbrev pub number_in : Result Found InsideFault → Option ℕ
+abbrev pub number_in : Result Found ModelFault → Option ℕ
 number_in (Ok (found.Value v)) = result_ok (numbered_by v)
 number_in (Ok (found.Carrier c)) = None
 number_in (Ok (found.Inside i)) = None
 number_in (Err f) = None
 
-abbrev pub maybe_number : Option (Result Found InsideFault) → Option ℕ
+abbrev pub maybe_number : Option (Result Found ModelFault) → Option ℕ
 maybe_number None = None
 maybe_number (Some found) = number_in found
 
@@ -83,9 +82,9 @@ typed (Some t) answered = answered t
 
 -- ---- parameters
 
-abbrev pub value_answer : List ℕ → Result Found InsideFault → Answer
+abbrev pub value_answer : List ℕ → Result Found ModelFault → Answer
 value_answer path (Ok (found.Value v)) = answer.Value v
-value_answer path (Err f) = answer.Fault path (told_as f)
+value_answer path (Err f) = answer.Fault path f
 value_answer path (Ok _) = answer.Absent
 
 -- the value of a parameter of the module of that path, or its fault, which has the module's path
@@ -109,11 +108,11 @@ parameters_by s path t = with_values (param_answer s path t) (names_in (lines_of
 
 -- ---- the network
 
-abbrev pub fault_in : Result Found InsideFault → Option ModelFault
+abbrev pub fault_in : Result Found ModelFault → Option ModelFault
 fault_in (Ok v) = None
-fault_in (Err f) = Some (told_as f)
+fault_in (Err f) = Some f
 
-abbrev pub maybe_fault : Option (Result Found InsideFault) → Option ModelFault
+abbrev pub maybe_fault : Option (Result Found ModelFault) → Option ModelFault
 maybe_fault None = None
 maybe_fault (Some found) = fault_in found
 

@@ -4,7 +4,7 @@ use Rattle.std.specs.Prelude.{slice_get}
 use Rattle.std.specs.Borrow.{Bor}
 use Rattle.ned_trees.specs.declared.declarations.TypeDeclaration.{TypeDeclaration}
 use Rattle.param_engine.specs.Tables.{Entries, IsKept, said, value_at}
-use Rattle.inside_parts.specs.declared.fault.InsideFault.{InsideFault}
+use Rattle.sim_values.specs.declared.model_fault.ModelFault.{ModelFault}
 use Rattle.inside_keys.specs.declared.found.Found.{Found}
 use Rattle.inside_keys.specs.declared.key.Key.{Key}
 use Rattle.inside_keys.specs.Settings.{ModuleRules}
@@ -35,8 +35,8 @@ standing_at s own (Kept place) = value_at s.kept.now.entries place
 standing_at s own (Own place) = value_at own place
 
 -- what an answer says
-abbrev pub spotted : Sources → Entries Key Found → Result Spot InsideFault
-    → Option (Result Found InsideFault)
+abbrev pub spotted : Sources → Entries Key Found → Result Spot ModelFault
+    → Option (Result Found ModelFault)
 spotted s own (Ok spot) = said (standing_at s own spot)
 spotted s own (Err f) = Some (Err f)
 
@@ -50,12 +50,12 @@ abbrev pub IsNumbered : ModuleRules → Typed → Type 0
 IsNumbered s t = slice_get s.types t.number ≡ Some t.declared.now
 
 -- what was found, after the reference
-abbrev pub result_copied : Result (Bor Found) InsideFault → Result Found InsideFault
+abbrev pub result_copied : Result (Bor Found) ModelFault → Result Found ModelFault
 result_copied (Ok r) = Ok r.now
 result_copied (Err f) = Err f
 
-abbrev pub maybe_copied : Option (Result (Bor Found) InsideFault)
-    → Option (Result Found InsideFault)
+abbrev pub maybe_copied : Option (Result (Bor Found) ModelFault)
+    → Option (Result Found ModelFault)
 maybe_copied None = None
 maybe_copied (Some r) = Some (result_copied r)
 

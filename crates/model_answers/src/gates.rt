@@ -17,7 +17,7 @@ use crate::reading::{Sources, own_table, said, value_of};
 use crate::seats::{PartAt, declarer_of, inside_in, seat_of, seek, stands_of};
 use inside_keys::found::{Found, Inside};
 use inside_keys::key::{Key, What};
-use inside_parts::fault::{InsideError, InsideFault};
+use inside_parts::fault::InsideError;
 use inside_parts::gates::{TypeGate, TypeGates};
 use inside_run::scene::ModuleSource;
 use inside_walk::submodules::size;
@@ -29,6 +29,7 @@ use ned_trees::connections::Half;
 use ned_trees::declarations::TypeDeclaration;
 use param_engine::table::Table;
 use sim_values::NoMemory;
+use sim_values::model_fault::ModelFault;
 use sim_values::text::Text;
 use sim_values::value::Value;
 use sqlite_items::Items;
@@ -48,7 +49,7 @@ fn told_size(value: &Value) -> Result<Option<u32>, NoMemory>
 }
 
 /// The size that was found, if one was.
-fn size_in(found: Option<Result<&Found, InsideFault>>) -> Result<Option<u32>, NoMemory>
+fn size_in(found: Option<Result<&Found, ModelFault>>) -> Result<Option<u32>, NoMemory>
     ensures { IfOk result (λ size. size ≡ insides.maybe_size (maybe_copied found.entry)) }
 {
     match found {

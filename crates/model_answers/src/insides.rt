@@ -15,16 +15,15 @@ use crate::reading::{Sources, module_of, own_table};
 use inside_keys::found::{Found, Inside};
 use inside_keys::key::{Key, Module, What};
 use inside_keys::unconnected::unconnected;
-use inside_parts::fault::InsideFault;
 use inside_parts::parts::Part;
 use inside_run::placed::placed;
 use inside_run::scene::ModuleSource;
 use model_inside::built::{built_parts, name_of_part};
-use model_inside::told::told_as;
-use model_questions::answer::{Answer, ModelFault};
+use model_questions::answer::Answer;
 use ned_trees::declarations::{Submodule, TypeDeclaration, TypeKind};
 use param_engine::table::Table;
 use sim_values::NoMemory;
+use sim_values::model_fault::ModelFault;
 use sim_values::text::Text;
 use std::alloc::Global;
 
@@ -74,7 +73,7 @@ fn built_answer(
     from: Sources<'_>,
     path: &[u8],
     declared: &TypeDeclaration,
-    found: Result<Found, (Text, InsideFault)>,
+    found: Result<Found, (Text, ModelFault)>,
 ) -> Result<Answer, NoMemory>
     ensures { IfOk result (λ answer. answer
         ≡ insides.built_answer (settings_of from.entry) path.now declared.now found) }
@@ -82,7 +81,7 @@ fn built_answer(
     match found {
         Ok(Found::Inside(inside)) => connected_answer(alloc, from, path, declared, &inside),
         Ok(Found::Value(_)) | Ok(Found::Carrier(_)) => Ok(Answer::Absent),
-        Err((path, fault)) => Ok(Answer::Fault(path, told_as(fault))),
+        Err((path, fault)) => Ok(Answer::Fault(path, fault)),
     }
 }
 
@@ -93,7 +92,7 @@ fn inside_found(
     from: Sources<'_>,
     own: &mut Table<Key, Found>,
     path: &[u8],
-) -> Result<Result<Found, (Text, InsideFault)>, NoMemory>
+) -> Result<Result<Found, (Text, ModelFault)>, NoMemory>
     requires { IsKept (rules_of (settings_of from)) own.old.entries }
     ensures { IfOk result
         (λ found. found ≡ insides.inside_found (settings_of from.entry) path.now) }

@@ -17,17 +17,17 @@ use crate::reading::{Sources, own_table, said, value_of};
 use inside_keys::found::Found;
 use inside_keys::key::{Key, What};
 use inside_keys::sizes::misplaced;
-use inside_parts::fault::{InsideError, InsideFault};
+use inside_parts::fault::InsideError;
 use inside_parts::gates::{TypeGate, gates_of};
 use inside_run::scene::ModuleSource;
 use inside_walk::submodules::number;
-use model_inside::told::told_as;
-use model_questions::answer::{Answer, ModelFault};
+use model_questions::answer::Answer;
 use module_api::call::Parameter;
 use ned_trees::declarations::{SectionLine, TypeDeclaration};
 use ned_types::flat::declaration_named;
 use param_engine::table::Table;
 use sim_values::NoMemory;
+use sim_values::model_fault::ModelFault;
 use sim_values::text::Text;
 use sim_values::value::Value;
 use sqlite_items::Items;
@@ -47,7 +47,7 @@ fn told_number(value: &Value) -> Result<Option<usize>, NoMemory>
 }
 
 /// The number that was found, if one was.
-fn number_in(found: Option<Result<&Found, InsideFault>>) -> Result<Option<usize>, NoMemory>
+fn number_in(found: Option<Result<&Found, ModelFault>>) -> Result<Option<usize>, NoMemory>
     ensures { IfOk result (λ number. number ≡ keyed.maybe_number (maybe_copied found.entry)) }
 {
     match found {
@@ -103,7 +103,7 @@ pub fn type_of<'a>(
 fn answer_by(
     alloc: Global,
     path: &[u8],
-    found: Result<&Found, InsideFault>,
+    found: Result<&Found, ModelFault>,
 ) -> Result<Answer, NoMemory>
     ensures { IfOk result
         (λ answer. answer ≡ keyed.value_answer path.now (result_copied found.entry)) }
@@ -111,7 +111,7 @@ fn answer_by(
     match found {
         Ok(Found::Value(value)) => Ok(Answer::Value(value.copy(alloc)?)),
         Ok(Found::Carrier(_)) | Ok(Found::Inside(_)) => Ok(Answer::Absent),
-        Err(fault) => Ok(Answer::Fault(Text::from_bytes(alloc, path)?, told_as(fault))),
+        Err(fault) => Ok(Answer::Fault(Text::from_bytes(alloc, path)?, fault)),
     }
 }
 
@@ -271,11 +271,11 @@ pub fn parameters_by(
 // ---- the network
 
 /// The fault that was found.
-fn fault_in(found: Option<Result<&Found, InsideFault>>) -> Option<ModelFault>
+fn fault_in(found: Option<Result<&Found, ModelFault>>) -> Option<ModelFault>
     ensures { result ≡ keyed.maybe_fault (maybe_copied found.entry) }
 {
     match found {
-        Some(Err(fault)) => Some(told_as(fault)),
+        Some(Err(fault)) => Some(fault),
         Some(Ok(_)) | None => None,
     }
 }

@@ -11,11 +11,11 @@ ghost use Rattle.model_answers.specs.Reading.{IsRight};
 
 use inside_keys::found::Found;
 use inside_keys::key::{Key, Module, What};
-use inside_parts::fault::InsideFault;
 use inside_run::values;
 use model_settings::setting::ModelSetting;
 use param_engine::table::Table;
 use sim_values::NoMemory;
+use sim_values::model_fault::ModelFault;
 use sim_values::text::Text;
 use std::alloc::Global;
 
@@ -48,7 +48,7 @@ pub fn find(
     from: Sources<'_>,
     own: &mut Table<Key, Found>,
     key: Key,
-) -> Result<Result<Spot, InsideFault>, NoMemory>
+) -> Result<Result<Spot, ModelFault>, NoMemory>
     requires right { IsRight from }
     requires own { IsKept (rules_of (settings_of from)) own.old.entries }
     ensures value { IfOk result (λ found. spotted from.entry own.new.entries found
@@ -78,8 +78,8 @@ fn read<'a>(from: Sources<'a>, own: &'a Table<Key, Found>, spot: Spot) -> Option
 pub fn said<'a>(
     from: Sources<'a>,
     own: &'a Table<Key, Found>,
-    found: Result<Spot, InsideFault>,
-) -> Option<Result<&'a Found, InsideFault>>
+    found: Result<Spot, ModelFault>,
+) -> Option<Result<&'a Found, ModelFault>>
     ensures { maybe_copied result ≡ spotted from.entry own.now.entries found }
 {
     match found {
@@ -108,7 +108,7 @@ pub fn value_of(
     own: &mut Table<Key, Found>,
     path: &[u8],
     what: What,
-) -> Result<Result<Spot, InsideFault>, NoMemory>
+) -> Result<Result<Spot, ModelFault>, NoMemory>
     requires right { IsRight from }
     requires own { IsKept (rules_of (settings_of from)) own.old.entries }
     ensures value { IfOk result (λ found. spotted from.entry own.new.entries found

@@ -17,13 +17,14 @@ use crate::keyed::{Typed, type_of};
 use crate::reading::{Sources, Spot, module_of, said, value_of};
 use inside_keys::found::{Found, Inside};
 use inside_keys::key::{Key, Module, What};
-use inside_parts::fault::{InsideError, InsideFault};
+use inside_parts::fault::InsideError;
 use inside_parts::names::Names;
 use inside_run::scene::{ModuleSource, Stands};
 use inside_wiring::ends::part_named;
 use ned_trees::declarations::TypeDeclaration;
 use param_engine::table::Table;
 use sim_values::NoMemory;
+use sim_values::model_fault::ModelFault;
 use std::alloc::Global;
 
 /// A module among the parts of the module around it: the type of that module, its inside, and the
@@ -41,7 +42,7 @@ pub struct PartAt<'a> {
 pub struct Sought<'a> {
     pub stands: Stands,
     pub of_type: Option<Typed<'a>>,
-    pub inside: Result<Spot, InsideFault>,
+    pub inside: Result<Spot, ModelFault>,
 }
 
 /// Where the module of that path stands.
@@ -65,7 +66,7 @@ pub fn declarer_of(stands: &Stands) -> Option<&Module>
 }
 
 /// The inside that was found, if one was.
-pub fn inside_in<'a>(found: Option<Result<&'a Found, InsideFault>>) -> Option<&'a Inside>
+pub fn inside_in<'a>(found: Option<Result<&'a Found, ModelFault>>) -> Option<&'a Inside>
     ensures { option_copied result ≡ insides.maybe_inside (maybe_copied found.entry) }
 {
     match found {

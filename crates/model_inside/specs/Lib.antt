@@ -1,4 +1,3 @@
-pub mod Told
 pub mod Built
 pub mod Sized
 pub mod Hops

@@ -4,4 +4,3 @@
 pub mod built;
 pub mod hops;
 pub mod sized;
-pub mod told;

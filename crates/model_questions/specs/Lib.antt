@@ -3,4 +3,3 @@ pub mod Questions
 pub mod Gates
 pub mod Hops
 pub mod Answers
-pub mod Faults

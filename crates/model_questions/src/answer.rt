@@ -2,11 +2,11 @@
 
 ghost use Rattle.std.specs.Prelude.{◌≡◌, IfOk};
 ghost use Rattle.model_questions.specs.Answers.{is_beyond};
-ghost use Rattle.model_questions.specs.Faults.{model_fault_name};
 
 use model_injections::injection::{Due, Injection, InjectionTurn};
 use module_api::call::Gate;
 use sim_time::SimTime;
+use sim_values::model_fault::ModelFault;
 use sim_values::text::Text;
 use sim_values::value::Value;
 use sqlite_items::Items;
@@ -62,68 +62,6 @@ impl Question {
 pub struct AskedQuestion {
     pub event: u64,
     pub question: Question,
-}
-
-/// Why a model can't answer with a value, or a compound module can't be built.
-#[derive(Clone, Copy, PartialEq, Eq)]
-pub enum ModelFault {
-    /// A submodule's type isn't declared.
-    UnknownType,
-    /// The type that was chosen for a submodule doesn't keep the interface that it has to keep.
-    Interface,
-    /// A parameter has no value.
-    Unassigned,
-    /// A value rests on itself.
-    Circle,
-    /// A number of an expression is outside -2^63 to 2^63 - 1, or an amount to shift by is outside
-    /// 0 to 63.
-    Overflow,
-    /// A quotient in an expression is no whole number, something is divided by zero, or an exponent
-    /// is below zero.
-    Inexact,
-    /// A value is of another kind than its parameter, or than its operator wants, or the size of a
-    /// vector of submodules is negative.
-    Mismatch,
-    /// A gate's index is out of range, no gate is free, or the size of a gate vector is outside 0
-    /// to 65,536.
-    GateSize,
-    /// There is no such submodule or gate, its direction is another, or it is a vector where a
-    /// single gate is named, or the other way round.
-    NoGate,
-    /// A gate is used by two connections.
-    AlreadyConnected,
-    /// A gate that has to be connected isn't.
-    Unconnected,
-    /// The loops of a compound module make more than 1,000,000 turns.
-    TooManyTurns,
-    /// There would be more modules than may be.
-    TooManyModules,
-    /// Modules are nested too deep.
-    TooDeep,
-}
-
-impl ModelFault {
-    /// Its name, as answers have it.
-    pub fn name(self) -> &'static [u8]
-        ensures { result.now ≡ model_fault_name self }
-    {
-        match self {
-            ModelFault::UnknownType => b"UnknownType",
-            ModelFault::Interface => b"Interface",
-            ModelFault::Unassigned => b"Unassigned",
-            ModelFault::Circle => b"Circle",
-            ModelFault::Overflow => b"Overflow",
-            ModelFault::Inexact => b"Inexact",
-            ModelFault::Mismatch => b"Mismatch",
-            ModelFault::GateSize => b"GateSize",
-            ModelFault::NoGate => b"NoGate",
-            ModelFault::AlreadyConnected => b"AlreadyConnected",
-            ModelFault::Unconnected => b"Unconnected",
-            ModelFault::TooManyTurns => b"TooManyTurns",
-            ModelFault::TooManyModules => b"TooManyModules",
-            ModelFault::TooDeep => b"TooDeep",
-        }
-    }
 }
 
 /// A submodule that a compound module is built with.

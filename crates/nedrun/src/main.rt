@@ -15,7 +15,7 @@ ghost use Rattle.nedrun_client.specs.Stops.{IsLost, IsReason};
 ghost use Rattle.nedrun_script.specs.Typing.{AsksInOrder};
 ghost use Rattle.nedrun_script.specs.Faults.{ends_in_fault};
 ghost use Rattle.nedrun_script.specs.declared.dialogue.Ask.TheVariants as ask;
-ghost use Rattle.nedrun_exit.specs.declared.stops.ExitReason.{ExitReason as StopValue};
+ghost use Rattle.nedrun_exit.specs.declared.stops.ExitReason.{ExitReason};
 
 mod observed;
 mod refusals;
@@ -107,7 +107,7 @@ fn ended<R: Files + Input + Print + Eprint + AllocGlobal>(
     ensures over { IfOk served.entry (λ r. r.1 ≡ why.End
         → result ≡ end_of (words.now.strict && r.0.dialogue.has_fault)) }
     ensures stuck { IfOk served.entry (λ r. r.1 ≢ why.End
-        → (stop : StopValue) → r.0.stop ≡ Some stop → result ≡ Err stop) }
+        → (stop : ExitReason) → r.0.stop ≡ Some stop → result ≡ Err stop) }
     ensures refused { IfErr served.entry (λ fault. IsErrAnd result (IsStopOf fault)) }
 {
     match served {

@@ -8,7 +8,7 @@ ghost use Rattle.explain_types.specs.Names.{shown};
 ghost use Rattle.nedrun_script.specs.Asking.{left_in, HasAskedAll};
 ghost use Rattle.nedrun_script.specs.Faults.{Keeps, KnowsFault};
 ghost use Rattle.nedrun_script.specs.Typing.{AsksNext};
-ghost use Rattle.nedrun_exit.specs.declared.stops.ExitReason.{ExitReason as StopValue};
+ghost use Rattle.nedrun_exit.specs.declared.stops.ExitReason.{ExitReason};
 ghost use Rattle.nedrun_files.specs.Devices.{taken_by, unwritten};
 ghost use Rattle.nedrun_files.specs.Paths.{file_path};
 ghost use Rattle.nedrun_files.specs.Stops.{IsShortOf, IsShortOfRun, IsUnreadable, IsUnsaid};
@@ -87,7 +87,7 @@ impl<'a, R: Files + Input + Print + Eprint + AllocGlobal> User<'a, R> {
 
     /// Why the user couldn't go on.
     pub fn into_stop(self) -> ExitReason
-        ensures known { (stop : StopValue) → self.entry.stop ≡ Some stop → result ≡ stop }
+        ensures known { (stop : ExitReason) → self.entry.stop ≡ Some stop → result ≡ stop }
         ensures unknown { self.entry.stop ≡ None → IsUnsaid result }
     {
         let User {

@@ -16,7 +16,7 @@ use crate::scene::{DeclaredParameter, Given, ParameterSource, Section, Written};
 use ini_trees::entry::EntryValue;
 use param_engine::asker::Asker;
 use param_engine::turn::EngineStep;
-use param_eval::evaluation::{Evaluation, EvaluationStep as Stop};
+use param_eval::evaluation::{Evaluation, EvaluationStep};
 use param_eval::fault::ValueFault;
 use sim_values::NoMemory;
 use sim_values::value::Value;
@@ -85,7 +85,7 @@ fn first_given<'m, S: ParameterSource>(
 fn told<'m>(
     alloc: Global,
     going: &Going<'m>,
-    stop: Stop<'m>,
+    stop: EvaluationStep<'m>,
 ) -> Result<EngineStep<Key, Value, ValueFault>, NoMemory>
     ensures turn { IfOk result (λ turn. came_to (goes_on_from going.now) turn
         ≡ referring_to going.now.kind going.now.place
@@ -93,15 +93,15 @@ fn told<'m>(
     ensures asks { IfOk result (λ turn. asks turn ≤ evaluating.asks stop.entry) }
 {
     Ok(match stop {
-        Stop::Ask(name) => match meant(alloc, &going.place, name)? {
+        EvaluationStep::Ask(name) => match meant(alloc, &going.place, name)? {
             Some(key) => EngineStep::Ask(key),
             None => EngineStep::Fault(ValueFault::Unassigned),
         },
-        Stop::Done(value) => match of_kind(going.kind, value) {
+        EvaluationStep::Done(value) => match of_kind(going.kind, value) {
             Ok(value) => EngineStep::Done(value),
             Err(fault) => EngineStep::Fault(fault),
         },
-        Stop::Fault(fault) => EngineStep::Fault(fault),
+        EvaluationStep::Fault(fault) => EngineStep::Fault(fault),
     })
 }
 

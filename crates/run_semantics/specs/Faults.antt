@@ -1,6 +1,6 @@
 -- The names of a run's faults.
 use Rattle.std.specs.Prelude.{ℕ, List, codes}
-use Rattle.model_questions.specs.Faults.{model_fault_name}
+use Rattle.sim_values.specs.ModelFaults.{model_fault_name}
 use Rattle.run_semantics.specs.declared.outcome.RunFault.{RunFault}
 use Rattle.run_semantics.specs.declared.outcome.RunFault.TheVariants as fault
 

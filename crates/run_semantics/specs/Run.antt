@@ -13,8 +13,8 @@ use Rattle.model_questions.specs.Answers.{Answers, answer_of}
 use Rattle.model_questions.specs.declared.record.Origin.TheVariants as origin
 use Rattle.model_questions.specs.declared.record.Record.{Record}
 use Rattle.model_questions.specs.Records.{path_of, path_under, own_name}
-use Rattle.model_questions.specs.declared.answer.ModelFault.TheVariants.{TooManyModules}
-use Rattle.model_questions.specs.declared.answer.ModelFault.TheVariants.{UnknownType}
+use Rattle.sim_values.specs.declared.model_fault.ModelFault.TheVariants.{TooManyModules}
+use Rattle.sim_values.specs.declared.model_fault.ModelFault.TheVariants.{UnknownType}
 use Rattle.run_semantics.specs.declared.outcome.RunFault.TheVariants as fault
 use Rattle.run_semantics.specs.declared.outcome.Outcome.{Outcome}
 use Rattle.run_semantics.specs.declared.outcome.Outcome.TheVariants.{Ended, EventLimit}

@@ -6,7 +6,7 @@ ghost use Rattle.run_semantics.specs.Perform.{channel_fault};
 ghost use Rattle.run_semantics.specs.Run.{is_fault};
 
 use channels::travels::ChannelFault;
-use model_questions::answer::ModelFault;
+use sim_values::model_fault::ModelFault;
 use sim_values::text::Text;
 use std::alloc::{AllocError, Global};
 

@@ -1,8 +1,9 @@
-//! The small values that every layer shares: texts, values of parameters, units of time, and lack
-//! of memory.
+//! The small values that every layer shares: texts, values of parameters, units of time, faults
+//! of models, and lack of memory.
 #![tactic(auto)]
 
 pub mod dropping;
+pub mod model_fault;
 pub mod text;
 pub mod units;
 pub mod value;

@@ -3,7 +3,7 @@ use Rattle.std.proofs.lemmas.Int.{to_z-of_z}
 use mir.Syntax.{w64}
 use mir.Val.{of_z, to_z}
 use Rattle.sim_values.specs.declared.value.Value.TheVariants as value
-use Rattle.inside_parts.specs.declared.fault.InsideFault.{InsideFault}
+use Rattle.sim_values.specs.declared.model_fault.ModelFault.{ModelFault}
 use Rattle.inside_wiring.specs.Ends.{part_named}
 use Rattle.inside_keys.specs.Asked.{result_then}
 use Rattle.inside_keys.specs.Inside.{evaluated}
@@ -38,7 +38,7 @@ returns-in-Part-clause-leads c =
     subst (λ x. Leads c.args.ground.now c.part.result c.part.new.tasks x)
     (sym (
     ap (λ (w : Want). wanted c.args.ground.now w (value.Whole c.args.number) (scope_of c.args.tasks.now) c.args.state (continued c.args.ground.now c.args.tasks.now)) c.in-Part.is
-    ∙ ap (λ (f : Result ℕ InsideFault). result_then f (part_begun c.args.ground.now c.in-Part.connection.now c.in-Part.side (scope_of c.args.tasks.now) c.args.state (continued c.args.ground.now c.args.tasks.now)))
+    ∙ ap (λ (f : Result ℕ ModelFault). result_then f (part_begun c.args.ground.now c.in-Part.connection.now c.in-Part.side (scope_of c.args.tasks.now) c.args.state (continued c.args.ground.now c.args.tasks.now)))
     (ap (λ z. part_named c.args.ground.now.submodules.now c.args.state.parts c.in-Part.name.now (Some z)) (sym (to_z-of_z w64 c.args.number c.ranges.number)) ∙ c.in_ok-named-in-Part.ensures)
     ))
     c.part.ensures.leads

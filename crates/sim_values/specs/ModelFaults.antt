@@ -1,7 +1,7 @@
 -- The names of a model's faults.
 use Rattle.std.specs.Prelude.{ℕ, List, codes}
-use Rattle.model_questions.specs.declared.answer.ModelFault.{ModelFault}
-use Rattle.model_questions.specs.declared.answer.ModelFault.TheVariants as fault
+use Rattle.sim_values.specs.declared.model_fault.ModelFault.{ModelFault}
+use Rattle.sim_values.specs.declared.model_fault.ModelFault.TheVariants as fault
 
 -- the name of a fault
 abbrev pub model_fault_name : ModelFault → List ℕ
