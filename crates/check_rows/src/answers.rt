@@ -7,7 +7,9 @@ use crate::pattern_rows::tell_pattern;
 use crate::telling::Telling;
 use crate::travel_rows::tell_travel;
 use crate::{connection_rows, ini_rows, ned_rows, rows, time_rows, tree_rows, value_rows};
-use std::alloc::{AllocError, Global};
+use sim_values::NoMemory;
+use sim_values::text::Text;
+use std::alloc::Global;
 
 /// Tells what becomes of a row of several parts, by its first part and those after it.
 fn tell_parts(alloc: Global, told: &mut Telling, file: &str, first: &str, rest: &str) {
@@ -57,7 +59,7 @@ fn tell_row(alloc: Global, told: &mut Telling, file: &str, row: &str) {
 }
 
 /// What becomes of a row of a file.
-pub fn answer(alloc: Global, file: &str, row: &str) -> Result<String, AllocError> {
+pub fn answer(alloc: Global, file: &str, row: &str) -> Result<Text, NoMemory> {
     let mut told = Telling::new(alloc);
     tell_row(alloc, &mut told, file, row);
     told.end()

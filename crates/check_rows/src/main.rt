@@ -30,10 +30,12 @@ mod words;
 use answers::answer;
 use std::rt::{Env, Files};
 use std::{env, fs};
+use telling::Telling;
 
 /// Prints what becomes of a row of a file.
 fn tell_row<R: Print + AllocGlobal>(rt: &R, file: &str, row: &str) -> anyhow::Result<()> {
-    let word = answer(rt.alloc(), file, row)?;
+    let told = answer(rt.alloc(), file, row)?;
+    let word = std::str::from_utf8(told.as_bytes())?;
     println!(rt; "{word:<8}|{row}")?;
     Ok(())
 }
@@ -50,9 +52,11 @@ fn tell_rows<R: Print + AllocGlobal>(rt: &R, file: &str, text: &str) -> anyhow::
 /// Prints the rows of the file whose rows begin with a word that says what they are, and what
 /// becomes of each.
 fn tell_parts<R: Print + AllocGlobal>(rt: &R, file: &str, text: &str) -> anyhow::Result<()> {
-    let mut told = String::new(rt.alloc());
-    part_rows::tell_rows(rt.alloc(), &mut told, text)?;
-    print!(rt; "== {file}\n{told}")?;
+    let mut told = Telling::new(rt.alloc());
+    part_rows::tell_rows(rt.alloc(), &mut told, text);
+    let told = told.end()?;
+    let rows = std::str::from_utf8(told.as_bytes())?;
+    print!(rt; "== {file}\n{rows}")?;
     Ok(())
 }
 

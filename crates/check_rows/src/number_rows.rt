@@ -9,48 +9,48 @@ ghost use Rattle.check_rows.specs.Numbers.{asked_of};
 use crate::numbers::{Fault, Numbers, Rule};
 use crate::part_rows::{first_part, number};
 use crate::rules::add_all;
+use crate::telling::Telling;
 use param_engine::engine::{empty_table, value_of};
 use param_engine::table::Table;
 use sim_values::NoMemory;
-use std::alloc::{AllocError, Global};
-use std::fmt::Write;
+use std::alloc::Global;
 
 /// Tells the places of the keys that the one at a place asked for.
-fn tell_asked(
-    told: &mut String,
-    table: &Table<usize, u64>,
-    place: usize,
-) -> Result<(), AllocError> {
+fn tell_asked(told: &mut Telling, table: &Table<usize, u64>, place: usize) {
     for asked in table.asked(place).unwrap_or(&[]) {
-        write!(told, " <{asked}")?;
+        told.text(" <");
+        told.shown(asked);
     }
-    Ok(())
 }
 
 /// Tells what the table says of what was found: the number and the places that it was asked from,
 /// or the fault; how many keys the table has, and how many evaluations were begun.
-fn tell(
-    told: &mut String,
-    table: &Table<usize, u64>,
-    found: Result<usize, Fault>,
-) -> Result<(), AllocError> {
+fn tell(told: &mut Telling, table: &Table<usize, u64>, found: Result<usize, Fault>) {
     match found {
         Ok(place) => match table.value(place) {
             Some(number) => {
-                write!(told, " {number}")?;
-                tell_asked(told, table, place)?;
+                told.text(" ");
+                told.shown(number);
+                tell_asked(told, table, place);
             }
-            None => told.push_str(" nothing")?,
+            None => told.text(" nothing"),
         },
-        Err(fault) => write!(told, " {fault:?}")?,
+        Err(fault) => {
+            told.text(" ");
+            told.raw(&fault);
+        }
     }
-    write!(told, ", {} keys, {} begun;", table.len(), table.begun())
+    told.text(", ");
+    told.shown(&table.len());
+    told.text(" keys, ");
+    told.shown(&table.begun());
+    told.text(" begun;");
 }
 
 /// Asks for the number of a key.
 fn ask(
     alloc: Global,
-    told: &mut String,
+    told: &mut Telling,
     rules: &[Rule],
     table: &mut Table<usize, u64>,
     key: usize,
@@ -59,13 +59,14 @@ fn ask(
     ensures { IsKept (ruled nat_eq (asked_of rules.now) fault.Circle) table.new.entries }
 {
     let found = value_of(alloc, &Numbers { rules }, table, key)?;
-    Ok(tell(told, table, found)?)
+    tell(told, table, found);
+    Ok(())
 }
 
 /// Asks for the numbers of two keys, one after the other, by one table.
 fn ask_both(
     alloc: Global,
-    told: &mut String,
+    told: &mut Telling,
     rules: &[Rule],
     first: usize,
     second: usize,
@@ -79,8 +80,8 @@ fn ask_both(
 
 /// Tells what is answered to the two questions of a row: the rules, a word each, and after a `|`
 /// each two keys.
-pub fn tell_numbers(alloc: Global, told: &mut String, row: &str) -> Result<(), NoMemory> {
-    told.push_str(" ->")?;
+pub fn tell_numbers(alloc: Global, told: &mut Telling, row: &str) -> Result<(), NoMemory> {
+    told.text(" ->");
     let (words, keys) = first_part(row);
     let (first, second) = first_part(keys);
     let mut rules = Vec::new(alloc);

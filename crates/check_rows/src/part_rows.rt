@@ -2,6 +2,7 @@
 
 use crate::number_rows::tell_numbers;
 use crate::scene_rows::tell_scene;
+use crate::telling::Telling;
 use crate::text_rows::tell_text;
 use sim_values::NoMemory;
 use std::alloc::Global;
@@ -20,22 +21,26 @@ pub fn first_part(row: &str) -> (&str, &str) {
 }
 
 /// Tells what becomes of a row. One that begins with none of these words is a comment.
-fn tell_row(alloc: Global, told: &mut String, row: &str) -> Result<(), NoMemory> {
+fn tell_row(alloc: Global, told: &mut Telling, row: &str) -> Result<(), NoMemory> {
     let (word, rest) = first_part(row);
     match word {
         "numbers" => tell_numbers(alloc, told, rest),
         "scene" | "chain" => tell_scene(alloc, told, word, rest),
-        "text" | "cycle" | "lines" | "long_lines" => tell_text(alloc, told, word, rest),
+        "text" | "cycle" | "lines" | "long_lines" => {
+            tell_text(alloc, told, word, rest);
+            Ok(())
+        }
         _ => Ok(()),
     }
 }
 
 /// Tells each row of a text, and what becomes of it.
-pub fn tell_rows(alloc: Global, told: &mut String, text: &str) -> Result<(), NoMemory> {
+pub fn tell_rows(alloc: Global, told: &mut Telling, text: &str) {
     for row in text.lines() {
-        told.push_str(row)?;
-        tell_row(alloc, told, row)?;
-        told.push('\n')?;
+        told.text(row);
+        if let Err(error) = tell_row(alloc, told, row) {
+            told.fail(error.error());
+        }
+        told.text("\n");
     }
-    Ok(())
 }

@@ -6,7 +6,8 @@ ghost use Rattle.check_rows.specs.Scenes.{setting_of};
 
 use crate::part_rows::{first_part, number};
 use crate::scene::Rows;
-use crate::scene_rows::{Line, WHOLE, add, tell_lone, tell_value};
+use crate::scene_rows::{Line, WHOLE, add, tell_error, tell_fault, tell_lone, tell_value};
+use crate::telling::Telling;
 use ned_leaves::error::NedError;
 use param_engine::table::Table;
 use param_eval::fault::ValueFault;
@@ -16,7 +17,6 @@ use sim_values::NoMemory;
 use sim_values::text::Text;
 use sim_values::value::Value;
 use std::alloc::{AllocError, Global};
-use std::fmt::Write;
 
 /// Adds `int xN` of the module 2, which is given that.
 fn add_link(alloc: Global, scene: &mut Rows, number: usize, gives: &str) -> Result<(), NedError> {
@@ -57,25 +57,23 @@ fn add_chain(
 }
 
 /// Tells what the table says of what was found, and how many values it has.
-fn tell_found(
-    told: &mut String,
-    table: &Table<Key, Value>,
-    found: Result<usize, ValueFault>,
-) -> Result<(), AllocError> {
+fn tell_found(told: &mut Telling, table: &Table<Key, Value>, found: Result<usize, ValueFault>) {
     match found {
         Ok(place) => match table.value(place) {
-            Some(value) => tell_value(told, value)?,
-            None => told.push_str(" nothing")?,
+            Some(value) => tell_value(told, value),
+            None => told.text(" nothing"),
         },
-        Err(fault) => write!(told, " {fault}")?,
+        Err(fault) => tell_fault(told, &fault),
     }
-    write!(told, ", {} values;", table.len())
+    told.text(", ");
+    told.shown(&table.len());
+    told.text(" values;");
 }
 
 /// Asks the table for `xN`, and tells what it says.
 fn ask(
     alloc: Global,
-    told: &mut String,
+    told: &mut Telling,
     scene: &Rows,
     table: &mut Table<Key, Value>,
     number: usize,
@@ -86,19 +84,20 @@ fn ask(
     let name = format!(in alloc; "x{number}")?;
     let name = Text::from_str(alloc, name.as_str())?;
     let found = parameter_value(alloc, scene, table, Key { id: 2, name })?;
-    Ok(tell_found(told, table, found)?)
+    tell_found(told, table, found);
+    Ok(())
 }
 
 /// Tells the value of `x0` by a table of its own, and then those of `x0` and of the last one before
 /// the end by one table.
 fn tell_values(
     alloc: Global,
-    told: &mut String,
+    told: &mut Telling,
     scene: &Rows,
     length: usize,
 ) -> Result<(), NoMemory> {
     tell_lone(alloc, told, scene, "x0")?;
-    told.push_str(";")?;
+    told.text(";");
     let mut table = empty_table(alloc, scene);
     match ask(alloc, told, scene, &mut table, 0) {
         Ok(()) => ask(alloc, told, scene, &mut table, length.saturating_sub(1)),
@@ -110,7 +109,7 @@ fn tell_values(
 /// and what the last one is given.
 pub fn tell_chain(
     alloc: Global,
-    told: &mut String,
+    told: &mut Telling,
     scene: &mut Rows,
     row: &str,
 ) -> Result<(), NoMemory> {
@@ -119,6 +118,9 @@ pub fn tell_chain(
     let length = number(length);
     match add_chain(alloc, scene, length, how == "twice", last) {
         Ok(()) => tell_values(alloc, told, scene, length),
-        Err(error) => Ok(write!(told, " {error:?}")?),
+        Err(error) => {
+            tell_error(told, &error);
+            Ok(())
+        }
     }
 }

@@ -3,6 +3,7 @@
 use crate::part_rows::first_part;
 use crate::reference_rows::tell_chain;
 use crate::scene::{Row, Rows, Said, both};
+use crate::telling::Telling;
 use ini_trees::entry::EntryValue;
 use ned_expressions::parse::parse_expression;
 use ned_leaves::error::NedError;
@@ -14,8 +15,7 @@ use param_values::values::lone_value;
 use sim_values::NoMemory;
 use sim_values::text::Text;
 use sim_values::value::{Dimension, Value};
-use std::alloc::{AllocError, Global};
-use std::fmt::Write;
+use std::alloc::Global;
 
 /// A parameter, as a row describes it.
 #[derive(Clone, Copy)]
@@ -120,43 +120,67 @@ fn add_all(alloc: Global, scene: &mut Rows, row: &str) -> Result<(), NedError> {
 }
 
 /// Tells the number of a whole value or a quantity.
-pub fn tell_value(told: &mut String, value: &Value) -> Result<(), AllocError> {
+pub fn tell_value(told: &mut Telling, value: &Value) {
     match value {
-        Value::Whole(number) | Value::Quantity(_, number) => write!(told, " {number}"),
-        _ => told.push_str(" no number"),
+        Value::Whole(number) | Value::Quantity(_, number) => {
+            told.text(" ");
+            told.shown(number);
+        }
+        _ => told.text(" no number"),
     }
+}
+
+/// Tells why there is no value.
+pub fn tell_fault(told: &mut Telling, fault: &ValueFault) {
+    told.text(" ");
+    told.shown(fault);
+}
+
+/// Tells why a row's text means nothing.
+pub fn tell_error(told: &mut Telling, error: &NedError) {
+    told.text(" ");
+    told.raw(error);
 }
 
 /// Tells the value of a parameter of the module 2, by a table of its own.
 pub fn tell_lone(
     alloc: Global,
-    told: &mut String,
+    told: &mut Telling,
     scene: &Rows,
     name: &str,
 ) -> Result<(), NoMemory> {
     let name = Text::from_str(alloc, name)?;
     match lone_value(alloc, scene, Key { id: 2, name })? {
-        Ok(value) => Ok(tell_value(told, &value)?),
-        Err(fault) => Ok(write!(told, " {fault}")?),
+        Ok(value) => tell_value(told, &value),
+        Err(fault) => tell_fault(told, &fault),
     }
+    Ok(())
 }
 
 /// Adds the parameters that a row describes, and tells the value of `count`.
 fn tell_count(
     alloc: Global,
-    told: &mut String,
+    told: &mut Telling,
     scene: &mut Rows,
     row: &str,
 ) -> Result<(), NoMemory> {
     match add_all(alloc, scene, row) {
         Ok(()) => tell_lone(alloc, told, scene, "count"),
-        Err(error) => Ok(write!(told, " {error:?}")?),
+        Err(error) => {
+            tell_error(told, &error);
+            Ok(())
+        }
     }
 }
 
 /// Tells the values of parameters, as the row of a `chain` or of a `scene` gives them.
-pub fn tell_scene(alloc: Global, told: &mut String, word: &str, row: &str) -> Result<(), NoMemory> {
-    told.push_str(" ->")?;
+pub fn tell_scene(
+    alloc: Global,
+    told: &mut Telling,
+    word: &str,
+    row: &str,
+) -> Result<(), NoMemory> {
+    told.text(" ->");
     let mut scene = Rows::new(alloc);
     let done = match word {
         "chain" => tell_chain(alloc, told, &mut scene, row),

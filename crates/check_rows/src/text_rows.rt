@@ -2,13 +2,12 @@
 
 use crate::part_rows::{first_part, number};
 use crate::source::Drip;
+use crate::telling::Telling;
 use input_lines::line::NextLine;
 use input_lines::reader::LineReader;
 use input_texts::reader::NotedReader;
 use input_texts::reading::{ReadFault, read_text};
-use sim_values::NoMemory;
 use std::alloc::{AllocError, Global};
-use std::fmt::Write;
 use std::io::ErrorKind;
 
 /// Adds the bytes that a text says: `~` is LF, `^` is CR.
@@ -24,15 +23,14 @@ fn add_bytes(bytes: &mut Vec<u8>, text: &str) -> Result<(), AllocError> {
 }
 
 /// Tells bytes, as a row says them.
-fn tell_bytes(told: &mut String, bytes: &[u8]) -> Result<(), AllocError> {
+fn tell_bytes(told: &mut Telling, bytes: &[u8]) {
     for byte in bytes {
-        told.push(match *byte {
+        told.shown(&match *byte {
             b'\n' => '~',
             b'\r' => '^',
             other => other as char,
-        })?;
+        });
     }
-    Ok(())
 }
 
 /// Adds so many equal bytes.
@@ -53,34 +51,28 @@ fn add_cycle(bytes: &mut Vec<u8>, from: usize, to: usize) -> Result<(), AllocErr
 }
 
 /// Tells why nothing was read.
-fn tell_fault(told: &mut String, fault: &ReadFault) -> Result<(), AllocError> {
+fn tell_fault(told: &mut Telling, fault: &ReadFault) {
     match fault {
-        ReadFault::Failed(error) if error.kind() == ErrorKind::TimedOut => told.push_str(
-            " failed;",
-        ),
-        ReadFault::Failed(_) => told.push_str(" failed otherwise;"),
-        ReadFault::NoMemory(error) => Err(error.error()),
+        ReadFault::Failed(error) if error.kind() == ErrorKind::TimedOut => told.text(" failed;"),
+        ReadFault::Failed(_) => told.text(" failed otherwise;"),
+        ReadFault::NoMemory(error) => told.fail(error.error()),
     }
 }
 
 /// Tells how many bytes of a text were read, which are its first.
-fn tell_front(told: &mut String, read: &[u8], text: &[u8]) -> Result<(), AllocError> {
+fn tell_front(told: &mut Telling, read: &[u8], text: &[u8]) {
     if text.starts_with(read) {
-        write!(told, " {} bytes;", read.len())
+        told.text(" ");
+        told.shown(&read.len());
+        told.text(" bytes;");
     } else {
-        told.push_str(" other bytes;")
+        told.text(" other bytes;");
     }
 }
 
 /// Tells what is read of a text that comes in parts of that length, of a source that fails after so
 /// many bytes.
-fn tell_read(
-    alloc: Global,
-    told: &mut String,
-    text: &[u8],
-    step: usize,
-    until_failure: usize,
-) -> Result<(), AllocError> {
+fn tell_read(alloc: Global, told: &mut Telling, text: &[u8], step: usize, until_failure: usize) {
     let mut source = NotedReader::new(Drip {
         left: text,
         step,
@@ -94,50 +86,40 @@ fn tell_read(
 }
 
 /// Tells a line; of a long one how often it has its one byte.
-fn tell_line(told: &mut String, line: &[u8]) -> Result<(), AllocError> {
+fn tell_line(told: &mut Telling, line: &[u8]) {
+    told.text(" ");
     match line {
         [first, rest @ ..] if rest.len() > 100 && line.starts_with(rest) => {
-            write!(told, " {} times {};", line.len(), *first as char)
+            told.shown(&line.len());
+            told.text(" times ");
+            told.shown(&(*first as char));
         }
-        _ => {
-            told.push(' ')?;
-            tell_bytes(told, line)?;
-            told.push(';')
-        }
+        _ => tell_bytes(told, line),
     }
+    told.text(";");
 }
 
 /// Tells what was read.
-fn tell_next(told: &mut String, next: Result<NextLine, ReadFault>) -> Result<(), AllocError> {
+fn tell_next(told: &mut Telling, next: Result<NextLine, ReadFault>) {
     match next {
         Ok(NextLine::Line(line)) => tell_line(told, line.as_bytes()),
-        Ok(NextLine::TooLong) => told.push_str(" too long;"),
-        Ok(NextLine::End) => told.push_str(" end;"),
-        Ok(NextLine::Spent) => told.push_str(" spent;"),
+        Ok(NextLine::TooLong) => told.text(" too long;"),
+        Ok(NextLine::End) => told.text(" end;"),
+        Ok(NextLine::Spent) => told.text(" spent;"),
         Err(fault) => tell_fault(told, &fault),
     }
 }
 
 /// Tells what five calls read.
-fn tell_five(
-    told: &mut String,
-    lines: &mut LineReader<NotedReader<Drip<'_>>>,
-) -> Result<(), AllocError> {
+fn tell_five(told: &mut Telling, lines: &mut LineReader<NotedReader<Drip<'_>>>) {
     for _ in 0..5 {
-        tell_next(told, lines.next())?;
+        tell_next(told, lines.next());
     }
-    Ok(())
 }
 
 /// Tells the lines of a text that comes in parts of that length, of a source that fails once, after
 /// so many bytes.
-fn tell_lines(
-    alloc: Global,
-    told: &mut String,
-    text: &[u8],
-    step: usize,
-    until_failure: usize,
-) -> Result<(), AllocError> {
+fn tell_lines(alloc: Global, told: &mut Telling, text: &[u8], step: usize, until_failure: usize) {
     let source = Drip {
         left: text,
         step,
@@ -145,7 +127,7 @@ fn tell_lines(
         fails_once: true,
     };
     let mut lines = LineReader::new(alloc, NotedReader::new(source));
-    tell_five(told, &mut lines)
+    tell_five(told, &mut lines);
 }
 
 /// Adds a line of 65,536 bytes, one of 65,537, and one after them.
@@ -179,18 +161,18 @@ fn until(word: &str) -> usize {
 /// Tells what is read of a text, or of the lines of one: the most bytes that a call gives, after
 /// how many the source fails, and the text. That of a `cycle` is a part of a long one, from a place
 /// to another, and that of `long_lines` is always the same.
-pub fn tell_text(alloc: Global, told: &mut String, word: &str, row: &str) -> Result<(), NoMemory> {
-    told.push_str(" ->")?;
+pub fn tell_text(alloc: Global, told: &mut Telling, word: &str, row: &str) {
+    told.text(" ->");
     let (step, rest) = first_part(row);
     let (until_failure, text) = first_part(rest);
     let (step, until_failure) = (number(step), until(until_failure));
     let mut bytes = Vec::new(alloc);
-    let done = match add_text(&mut bytes, word, text) {
-        Ok(()) => match word {
-            "text" | "cycle" => tell_read(alloc, told, bytes.as_slice(), step, until_failure),
-            _ => tell_lines(alloc, told, bytes.as_slice(), step, until_failure),
-        },
-        Err(error) => Err(error),
-    };
-    Ok(done?)
+    if let Err(error) = add_text(&mut bytes, word, text) {
+        told.fail(error);
+        return;
+    }
+    match word {
+        "text" | "cycle" => tell_read(alloc, told, bytes.as_slice(), step, until_failure),
+        _ => tell_lines(alloc, told, bytes.as_slice(), step, until_failure),
+    }
 }

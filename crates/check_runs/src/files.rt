@@ -10,6 +10,7 @@ use result_lines::writer::{Device, Out, WriteFault};
 use run_semantics::signals::SignalName;
 use run_semantics::traces::Emission;
 use sim_time::SimTime;
+use sim_values::NoMemory;
 use sim_values::text::Text;
 use sqlite_items::Items;
 use std::alloc::{AllocError, Global};
@@ -188,7 +189,7 @@ fn lines_of(alloc: Global, name: &Text) -> Result<Vec<IniLine>, AllocError> {
 }
 
 /// The header of a run of a configuration with four lines.
-fn header(alloc: Global) -> Result<Text, AllocError> {
+fn header(alloc: Global) -> Result<Text, NoMemory> {
     let general = Text::from_str(alloc, "General")?;
     let lines = lines_of(alloc, &general)?;
     let chain = std::slice::from_ref(&general);

@@ -13,12 +13,12 @@ use desk_answers::answers::refusal_text;
 use desk_client::clients::{Client, Gone, Page, Pages, ServeEnd};
 use desk_client::told::AnswerContent;
 use desk_server::serving::serve;
-use input_texts::noted::GhostBytes;
 use model_reading::begin::BeginFault;
 use result_lines::buffer::Buffer;
 use sim_values::NoMemory;
 use sim_values::text::Text;
 use std::alloc::Global;
+use text_writer::noted::GhostBytes;
 use transcripts::asked::AskedLine;
 use transcripts::transcript::Transcript;
 

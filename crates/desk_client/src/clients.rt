@@ -11,10 +11,10 @@ ghost use Rattle.transcripts.specs.declared.asked.AskedLine.{AskedLine as AskedV
 ghost use Rattle.transcripts.specs.Heard.{Heard, Answer, Files, OutOfMemory, Read};
 
 use crate::told::AnswerContent;
-use input_texts::noted::GhostBytes;
 use result_lines::writer::Out;
 use sim_values::NoMemory;
 use sim_values::text::Text;
+use text_writer::noted::GhostBytes;
 use transcripts::asked::AskedLine;
 
 /// A client can't ask or hear any more. It knows why.

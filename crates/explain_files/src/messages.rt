@@ -134,11 +134,7 @@ fn tell_standing(told: &mut Explanation, path: &[u8], standing: PathEnd) {
 
 /// What is said of a message to that path in a model of these files: that it is discarded, where no
 /// simple module stands there. Empty where one does, or the files make no model.
-pub fn discarded_line(
-    alloc: Global,
-    sources: &Sources<'_>,
-    path: &[u8],
-) -> Result<String, NoMemory> {
+pub fn discarded_line(alloc: Global, sources: &Sources<'_>, path: &[u8]) -> Result<Text, NoMemory> {
     let mut told = Explanation::new(alloc);
     let config = sources.config.as_bytes();
     if let Ok(model) = model_of(alloc, sources.texts, sources.ini, config) {

@@ -13,7 +13,7 @@ use model_data::faults::ConfigFault;
 use model_reading::begin::{BeginFault, MAX_FILES, model_of};
 use ned_inheritance::table::{BuildError, flat_types};
 use sim_values::NoMemory;
-use sim_values::text::MAX_LENGTH;
+use sim_values::text::{MAX_LENGTH, Text};
 use std::alloc::Global;
 
 /// Says which text is too long.
@@ -84,16 +84,16 @@ pub fn refusal_line(
     alloc: Global,
     fault: BeginFault,
     sources: &Sources<'_>,
-) -> Result<String, NoMemory> {
+) -> Result<Text, NoMemory> {
     let mut told = Explanation::new(alloc);
     tell_refusal(&mut told, fault, sources);
     told.said()
 }
 
 /// Why files make no model, and what would be right: a diagnostic. Empty where they make one.
-pub fn why_refused(alloc: Global, sources: &Sources<'_>) -> Result<String, NoMemory> {
+pub fn why_refused(alloc: Global, sources: &Sources<'_>) -> Result<Text, NoMemory> {
     match model_of(alloc, sources.texts, sources.ini, sources.config.as_bytes()) {
-        Ok(_) => Ok(String::new(alloc)),
+        Ok(_) => Ok(Text::empty(alloc)),
         Err(BeginFault::NoMemory(error)) => Err(error),
         Err(fault) => refusal_line(alloc, fault, sources),
     }
@@ -106,7 +106,7 @@ pub fn bad_line(
     number: usize,
     line: &[u8],
     reason: Reason,
-) -> Result<String, NoMemory> {
+) -> Result<Text, NoMemory> {
     let mut told = Explanation::new(alloc);
     told.say_place(path, number);
     told.say(": ");
@@ -116,7 +116,7 @@ pub fn bad_line(
 
 /// Why a text is neither a connection nor a group of connections, and what would be right: a
 /// diagnostic.
-pub fn bad_connection(alloc: Global, text: &[u8]) -> Result<String, NoMemory> {
+pub fn bad_connection(alloc: Global, text: &[u8]) -> Result<Text, NoMemory> {
     let mut told = Explanation::new(alloc);
     told.say("the connection: ");
     tell_connection(&mut told, text);

@@ -29,6 +29,7 @@ use ned_types::flat::{class_of, last_value};
 use run_semantics::outcome::RunFault;
 use sim_values::NoMemory;
 use sim_values::model_fault::ModelFault;
+use sim_values::text::Text;
 use std::alloc::Global;
 
 /// A module of a model that answers: its path, its type, and its declaration, which the network has
@@ -605,7 +606,7 @@ pub fn fault_line(
     fault: &RunFault,
     sources: &Sources<'_>,
     classes: &[&[u8]],
-) -> Result<String, NoMemory> {
+) -> Result<Text, NoMemory> {
     let mut told = Explanation::new(alloc);
     let path = shown(path);
     tell_run(&mut told, sources, ToldFault { path, fault }, classes);

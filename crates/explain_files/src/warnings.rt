@@ -715,7 +715,7 @@ fn tell_text(told: &mut Explanation, sources: &Sources<'_>, text: &IniText) {
 /// first. Where the network can't be built, or has more than 10,000 modules or very many parameters
 /// and lines, those whose last name no type declares, or each only with a fixed value. The files
 /// make a model.
-pub fn warning_lines(alloc: Global, sources: &Sources<'_>) -> Result<String, NoMemory> {
+pub fn warning_lines(alloc: Global, sources: &Sources<'_>) -> Result<Text, NoMemory> {
     let mut told = Explanation::new(alloc);
     match lines_of(alloc, sources) {
         Ok(text) => tell_text(&mut told, sources, &text),

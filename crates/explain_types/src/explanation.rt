@@ -2,8 +2,9 @@
 
 use crate::names::{MOST_SHOWN, front_shown, is_near, shown};
 use sim_values::NoMemory;
+use sim_values::text::Text;
 use std::alloc::Global;
-use std::fmt::Write;
+use text_writer::writer::TextWriter;
 
 /// How many names of a list are said, at most.
 const MOST_LISTED: usize = 100;
@@ -12,18 +13,16 @@ const MOST_LISTED: usize = 100;
 /// `said` answers that, and nothing of the text.
 #[derive(Drop)]
 pub struct Explanation {
-    text: String,
+    text: TextWriter,
     alloc: Global,
-    refused: Option<NoMemory>,
 }
 
 impl Explanation {
     /// Nothing yet.
     pub fn new(alloc: Global) -> Explanation {
         Explanation {
-            text: String::new(alloc),
+            text: TextWriter::new(alloc),
             alloc,
-            refused: None,
         }
     }
 
@@ -34,21 +33,17 @@ impl Explanation {
 
     /// Notes that memory ran out.
     pub fn refuse(&mut self, error: NoMemory) {
-        self.refused = Some(error);
+        self.text.refuse(error);
     }
 
     /// Says a text.
     pub fn say(&mut self, text: &str) {
-        if let Err(error) = self.text.push_str(text) {
-            self.refuse(NoMemory::from(error));
-        }
+        self.text.push(text.as_bytes());
     }
 
     /// Says a number.
     pub fn say_number(&mut self, number: usize) {
-        if let Err(error) = write!(self.text, "{number}") {
-            self.refuse(NoMemory::from(error));
-        }
+        self.text.push_number(number as u64);
     }
 
     /// Says a name, of a long one only the front.
@@ -113,12 +108,9 @@ impl Explanation {
         }
     }
 
-    /// All that was said.
-    pub fn said(self) -> Result<String, NoMemory> {
-        let Explanation { text, refused, .. } = self;
-        match refused {
-            None => Ok(text),
-            Some(error) => Err(error),
-        }
+    /// All that was said; or that memory ran out meanwhile.
+    pub fn said(self) -> Result<Text, NoMemory> {
+        let Explanation { text, alloc: _ } = self;
+        text.finish()
     }
 }

@@ -12,12 +12,12 @@ ghost use Rattle.input_texts.specs.Whole.{Explains};
 
 use crate::line::{LONGEST, MOST_LINES, NextLine};
 use crate::part::{first_feed, read_part};
-use input_texts::noted::GhostBytes;
 use input_texts::reading::ReadFault;
 use input_texts::source::Source;
 use sim_values::text::Text;
 use std::alloc::Global;
 use std::marker::Model;
+use text_writer::noted::GhostBytes;
 
 /// What was read and not handed out yet.
 #[derive(Drop)]

@@ -2,7 +2,6 @@
 #![tactic(auto)]
 
 pub mod folder;
-pub mod noted;
 pub mod reader;
 pub mod reading;
 pub mod source;

@@ -2,10 +2,10 @@
 
 ghost use Rattle.std.specs.Prelude.{◌≡◌, []};
 
-use crate::noted::GhostBytes;
 use crate::source::Source;
 use std::io;
 use std::io::Read;
+use text_writer::noted::GhostBytes;
 
 /// A reader, as an open file, with what it gave.
 #[derive(Drop)]

@@ -7,6 +7,7 @@ use explain_files::refusals::refusal_line;
 use explain_types::sources::Sources;
 use model_reading::begin::BeginFault;
 use nedrun_exit::stops::ExitReason;
+use sim_values::text::Text;
 use std::alloc::Global;
 
 /// What ends the program where texts make no model.
@@ -20,7 +21,7 @@ pub fn refused(alloc: Global, fault: BeginFault, sources: &Sources<'_>) -> ExitR
 }
 
 /// What ends the program at a refusal that has this diagnostic.
-fn named(alloc: Global, fault: BeginFault, line: String) -> ExitReason
+fn named(alloc: Global, fault: BeginFault, line: Text) -> ExitReason
     ensures { IsNamed fault result }
 {
     match refusal_text(alloc, fault) {
@@ -30,9 +31,9 @@ fn named(alloc: Global, fault: BeginFault, line: String) -> ExitReason
 }
 
 /// The diagnostic of a refusal; an empty one where memory runs out.
-fn line_for(alloc: Global, fault: BeginFault, sources: &Sources<'_>) -> String {
+fn line_for(alloc: Global, fault: BeginFault, sources: &Sources<'_>) -> Text {
     match refusal_line(alloc, fault, sources) {
         Ok(line) => line,
-        Err(_) => String::new(alloc),
+        Err(_) => Text::empty(alloc),
     }
 }

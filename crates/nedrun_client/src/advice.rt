@@ -25,7 +25,7 @@ pub fn warn<R: Eprint + AllocGlobal>(rt: &R, sources: &Sources<'_>) -> Result<()
     ensures { IfErr result IsUnadvised }
 {
     let lines = warning_lines(rt.alloc(), sources)?;
-    advise(rt, lines.as_str())
+    advise(rt, shown(lines.as_bytes()))
 }
 
 /// Says more after an answer that says this, a refusal or a fault, where there is more to say.
@@ -38,7 +38,7 @@ pub fn explain<R: Eprint + AllocGlobal>(
     ensures { IfErr result IsUnadvised }
 {
     let line = notes.hears(rt.alloc(), sources, told, CLASSES.as_slice())?;
-    advise(rt, line.as_str())
+    advise(rt, shown(line.as_bytes()))
 }
 
 /// Whether it is told that a limit of events ended a run.

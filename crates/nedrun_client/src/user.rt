@@ -24,7 +24,6 @@ use desk_client::clients::{Client, Gone, Page, Pages};
 use desk_client::told::AnswerContent;
 use explain_types::names::shown;
 use explain_types::sources::Sources;
-use input_texts::noted::GhostBytes;
 use nedrun_exit::stops::ExitReason;
 use nedrun_files::devices::FileOut;
 use nedrun_files::files::read_text;
@@ -36,6 +35,7 @@ use session_texts::own::Own;
 use sim_values::NoMemory;
 use sim_values::text::Text;
 use std::rt::Files;
+use text_writer::noted::GhostBytes;
 use transcripts::asked::AskedLine;
 
 /// Asks for the run of the words, then to write its files, and then what the lines of standard
@@ -240,7 +240,7 @@ impl<'a, R: Files + Input + Print + Eprint + AllocGlobal> User<'a, R> {
             return Ok(());
         }
         let listing = self.notes.listing(self.rt.alloc(), self.sources, &own)?;
-        output::advise(self.rt, listing.lines.as_str())?;
+        output::advise(self.rt, shown(listing.lines.as_bytes()))?;
         output::say(self.rt, listing.answer.as_bytes())?;
         Ok(())
     }

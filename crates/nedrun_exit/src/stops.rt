@@ -18,7 +18,7 @@ pub enum ExitReason {
     /// The words aren't as they should be, or ask for help.
     Words(clap::Error),
     /// The texts make no model: the text of the refusal, and the diagnostic.
-    Refused(Text, String),
+    Refused(Text, Text),
     /// A file, a folder or a stream failed: which, and what failed.
     Failed(String, io::Error),
     /// As many command lines were read as are read at most.

@@ -10,13 +10,13 @@ ghost use Rattle.nedrun_files.specs.Paths.{part_path};
 ghost use Rattle.result_lines.specs.Taken.{untouched};
 ghost use Rattle.nedrun_files.specs.Stops.{IsShortOf, IsUnwritable};
 
-use input_texts::noted::GhostBytes;
 use nedrun_exit::stops::ExitReason;
 use result_lines::writer::{Out, WriteFault};
 use std::fs::File;
 use std::io::{BufWriter, ErrorKind, Write};
 use std::rt::Files;
 use std::{fs, io};
+use text_writer::noted::GhostBytes;
 
 /// A file of the system that is made at the first write.
 #[derive(Drop)]

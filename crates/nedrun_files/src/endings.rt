@@ -31,7 +31,7 @@ pub fn status<R: Print + Eprint>(rt: &R, ended: Result<(), ExitReason>) -> ExitC
 fn tell<R: Print + Eprint>(rt: &R, stop: &ExitReason) -> io::Result<()> {
     match stop {
         ExitReason::Words(error) => error.print(rt),
-        ExitReason::Refused(text, line) => say_refused(rt, text, line.as_str()),
+        ExitReason::Refused(text, line) => say_refused(rt, text, line),
         ExitReason::Failed(line, error) => eprintln!(rt; "nedrun: {error}\n{line}"),
         ExitReason::Spent => eprintln!(rt;
             "nedrun: the limit of {MOST_LINES} command lines is reached: start the program again"
@@ -42,6 +42,7 @@ fn tell<R: Print + Eprint>(rt: &R, stop: &ExitReason) -> io::Result<()> {
 }
 
 /// Says a refusal on standard error, and after it the diagnostic.
-fn say_refused<R: Eprint>(rt: &R, text: &Text, line: &str) -> io::Result<()> {
+fn say_refused<R: Eprint>(rt: &R, text: &Text, line: &Text) -> io::Result<()> {
+    let line = shown(line.as_bytes());
     eprintln!(rt; "nedrun: {}\n{line}", shown(text.as_bytes()))
 }

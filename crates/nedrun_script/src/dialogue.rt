@@ -13,7 +13,6 @@ ghost use Rattle.transcripts.specs.Heard as heards;
 use desk_client::told::AnswerContent;
 use input_lines::line::NextLine;
 use input_lines::reader::LineReader;
-use input_texts::noted::GhostBytes;
 use input_texts::reader::NotedReader;
 use input_texts::reading::ReadFault;
 use itoa::Buffer as Digits;
@@ -24,6 +23,7 @@ use sim_values::text::Text;
 use std::alloc::Global;
 use std::io;
 use std::io::Read;
+use text_writer::noted::GhostBytes;
 use transcripts::asked::AskedLine;
 use transcripts::transcript::Transcript;
 

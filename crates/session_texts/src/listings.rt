@@ -6,6 +6,7 @@ use crate::texts::SessionTexts;
 use explain_types::explanation::Explanation;
 use ini_trees::lines::LineMeaning;
 use sim_values::NoMemory;
+use sim_values::text::Text;
 use std::alloc::Global;
 
 /// The commands, a line for each.
@@ -33,14 +34,14 @@ quit                                     ends the session
 /// What a command lists: the lines, and the answer.
 #[derive(Drop)]
 pub struct Listing {
-    pub lines: String,
-    pub answer: String,
+    pub lines: Text,
+    pub answer: Text,
 }
 
 /// How many lines a text has, of which each ends with a line feed.
-fn count_of_lines(text: &str) -> usize {
+fn count_of_lines(text: &[u8]) -> usize {
     let mut count = 0usize;
-    for byte in text.as_bytes() {
+    for byte in text {
         if *byte == b'\n' {
             count = count.saturating_add(1);
         }
@@ -54,7 +55,7 @@ fn listed(told: Explanation) -> Result<Listing, NoMemory> {
     let lines = told.said()?;
     let mut answer = Explanation::new(alloc);
     answer.say("listed ");
-    answer.say_number(count_of_lines(lines.as_str()));
+    answer.say_number(count_of_lines(lines.as_bytes()));
     Ok(Listing {
         lines,
         answer: answer.said()?,
@@ -92,7 +93,7 @@ fn no_lines(alloc: Global, texts: &SessionTexts) -> Result<Listing, NoMemory> {
     tell_no_line(&mut told, texts);
     Ok(Listing {
         lines: told.said()?,
-        answer: String::from_str(alloc, "refused NoSuchLine")?,
+        answer: Text::from_str(alloc, "refused NoSuchLine")?,
     })
 }
 

@@ -10,6 +10,7 @@ use desk_client::told::AnswerContent;
 use desk_commands::commands::{Command, command_of};
 use explain_files::messages::discarded_line;
 use explain_files::runs::fault_line;
+use explain_types::explanation::Explanation;
 use explain_types::sources::Sources;
 use model_edits::edit::{Edit, Refusal};
 use run_semantics::outcome::{Outcome, RunFault};
@@ -249,7 +250,7 @@ impl Notes {
         alloc: Global,
         sources: &Sources<'_>,
         refusal: Refusal,
-    ) -> Result<String, NoMemory> {
+    ) -> Result<Text, NoMemory> {
         let command = self.command(alloc)?;
         let read = self.read.take();
         let texts = self.texts(alloc, sources)?;
@@ -258,7 +259,7 @@ impl Notes {
     }
 
     /// Why what was asked last is refused, which is no edit.
-    fn why_no_command(&self, alloc: Global) -> Result<String, NoMemory> {
+    fn why_no_command(&self, alloc: Global) -> Result<Text, NoMemory> {
         let command = self.command(alloc)?;
         let line = bytes_in(&self.asked).unwrap_or(b"".as_slice());
         why_refused_command(alloc, &command, line)
@@ -272,7 +273,7 @@ impl Notes {
         path: &[u8],
         fault: &RunFault,
         classes: &[&[u8]],
-    ) -> Result<String, NoMemory> {
+    ) -> Result<Text, NoMemory> {
         match &self.texts {
             Some(texts) => {
                 let ini = bytes_of(alloc, &texts.ini)?;
@@ -296,12 +297,12 @@ impl Notes {
 
     /// That the message which was put in is discarded, where it is. It is said once for each path,
     /// until the texts change.
-    fn why_discarded(&mut self, alloc: Global, sources: &Sources<'_>) -> Result<String, NoMemory> {
+    fn why_discarded(&mut self, alloc: Global, sources: &Sources<'_>) -> Result<Text, NoMemory> {
         let Command::Edit(Edit::Inject(path, _, _, _, _)) = self.command(alloc)? else {
-            return Ok(String::new(alloc));
+            return Ok(Text::empty(alloc));
         };
         if self.is_looked_at(&path) {
-            return Ok(String::new(alloc));
+            return Ok(Text::empty(alloc));
         }
         let line = match &self.texts {
             Some(texts) => {
@@ -344,9 +345,12 @@ impl Notes {
             Undo::Not(why) => *why,
             Undo::Command(_) | Undo::File(_, _) => "memory ran out",
         };
+        let mut told = Explanation::new(alloc);
+        told.say("no edit is taken back: ");
+        told.say(why);
         Ok(Listing {
-            lines: format!(in alloc; "no edit is taken back: {why}")?,
-            answer: String::from_str(alloc, "refused NoUndo")?,
+            lines: told.said()?,
+            answer: Text::from_str(alloc, "refused NoUndo")?,
         })
     }
 
@@ -380,7 +384,7 @@ impl Notes {
         sources: &Sources<'_>,
         told: Option<&AnswerContent>,
         classes: &[&[u8]],
-    ) -> Result<String, NoMemory> {
+    ) -> Result<Text, NoMemory> {
         match told {
             Some(AnswerContent::Edited(injection)) => {
                 self.follow(alloc, sources, *injection)?;
@@ -393,7 +397,7 @@ impl Notes {
             Some(AnswerContent::NoCommand)
             | Some(AnswerContent::TooLarge)
             | Some(AnswerContent::NotDone) => { self.why_no_command(alloc) }
-            _ => Ok(String::new(alloc)),
+            _ => Ok(Text::empty(alloc)),
         }
     }
 }

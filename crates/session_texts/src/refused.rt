@@ -13,11 +13,11 @@ use ini_trees::lines::IniText;
 use model_edits::edit::{Edit, MAX_INJECTIONS, MAX_PAYLOAD, Refusal};
 use ned_inheritance::table::TypeFault;
 use sim_values::NoMemory;
-use sim_values::text::MAX_LENGTH;
+use sim_values::text::{MAX_LENGTH, Text};
 use std::alloc::Global;
 
 /// Why there is no model of the texts with that ini text in place of their own.
-fn why_not_with(alloc: Global, texts: &SessionTexts, ini: &IniText) -> Result<String, NoMemory> {
+fn why_not_with(alloc: Global, texts: &SessionTexts, ini: &IniText) -> Result<Text, NoMemory> {
     let bytes = bytes_of(alloc, ini)?;
     let sources = texts.sources(bytes.as_slice());
     why_refused(alloc, &sources)
@@ -45,7 +45,7 @@ fn why_no_ini(
     texts: &SessionTexts,
     edit: &Edit,
     error: EditError,
-) -> Result<String, NoMemory> {
+) -> Result<Text, NoMemory> {
     let mut told = Explanation::new(alloc);
     match error {
         EditError::IniSyntax(line, reason) => {
@@ -60,7 +60,7 @@ fn why_no_ini(
 }
 
 /// Why the configuration of that name can't be selected.
-fn why_not_selected(alloc: Global, texts: &SessionTexts, name: &[u8]) -> Result<String, NoMemory> {
+fn why_not_selected(alloc: Global, texts: &SessionTexts, name: &[u8]) -> Result<Text, NoMemory> {
     let bytes = bytes_of(alloc, &texts.ini)?;
     let sources = Sources {
         config: shown(name),
@@ -130,7 +130,7 @@ fn why_no_other(
     texts: &SessionTexts,
     edit: &Edit,
     refusal: Refusal,
-) -> Result<String, NoMemory> {
+) -> Result<Text, NoMemory> {
     match (edit, refusal) {
         (Edit::SelectConfig(config), _) => why_not_selected(alloc, texts, config.as_bytes()),
         (Edit::AddConnection(_, _, text), Refusal::NedSyntax(_)) => {
@@ -150,7 +150,7 @@ fn why_no_edit(
     texts: &SessionTexts,
     edit: &Edit,
     refusal: Refusal,
-) -> Result<String, NoMemory> {
+) -> Result<Text, NoMemory> {
     match changed_ini(alloc, &texts.ini, edit) {
         Some(Ok(changed)) => why_not_with(alloc, texts, &changed),
         Some(Err(error)) => why_no_ini(alloc, texts, edit, error),
@@ -178,7 +178,7 @@ fn why_not_text(
     number: usize,
     path: &[u8],
     text: &[u8],
-) -> Result<String, NoMemory> {
+) -> Result<Text, NoMemory> {
     let texts = with_text(alloc, sources.texts.as_slice(), number, text)?;
     let paths = with_path(alloc, sources.ned_paths, number, shown(path))?;
     let changed = Sources {
@@ -196,7 +196,7 @@ fn why_no_ned(
     number: usize,
     path: &[u8],
     text: &[u8],
-) -> Result<String, NoMemory> {
+) -> Result<Text, NoMemory> {
     let bytes = bytes_of(alloc, &texts.ini)?;
     let sources = texts.sources(bytes.as_slice());
     if number < sources.ned_paths.len() {
@@ -213,7 +213,7 @@ pub fn why_refused_command(
     alloc: Global,
     command: &Command,
     line: &[u8],
-) -> Result<String, NoMemory> {
+) -> Result<Text, NoMemory> {
     let mut told = Explanation::new(alloc);
     match command {
         Command::Unknown => tell_no_command(&mut told, line),
@@ -238,12 +238,12 @@ pub fn why_refused_edit(
     command: &Command,
     read: &[u8],
     refusal: Refusal,
-) -> Result<String, NoMemory> {
+) -> Result<Text, NoMemory> {
     match command {
         Command::Edit(edit) => why_no_edit(alloc, texts, edit, refusal),
         Command::Ned(number, path) => {
             why_no_ned(alloc, texts, *number as usize, path.as_bytes(), read)
         }
-        _ => Ok(String::new(alloc)),
+        _ => Ok(Text::empty(alloc)),
     }
 }

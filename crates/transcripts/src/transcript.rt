@@ -8,9 +8,9 @@ ghost use Rattle.transcripts.specs.Heard.{Heard, Answer, Files, OutOfMemory, Rea
 ghost use Rattle.transcripts.specs.declared.asked.AskedLine.{AskedLine as AskedValue};
 ghost use Rattle.transcripts.specs.declared.asked.AskedLine.TheVariants as asks;
 
-use input_texts::noted::GhostBytes;
 use sim_values::NoMemory;
 use std::marker::{Model, PhantomData};
+use text_writer::noted::GhostBytes;
 
 /// What was asked and heard, one after the other. It takes no memory, and only clauses can read it.
 #[derive(Drop)]

@@ -1,6 +1,6 @@
 use Rattle.std.proofs.Common.{ap, ◌∙◌, rules}
 use Rattle.desk_answers.specs.Turns.{editing_at}
-use Rattle.input_texts.specs.declared.noted.GhostBytes.{GhostBytes}
+use Rattle.text_writer.specs.declared.noted.GhostBytes.{GhostBytes}
 use Rattle.module_stock.specs.Stock.{stock}
 use Rattle.desk_server.specs.Serving.{seen_in}
 use Rattle.desk_server.proofs.Hearing.{misses_files, tells_written}

@@ -1,6 +1,6 @@
 -- An empty body. The borrow is opened and closed at another ghost value.
 use Rattle.transcripts.proofs.Steps.{[], ◌∷◌, ◌++◌, refl, proved, id⊢, ftrue, flft, named, vunit, ‵, ◌⊛◌, ◌$◌, ◌∵◌, !, qed, done, move, keep, use1, split, join, fsplit3, feq_i, suffices, frame, group, enter, of_opd, unit_lit, returns, alloc_all, pass_all, free_all, look_at, sets, yes, owns, MutRef, mut_vals, mut_Tells, ShrRef, shr_vals, shr_Tells, plain, opens, closes, Stays, walk_of, stay_ref, Goes-ref, stay_none_ref, Goes-none_ref, ends_at, says_both}
-use Rattle.input_texts.specs.contracts.noted.GhostBytes.{the_row as N}
+use Rattle.text_writer.specs.contracts.noted.GhostBytes.{the_row as N}
 use Rattle.transcripts.specs.Heard.{Files}
 use Rattle.transcripts.specs.declared.transcript.Transcript.{Transcript}
 use Rattle.transcripts.specs.contracts.transcript.Transcript.{the_row as R}

@@ -21,12 +21,12 @@ use denote.Triple.Entry.{on_entry}
 use denote.Triple.Spec.{Meets, triple_of}
 use denote.Triple.Table.{entered}
 use denote.Triple.Walked.{says, ends_at, walked, walk_Meets}
-use Rattle.input_texts.specs.declared.noted.GhostBytes.{GhostBytes}
-use Rattle.input_texts.specs.contracts.noted.GhostBytes as T
-use Rattle.input_texts.specs.contracts.noted.GhostBytes.new.Key.{name as #it}
-use Rattle.input_texts.specs.contracts.noted.GhostBytes.new as it
-use Rattle.input_texts.proofs.noted.GhostBytes.new.Statement as stated
-use Rattle.input_texts.proofs.noted.GhostBytes.new.Code as code
+use Rattle.text_writer.specs.declared.noted.GhostBytes.{GhostBytes}
+use Rattle.text_writer.specs.contracts.noted.GhostBytes as T
+use Rattle.text_writer.specs.contracts.noted.GhostBytes.new.Key.{name as #it}
+use Rattle.text_writer.specs.contracts.noted.GhostBytes.new as it
+use Rattle.text_writer.proofs.noted.GhostBytes.new.Statement as stated
+use Rattle.text_writer.proofs.noted.GhostBytes.new.Code as code
 
 abbrev v : Val
 v = vstruct (vcons (vstruct vnil) vnil)

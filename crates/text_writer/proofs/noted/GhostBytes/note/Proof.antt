@@ -28,12 +28,12 @@ use denote.Triple.Entry.{on_entry}
 use denote.Triple.Spec.{Meets, triple_of}
 use denote.Triple.Table.{entered}
 use denote.Triple.Walked.{says, Stays, stay_ref, stay_none_slice, walk_of, AllGo, Goes-ref, Goes-none_slice, Walks, ends_at, walked, walk_Meets}
-use Rattle.input_texts.specs.declared.noted.GhostBytes.{GhostBytes}
-use Rattle.input_texts.specs.contracts.noted.GhostBytes as T
-use Rattle.input_texts.specs.contracts.noted.GhostBytes.note.Key.{name as #it}
-use Rattle.input_texts.specs.contracts.noted.GhostBytes.note as it
-use Rattle.input_texts.proofs.noted.GhostBytes.note.Statement as stated
-use Rattle.input_texts.proofs.noted.GhostBytes.note.Code as code
+use Rattle.text_writer.specs.declared.noted.GhostBytes.{GhostBytes}
+use Rattle.text_writer.specs.contracts.noted.GhostBytes as T
+use Rattle.text_writer.specs.contracts.noted.GhostBytes.note.Key.{name as #it}
+use Rattle.text_writer.specs.contracts.noted.GhostBytes.note as it
+use Rattle.text_writer.proofs.noted.GhostBytes.note.Statement as stated
+use Rattle.text_writer.proofs.noted.GhostBytes.note.Code as code
 
 abbrev Arg : Type 0
 Arg = MutBor GhostBytes × (Bor (List ℕ) × Unit {0})

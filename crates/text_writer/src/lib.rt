@@ -1,0 +1,5 @@
+//! Texts as they grow.
+#![tactic(auto)]
+
+pub mod noted;
+pub mod writer;
