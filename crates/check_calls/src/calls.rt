@@ -11,10 +11,10 @@ use crate::counted::Counted;
 use checkpoint_runs::observer::Unobserved;
 use desk_answers::desk::{Desk, DeskTurn};
 use edit_session::session::Session;
+use module_api::name::Name;
 use module_api::simple_module::SimpleModule;
 use module_stock::stock::Stock;
 use ned_trees::texts::NedTexts;
-use sim_values::text::Text;
 use std::alloc::Global;
 use std::cell::Cell;
 use std::process::Abort;
@@ -31,7 +31,7 @@ const INI: &str = "[General]\nnetwork = N\n**.count = 100\n**.late = 60\n";
 /// What a line is answered, and how many calls it took.
 #[derive(Drop)]
 struct Told {
-    answer: Text,
+    answer: Name,
     calls: u64,
 }
 

@@ -10,9 +10,9 @@ use crate::calls::{desk_of, supply};
 use crate::refusing::Refusing;
 use checkpoint_runs::observer::Unobserved;
 use desk_answers::desk::{Desk, DeskTurn};
+use module_api::name::Name;
 use module_api::simple_module::SimpleModule;
 use module_stock::stock::Stock;
-use sim_values::text::Text;
 use std::alloc::Global;
 use std::cell::Cell;
 use std::process::Abort;
@@ -74,8 +74,8 @@ const RULE: &[(u64, u64, &str, &str)] = &[
 /// What is told after a run for which memory ran out.
 #[derive(Drop)]
 struct Left {
-    positions: Text,
-    again: Text,
+    positions: Name,
+    again: Name,
 }
 
 /// A box of a fresh Tick that meets lack of memory there.
@@ -87,13 +87,13 @@ fn boxed(alloc: Global, left: &Rc<Cell<u64>>) -> Result<Box<dyn SimpleModule>, F
 }
 
 /// Answers a line. A run that begins with setup wants its box again.
-fn tell(desk: &mut Desk<Stock>, alloc: Global, line: &str) -> Result<Text, Fail>
+fn tell(desk: &mut Desk<Stock>, line: &str) -> Result<Name, Fail>
     requires { IsSettled stock (λ b. ⟦<dyn SimpleModule as SimpleModule>⟧ b.vtable) desk.old }
     ensures { IsSettled stock (λ b. ⟦<dyn SimpleModule as SimpleModule>⟧ b.vtable) desk.new }
 {
     match desk.line(line.as_bytes(), &mut Unobserved)? {
         DeskTurn::Text(answer) => Ok(answer.into_text()),
-        DeskTurn::Want(_) => Ok(Text::from_str(alloc, "a box is wanted")?),
+        DeskTurn::Want(_) => Ok(Name::word("a box is wanted")),
     }
 }
 
@@ -112,7 +112,6 @@ fn starve(desk: &mut Desk<Stock>) -> Result<(), Fail>
 /// are answered.
 fn refuse(
     desk: &mut Desk<Stock>,
-    alloc: Global,
     left: &Cell<u64>,
     held: Box<dyn SimpleModule>,
     step: u64,
@@ -124,8 +123,8 @@ fn refuse(
     supply(desk, held)?;
     left.set(step);
     starve(desk)?;
-    let positions = tell(desk, alloc, "positions")?;
-    let again = tell(desk, alloc, "run 20")?;
+    let positions = tell(desk, "positions")?;
+    let again = tell(desk, "run 20")?;
     Ok(Left { positions, again })
 }
 
@@ -134,7 +133,7 @@ fn refused_at(alloc: Global, step: u64) -> Result<Left, Fail> {
     let left = Rc::new(alloc, Cell::new(0))?;
     let held = boxed(alloc, &left)?;
     let mut desk = desk_of(alloc, 3)?;
-    let told = refuse(&mut desk, alloc, &left, held, step);
+    let told = refuse(&mut desk, &left, held, step);
     // The process ends with the test, and to drop a desk would be the dearest part of the proof.
     std::mem::forget(desk);
     told

@@ -12,10 +12,10 @@ use checkpoint_runs::observer::Unobserved;
 use clerk::{Clerk, Office};
 use desk_answers::desk::{Desk, DeskTurn};
 use edit_session::session::Session;
+use module_api::name::Name;
 use module_api::simple_module::SimpleModule;
 use ned_trees::texts::NedTexts;
 use result_lines::buffer::Buffer;
-use sim_values::text::Text;
 use std::alloc::{AllocError, Global};
 use std::test::Fail;
 
@@ -66,7 +66,7 @@ fn give(desk: &mut Desk<Office>, held: Box<dyn SimpleModule>) -> Result<(), Fail
 }
 
 /// The answer of the run that has its boxes.
-fn answer(desk: &mut Desk<Office>) -> Result<Text, Fail>
+fn answer(desk: &mut Desk<Office>) -> Result<Name, Fail>
     requires { IsSettled office (λ b. ⟦<dyn SimpleModule as SimpleModule>⟧ b.vtable) desk.old }
     ensures { IsSettled office (λ b. ⟦<dyn SimpleModule as SimpleModule>⟧ b.vtable) desk.new }
 {
@@ -79,7 +79,7 @@ fn answer(desk: &mut Desk<Office>) -> Result<Text, Fail>
 /// What the runs of a desk lead to: its answer, and the scalar file.
 #[derive(Drop)]
 struct Told {
-    answer: Text,
+    answer: Name,
     scalars: Buffer,
 }
 
@@ -89,7 +89,7 @@ fn run_both(
     kinds: (&[u8], &[u8]),
     first: Box<dyn SimpleModule>,
     second: Box<dyn SimpleModule>,
-) -> Result<Text, Fail>
+) -> Result<Name, Fail>
     requires first { IsFresh office kinds.0.now (meaning first) }
     requires second { IsFresh office kinds.1.now (meaning second) }
     requires sound { IsSettled office

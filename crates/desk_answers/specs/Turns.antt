@@ -141,15 +141,24 @@ AnswersCommand b before command.Unknown answer after =
 AnswersCommand b before command.TooLarge answer after =
     IsTextOf answer (λ text. text ≡ codes "refused TooLarge") × (after ≡ before)
 
+-- the command asks for no run
+abbrev pub AsksNoRun : Command → Type 0
+AsksNoRun (command.Run limit) = ⊥
+AsksNoRun _ = Unit {0}
+
 abbrev pub AnswersLine : Behaviour → Editing → List ℕ → DeskTurn → Editing → Type 0
 AnswersLine b before line answer after = AnswersCommand b before (command_of line) answer after
 
--- WHAT LACK OF MEMORY LEAVES after a command: of a run the model and what it stored; and of all
--- else everything as it was
+-- WHAT LACK OF MEMORY LEAVES after a command: of a run the model and what it stored; of an edit and
+-- a list everything as it was. A command that is refused by its name alone has its answer.
 abbrev pub Forgoes : Behaviour → Command → Editing → Editing → Type 0
 Forgoes b (command.Run limit) before after =
     MayBeDone b before limit after × (after.model ≡ before.model)
-Forgoes b _ before after = after ≡ before
+Forgoes b (command.Edit e) before after = after ≡ before
+Forgoes b (command.Ned number path) before after = after ≡ before
+Forgoes b command.Positions before after = after ≡ before
+Forgoes b command.Held before after = after ≡ before
+Forgoes b _ before after = ⊥
 
 -- the limit of the last run, after a command
 abbrev pub limit_after : Command → ℕ → ℕ

@@ -10,11 +10,11 @@ ghost use Rattle.edit_session.specs.declared.session.SupplyReason.{SupplyReason}
 ghost use Rattle.desk_commands.specs.Commands.{command_of};
 ghost use Rattle.desk_client.specs.Answers.{held_text, positions_text, IsTold};
 ghost use Rattle.model_edits.specs.declared.edit.Edit.TheVariants as edits;
-ghost use Rattle.desk_answers.specs.Turns.{editing_at, limit_at, limit_after, AnswersEdit};
-ghost use Rattle.desk_answers.specs.Turns.{AnswersLine, Forgoes, IsRunTurn, IsSettled, IsToldIn};
-ghost use Rattle.desk_answers.specs.Turns.{MayBeDone, StaysSettled};
+ghost use Rattle.desk_answers.specs.Turns.{editing_at, limit_at, limit_after, AnswersCommand};
+ghost use Rattle.desk_answers.specs.Turns.{AnswersEdit, AnswersLine, AsksNoRun, Forgoes, IsRunTurn};
+ghost use Rattle.desk_answers.specs.Turns.{IsSettled, IsToldIn, MayBeDone, StaysSettled};
 
-use crate::answers::{Answer, done, edited_text, held_text, positions_text, refused, refused_as};
+use crate::answers::{Answer, done, edited_text, held_text, positions_text, refused};
 use checkpoint_runs::observer::Observer;
 use checkpoint_runs::running::RunStatus;
 use desk_client::told::AnswerContent;
@@ -23,6 +23,7 @@ use edit_session::session::{FileFault, NotWanted, Session, SupplyFault};
 use kernel::request::Request;
 use model_edits::edit::Edit;
 use module_api::catalogue::Catalogue;
+use module_api::name::Name;
 use module_api::simple_module::SimpleModule;
 use result_lines::writer::Out;
 use run_semantics::outcome::Outcome;
@@ -95,17 +96,40 @@ impl<C: Catalogue> Desk<C> {
     {
         match command_of(self.alloc, line)? {
             Command::Run(limit) => self.run(limit, observer),
-            Command::Edit(edit) => Ok(DeskTurn::Text(self.edit(edit)?)),
-            Command::Positions => Ok(DeskTurn::Text(self.positions()?)),
-            Command::Held => Ok(DeskTurn::Text(self.held()?)),
-            Command::Write | Command::Unknown | Command::Ned(_, _) => Ok(DeskTurn::Text(Answer {
-                text: refused_as(self.alloc, b"Command")?,
+            command => Ok(DeskTurn::Text(self.reply(command)?)),
+        }
+    }
+
+    /// Answers a command that asks for no run. One that asks to write files, or names a file that
+    /// is to be read, is no command here: who asks does these. Where memory runs out there is no
+    /// answer, and nothing changed; it doesn't for a command that is refused by its name alone.
+    pub fn reply(&mut self, command: Command) -> Result<Answer, NoMemory>
+        requires sound { IsSettled C.behaviour SimpleModule-box self.old }
+        requires plain { AsksNoRun command }
+        ensures sound { IsSettled C.behaviour SimpleModule-box self.new }
+        ensures answer { let before = editing_at SimpleModule-box self.old in
+            let after = editing_at SimpleModule-box self.new in
+            IfOk result
+            (λ answer. AnswersCommand C.behaviour before command (DeskTurn.Text answer) after) }
+        ensures told { IfOk result (λ answer. IsTold answer.told answer.text) }
+        ensures limit { limit_at self.new ≡ limit_at self.old }
+        ensures memory { let before = editing_at SimpleModule-box self.old in
+            let after = editing_at SimpleModule-box self.new in
+            OnErr result (Forgoes C.behaviour command before after) }
+    {
+        match command {
+            Command::Edit(edit) => self.edit(edit),
+            Command::Positions => self.positions(),
+            Command::Held => self.held(),
+            Command::Write | Command::Unknown | Command::Ned(_, _) => Ok(Answer {
+                text: Name::word("refused Command"),
                 told: AnswerContent::NoCommand,
-            })),
-            Command::TooLarge => Ok(DeskTurn::Text(Answer {
-                text: refused_as(self.alloc, b"TooLarge")?,
+            }),
+            Command::TooLarge => Ok(Answer {
+                text: Name::word("refused TooLarge"),
                 told: AnswerContent::TooLarge,
-            })),
+            }),
+            Command::Run(_) => unreachable!(),
         }
     }
 

@@ -11,7 +11,9 @@ use Rattle.checkpoints.specs.Stored.{Timeline}
 use Rattle.checkpoint_runs.specs.Positions.{cut, last_count, HasStored}
 use Rattle.edit_session.specs.Files.{scalars_of_run, vectors_of_run}
 use Rattle.desk_client.specs.Answers.{held_text, positions_text}
-use Rattle.desk_answers.specs.Turns.{AnswersEdit, HasRun, IsDone, IsMade, IsRefused, MayBeDone}
+use Rattle.desk_answers.specs.declared.answers.Answer.{Answer as Reply}
+use Rattle.desk_answers.specs.declared.desk.DeskTurn.TheVariants as turns
+use Rattle.desk_answers.specs.Turns.{AnswersCommand, AnswersEdit, Forgoes, HasRun, IsDone, IsMade, IsRefused, MayBeDone}
 use Rattle.model_edits.specs.declared.edit.Edit.{Edit}
 use Rattle.model_edits.specs.declared.edit.Edit.TheVariants as edit
 use Rattle.desk_commands.specs.Commands.{IsEdit}
@@ -20,7 +22,7 @@ use Rattle.desk_commands.specs.declared.commands.Command.TheVariants as command
 use Rattle.desk_server.specs.Served.{Machine, AreHeard, Hears, HearsFiles, behind_run, command_asked, events_of}
 use Rattle.transcripts.specs.Heard.{Answer, Files, Heard, OutOfMemory, Read}
 use Rattle.transcripts.specs.declared.asked.AskedLine.{AskedLine}
-use Rattle.desk_server.specs.Serving.{Seen, AreFilled, ComesTo, HearsNext, HearsOne, IsAt, IsCutOff, IsRunIn, RunsAlike}
+use Rattle.desk_server.specs.Serving.{Seen, AreFilled, ComesTo, HearsNext, HearsOne, IsAt, IsCutOff, IsOfDesk, IsRunIn, RunsAlike}
 use Rattle.desk_server.specs.declared.serving.Next.{Next}
 use Rattle.desk_server.specs.declared.serving.Next.TheVariants as next
 use Rattle.desk_client.specs.declared.clients.ServeEnd.TheVariants as stop
@@ -280,6 +282,35 @@ pub tells_too_large : (b : Behaviour) (before after : Seen) (n : Next) → after
     → after.editing ≡ before.editing → HearsOne (Answer (codes "refused TooLarge")) before.heard after.heard n → HearsNext b command.TooLarge before after n
 tells_too_large b before after n asked may running same heard =
     tells b command.TooLarge before after (Answer (codes "refused TooLarge")) n asked may running heard (λ s at. (s, (refl, refl), subst (λ x. IsAt b x s) (sym same) at))
+
+-- ---- what the desk answers by itself
+
+-- what is told of a command that needs nothing but the desk
+pub tells_reply : (b : Behaviour) (c : Command) (before after : Seen) (answer : Reply) (n : Next) → IsOfDesk c → after.asked ≡ before.asked → after.may ≡ before.may
+    → after.running ≡ None → AnswersCommand b before.editing c (turns.Text answer) after.editing → HearsOne (Answer answer.text) before.heard after.heard n
+    → HearsNext b c before after n
+tells_reply b (command.Run limit) before after answer n plain asked may running is heard = absurd plain
+tells_reply b (command.Ned number path) before after answer n plain asked may running is heard = absurd plain
+tells_reply b command.Write before after answer n plain asked may running is heard = absurd plain
+tells_reply b (command.Edit e) before after answer n plain asked may running is heard = tells_edit b e before after answer.text n asked may running is heard
+tells_reply b command.Positions before after answer n plain asked may running is heard = tells_positions b before after answer.text n asked may running is.1 is.0 heard
+tells_reply b command.Held before after answer n plain asked may running is heard = tells_held b before after answer.text n asked may running is.1 is.0 heard
+tells_reply b command.Unknown before after answer n plain asked may running is heard =
+    tells_unknown b before after n asked may running is.1 (subst (λ (t : List ℕ). HearsOne (Answer t) before.heard after.heard n) is.0 heard)
+tells_reply b command.TooLarge before after answer n plain asked may running is heard =
+    tells_too_large b before after n asked may running is.1 (subst (λ (t : List ℕ). HearsOne (Answer t) before.heard after.heard n) is.0 heard)
+
+-- memory ran out for it
+pub tells_forgone : (b : Behaviour) (c : Command) (before after : Seen) (n : Next) → IsOfDesk c → after.asked ≡ before.asked → after.may ≡ before.may → after.running ≡ None
+    → Forgoes b c before.editing after.editing → HearsOne OutOfMemory before.heard after.heard n → HearsNext b c before after n
+tells_forgone b (command.Run limit) before after n plain asked may running is heard = absurd plain
+tells_forgone b (command.Ned number path) before after n plain asked may running is heard = absurd plain
+tells_forgone b command.Write before after n plain asked may running is heard = absurd plain
+tells_forgone b (command.Edit e) before after n plain asked may running is heard = tells_no_edit b e before after n asked may running is heard
+tells_forgone b command.Positions before after n plain asked may running is heard = tells_no_positions b before after n asked may running is heard
+tells_forgone b command.Held before after n plain asked may running is heard = tells_no_number b before after n asked may running is heard
+tells_forgone b command.Unknown before after n plain asked may running is heard = absurd is
+tells_forgone b command.TooLarge before after n plain asked may running is heard = absurd is
 
 -- ---- files
 

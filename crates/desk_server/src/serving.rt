@@ -12,7 +12,7 @@ ghost use Rattle.desk_server.specs.Served.{fresh_machine};
 ghost use Rattle.desk_commands.specs.declared.commands.Command.TheVariants as commands;
 ghost use Rattle.desk_server.specs.Served.{command_asked};
 ghost use Rattle.desk_server.specs.Serving.{AreFilled, ComesTo, Ends, HearsNext, IsMetIn};
-ghost use Rattle.desk_server.specs.Serving.{IsNextServing, IsReady, IsRunIn, IsServer};
+ghost use Rattle.desk_server.specs.Serving.{IsNextServing, IsOfDesk, IsReady, IsRunIn, IsServer};
 ghost use Rattle.desk_server.specs.Serving.{IsServingTurn, MayStopAt, MayStopIn, Serves, Tells};
 ghost use Rattle.result_lines.specs.Taken.{untouched};
 ghost use Rattle.transcripts.specs.Heard.{Answer, OutOfMemory};
@@ -135,13 +135,14 @@ impl<O: Out + Drop, K: Client<O> + Drop> Server<O, K> {
         }
     }
 
-    /// Changes the model as the edit says, or tells why not.
-    fn edit(&mut self, edit: Edit) -> Next
-        requires { IsReady stock SimpleModule-box K.keeps self.old }
+    /// Tells what the desk answers to a command that needs nothing but it.
+    fn tell(&mut self, command: Command) -> Next
+        requires ready { IsReady stock SimpleModule-box K.keeps self.old }
+        requires plain { IsOfDesk command }
         ensures { Serves stock SimpleModule-box K.asked K.heard K.left K.keeps K.label K.stops
-            MayStopAt (HearsNext stock (commands.Edit edit)) self.old self.new result }
+            MayStopAt (HearsNext stock command) self.old self.new result }
     {
-        match self.desk.edit(edit) {
+        match self.desk.reply(command) {
             Ok(answer) => self.hear(answer.text.as_bytes(), &answer.told),
             Err(error) => self.out_of_memory(error),
         }
@@ -155,32 +156,8 @@ impl<O: Out + Drop, K: Client<O> + Drop> Server<O, K> {
             MayStopAt (HearsNext stock (commands.Ned number path)) self.old self.new result }
     {
         match self.client.read(path.as_bytes()) {
-            Ok(text) => self.edit(Edit::ReplaceNed(number as usize, text)),
+            Ok(text) => self.tell(Command::Edit(Edit::ReplaceNed(number as usize, text))),
             Err(Gone) => Next::Stop(ServeEnd::Gone),
-        }
-    }
-
-    /// Tells after which events a position is stored.
-    fn positions(&mut self) -> Next
-        requires { IsReady stock SimpleModule-box K.keeps self.old }
-        ensures { Serves stock SimpleModule-box K.asked K.heard K.left K.keeps K.label K.stops
-            MayStopAt (HearsNext stock commands.Positions) self.old self.new result }
-    {
-        match self.desk.positions() {
-            Ok(answer) => self.hear(answer.text.as_bytes(), &answer.told),
-            Err(error) => self.out_of_memory(error),
-        }
-    }
-
-    /// Tells how many boxes there are.
-    fn held(&mut self) -> Next
-        requires { IsReady stock SimpleModule-box K.keeps self.old }
-        ensures { Serves stock SimpleModule-box K.asked K.heard K.left K.keeps K.label K.stops
-            MayStopAt (HearsNext stock commands.Held) self.old self.new result }
-    {
-        match self.desk.held() {
-            Ok(answer) => self.hear(answer.text.as_bytes(), &answer.told),
-            Err(error) => self.out_of_memory(error),
         }
     }
 
@@ -247,7 +224,8 @@ impl<O: Out + Drop, K: Client<O> + Drop> Server<O, K> {
         }
     }
 
-    /// Does what a command asks for.
+    /// Does what a command asks for: a run needs boxes, which are made here, and files need the
+    /// client; the desk answers all else.
     fn command<W: Observer>(
         &mut self,
         alloc: Global,
@@ -260,19 +238,9 @@ impl<O: Out + Drop, K: Client<O> + Drop> Server<O, K> {
     {
         match command {
             Command::Run(limit) => self.run(alloc, limit, observer),
-            Command::Edit(edit) => ServerStep::Over(self.edit(edit)),
             Command::Ned(number, path) => ServerStep::Over(self.ned(number, path)),
-            Command::Positions => ServerStep::Over(self.positions()),
-            Command::Held => ServerStep::Over(self.held()),
             Command::Write => ServerStep::Over(self.write()),
-            Command::Unknown => ServerStep::Over(self.hear(
-                b"refused Command".as_slice(),
-                &AnswerContent::NoCommand,
-            )),
-            Command::TooLarge => ServerStep::Over(self.hear(
-                b"refused TooLarge".as_slice(),
-                &AnswerContent::TooLarge,
-            )),
+            command => ServerStep::Over(self.tell(command)),
         }
     }
 

@@ -4,10 +4,10 @@ use Rattle.desk_answers.specs.Turns.{editing_at, limit_at}
 use Rattle.desk_answers.proofs.Limits.{limit_kept, where_no_memory}
 use Rattle.desk_answers.proofs.desk.Desk.line.Goals as goal
 
-pub returns-in_err-limit-clause-limit : goal.returns-in_err-limit-clause-limit
-returns-in_err-limit-clause-limit g c =
-    sym (limit_kept (command_of c.args.line.now) (limit_at c.args.self.now) c.in_err-limit.ensures.memory)
+pub returns-in_err-command-clause-limit : goal.returns-in_err-command-clause-limit
+returns-in_err-command-clause-limit g c =
+    sym (limit_kept (command_of c.args.line.now) (limit_at c.args.self.now) c.in_err-command.ensures.memory)
 
-pub returns-in_err-limit-clause-memory : goal.returns-in_err-limit-clause-memory
-returns-in_err-limit-clause-memory g c =
-    where_no_memory c.from_residual.result g.C.Catalogue.behaviour (command_of c.args.line.now) (editing_at (λ b. (g.dyn-1.0.entry b.vtable).1) c.args.self.now) c.in_err-limit.ensures.memory
+pub returns-in_err-command-clause-memory : goal.returns-in_err-command-clause-memory
+returns-in_err-command-clause-memory g c =
+    where_no_memory c.from_residual.result g.C.Catalogue.behaviour (command_of c.args.line.now) (editing_at (λ b. (g.dyn-1.0.entry b.vtable).1) c.args.self.now) c.in_err-command.ensures.memory

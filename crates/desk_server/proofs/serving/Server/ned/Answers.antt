@@ -6,15 +6,15 @@ use Rattle.desk_server.proofs.serving.Server.ned.Goals as goal
 
 pub returns-in-Ok : goal.returns-in-Ok
 returns-in-Ok g c = record {
-  kept = c.edit.ensures.kept;
-  label = c.edit.ensures.label ∙ c.in-Ok.ensures.label;
-  stops = c.edit.ensures.stops;
-  sound = c.edit.ensures.sound;
+  kept = c.tell.ensures.kept;
+  label = c.tell.ensures.label ∙ c.in-Ok.ensures.label;
+  stops = c.tell.ensures.stops;
+  sound = c.tell.ensures.sound;
   comes = tells_replaced stock c.args.number c.args.path c.in-Ok.text
       (seen_in (λ b. (g.dyn-1.0.entry b.vtable).1) g.K.Client.asked g.K.Client.heard g.K.Client.left c.args.self.now)
       (seen_in (λ b. (g.dyn-1.0.entry b.vtable).1) g.K.Client.asked g.K.Client.heard g.K.Client.left (record c.args.self.now { client = c.read.new.self }))
-      (seen_in (λ b. (g.dyn-1.0.entry b.vtable).1) g.K.Client.asked g.K.Client.heard g.K.Client.left c.edit.new.self) c.edit.result
-      c.in-Ok.ensures.asked c.in-Ok.ensures.left refl (rw c.as_bytes.ensures at c.in-Ok.ensures.heard) c.edit.ensures.comes;
+      (seen_in (λ b. (g.dyn-1.0.entry b.vtable).1) g.K.Client.asked g.K.Client.heard g.K.Client.left c.tell.new.self) c.tell.result
+      c.in-Ok.ensures.asked c.in-Ok.ensures.left refl (rw c.as_bytes.ensures at c.in-Ok.ensures.heard) c.tell.ensures.comes;
 }
 
 pub returns : goal.returns
