@@ -1,5 +1,5 @@
 -- Flat types, made from those of their bases.
-use Rattle.std.proofs.Common.{◌≡◌, inl, inr, ℕ, zero, suc, ◌≤◌, ◌<◌, Bool, true, false, ◌||◌, ◌&&◌, List, [], ◌∷◌, ◌++◌, Option, Some, None, is_some, unwrap_or, refl, sym, subst, ap, ◌∙◌, arith, append_assoc, append-nil, length, map, drop, bytes_eq, Bor, if◌then◌else◌}
+use Rattle.std.proofs.Common.{◌≡◌, inl, inr, ℕ, zero, suc, ◌≤◌, ◌<◌, ◌-◌, Bool, true, false, ◌||◌, ◌&&◌, List, [], ◌∷◌, ◌++◌, Option, Some, None, is_some, unwrap_or, refl, sym, subst, ap, ◌∙◌, arith, append_assoc, append-nil, length, map, drop, take, slice_index_or, bytes_eq, Bor, if◌then◌else◌}
 use Rattle.std.proofs.lemmas.Bool.{false≢true}
 use Rattle.std.specs.List.{list_any}
 use Rattle.std.specs.Map.{lookup}
@@ -17,12 +17,13 @@ use Rattle.ned_types.specs.Flat.{class_in, class_of, named_or}
 use Rattle.ned_types.specs.Types.{has_duplicate, has_inner_network, is_built_in, is_channel_kind, is_interface_kind, is_simple_kind, is_type_named, type_named}
 use Rattle.ned_types.specs.WellFormed.{IsAmong}
 use Rattle.ned_inheritance.specs.Inheritance.{bare_derived_type, base_of, can_extend, class_along, class_lines, extends_other, flat_as, flat_by, flat_type, has_other_base, derived_type, is_base, is_channel_of, joined_connections, joined_with, line_of, line_within, no_connections, with_members}
-use Rattle.ned_inheritance.specs.Flats.{bare_derived_with, flat_at, flat_behind, flat_by_base, found_at, derived_by, derived_over, own_lines, with_inherited, AddsFlat, FlatEntries, FlatsAlong, HaveFlats}
+use Rattle.ned_inheritance.specs.Flats.{bare_derived_with, flat_at, flat_behind, flat_by_base, found_at, derived_by, derived_over, own_lines, with_inherited, AddsFlat, FlatEntries, FlatsAlong, HaveFlats, TakesFlat}
 use Rattle.ned_inheritance.specs.Named.{flat_by_lines, is_other_named, HaveLines, IsBehind, StandBehind}
 use Rattle.ned_inheritance.specs.Interfaces.{keeps_other}
 use Rattle.ned_inheritance.specs.Places.{other_in, place_from}
 use Rattle.ned_inheritance.specs.Order.{IsOrder}
 use Rattle.ned_inheritance.proofs.LineLaws.{behind_among, behind_front, flat_same, named_among, named_joined, neither_first, neither_second, or_either, or_turned, order_length, stand_within, LineEntry}
+use Rattle.ned_inheritance.proofs.OrderLaws.{first_and_rest}
 use Rattle.ned_inheritance.proofs.PlaceLaws.{other_told}
 use Rattle.ned_inheritance.proofs.NamedLaws.{turned}
 use Rattle.ned_inheritance.proofs.WellFormedLaws.{any_found, any_told, names_same, not_false, same_names, type_is, types_apart, types_own}
@@ -442,6 +443,43 @@ flats_fit lines entries order types along is apart fit fit-lines t among =
 map_among : {X Y : Type 0} (f g : X → Y) (xs : List X) → ((x : X) → IsAmong x xs → f x ≡ g x) → map f xs ≡ map g xs
 map_among f g [] h = refl
 map_among f g (x ∷ xs) h = ap (λ y. y ∷ map f xs) (h x (inl refl)) ∙ ap (λ ys. g x ∷ ys) (map_among f g xs (λ y is. h y (inr is)))
+
+-- ---- flat types are taken out
+
+-- those of other types stay
+taken_rest : (before after : FlatEntries) (t : TypeDeclaration) (ts : List TypeDeclaration) → TakesFlat before after t → is_type_named t.name ts ≡ false → map (found_at after) ts ≡ map (found_at before) ts
+taken_rest before after t ts takes none = map_among (found_at after) (found_at before) ts (λ u among. ap (λ o. unwrap_or o u) (takes u.name (other u among (bytes_eq t.name u.name) refl)))
+  where
+    other : (u : TypeDeclaration) → IsAmong u ts → (b : Bool) → bytes_eq t.name u.name ≡ b → bytes_eq t.name u.name ≡ false
+    other u among true e = absurd (false≢true (sym none ∙ named_among ts u t.name among (names_same u.name t.name (sym (same_names t.name u.name e)))))
+    other u among false e = e
+
+-- one more is taken
+pub taken_more : (flat new rest : List TypeDeclaration) (item d got : TypeDeclaration) (before after : FlatEntries) (all : List TypeDeclaration) → 1 ≤ length rest → item ≡ slice_index_or rest 0 d → TakesFlat before after item → got ≡ found_at before item
+    → new ≡ flat ++ got ∷ [] → has_duplicate rest ≡ false → flat ++ map (found_at before) rest ≡ all
+    → (has_duplicate (take (length rest - 1) (drop 1 rest)) ≡ false) × (new ++ map (found_at after) (take (length rest - 1) (drop 1 rest)) ≡ all)
+taken_more flat new rest item d got before after all h is takes got-is pushed apart told = (neither_second (is_built_in item.name || is_type_named item.name ts) (has_duplicate ts) apart-item, moved)
+  where
+    ts : List TypeDeclaration
+    ts = take (length rest - 1) (drop 1 rest)
+
+    split : rest ≡ item ∷ ts
+    split = first_and_rest rest d h ∙ ap (λ (x : TypeDeclaration). x ∷ ts) (sym is)
+
+    apart-item : has_duplicate (item ∷ ts) ≡ false
+    apart-item = sym (ap has_duplicate split) ∙ apart
+
+    none : is_type_named item.name ts ≡ false
+    none = neither_second (is_built_in item.name) (is_type_named item.name ts) (neither_first (is_built_in item.name || is_type_named item.name ts) (has_duplicate ts) apart-item)
+
+    moved : new ++ map (found_at after) ts ≡ all
+    moved =
+        ap (λ (xs : List TypeDeclaration). xs ++ map (found_at after) ts) pushed
+        ∙ append_assoc flat (got ∷ []) (map (found_at after) ts)
+        ∙ ap (λ (x : TypeDeclaration). flat ++ x ∷ map (found_at after) ts) got-is
+        ∙ ap (λ (ms : List TypeDeclaration). flat ++ found_at before item ∷ ms) (taken_rest before after item ts takes none)
+        ∙ sym (ap (λ (rs : List TypeDeclaration). flat ++ map (found_at before) rs) split)
+        ∙ told
 
 pub all_found : (lines : List LineEntry) (entries : FlatEntries) (order types : List TypeDeclaration) → FlatsAlong lines entries order → IsOrder types order → has_duplicate types ≡ false → has_other_base types ≡ false → HaveLines lines types
     → map (found_at entries) types ≡ map (flat_type types) types

@@ -7,7 +7,7 @@ use Rattle.ned_trees.specs.declared.declarations.TypeDeclaration.{TypeDeclaratio
 use Rattle.ned_types.specs.Types.{has_duplicate, is_interface_kind, is_type_named, type_named}
 use Rattle.ned_types.specs.WellFormed.{IsAmong}
 use Rattle.ned_inheritance.specs.Inheritance.{bare, behind_all, flat_interface, gathered, joined_behind, once_behind, reached, types_in, with_members, without_interfaces}
-use Rattle.ned_inheritance.specs.Named.{AddsLine, HaveLines, HaveLinesOf, IsBehind, LinesAlong, StandBehind, flat_by_lines, is_bare, kept, kept_behind, line_at, line_or_none}
+use Rattle.ned_inheritance.specs.Named.{AddsLine, HaveLines, HaveLinesOf, IsBehind, LinesAlong, StandBehind, flat_by_lines, kept, kept_behind, line_at, line_or_none}
 use Rattle.ned_inheritance.specs.Order.{IsOrder}
 use Rattle.ned_inheritance.proofs.Circles.{filter_among, less}
 use Rattle.ned_inheritance.proofs.WellFormedLaws.{any_is, same_names, names_same, type_is, types_apart}

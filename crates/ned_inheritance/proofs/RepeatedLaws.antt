@@ -5,7 +5,6 @@ use Rattle.std.specs.Option.{option_map}
 use Rattle.ned_trees.specs.declared.declarations.TypeDeclaration.{TypeDeclaration}
 use Rattle.ned_types.specs.Flat.{or_else}
 use Rattle.ned_types.specs.Types.{type_named}
-use Rattle.ned_inheritance.specs.declared.places.Member.{Member}
 use Rattle.ned_inheritance.specs.declared.places.Member.TheVariants.{LacksParameter, LacksGate}
 use Rattle.ned_inheritance.specs.Interfaces.{lacks_gate, lacks_parameter}
 use Rattle.ned_inheritance.specs.Places.{first_from, lacked_of_any}

@@ -84,6 +84,11 @@ abbrev pub AddsFlat : FlatEntries → FlatEntries → TypeDeclaration → TypeDe
 AddsFlat before after t flat = (name : List ℕ)
     → flat_at after name ≡ (if bytes_eq t.name name then Some flat else flat_at before name)
 
+-- the flat type at the name of a type was taken out, and none else
+abbrev pub TakesFlat : FlatEntries → FlatEntries → TypeDeclaration → Type 0
+TakesFlat before after t = (name : List ℕ) → bytes_eq t.name name ≡ false
+    → flat_at after name ≡ flat_at before name
+
 -- at the name of each type that was seen stands its flat type, and at other names none
 abbrev pub HaveFlats : FlatEntries → List TypeDeclaration → List TypeDeclaration → Type 0
 HaveFlats entries types seen =

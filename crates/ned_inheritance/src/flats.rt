@@ -6,7 +6,7 @@ ghost use Rattle.ned_types.specs.Flat.{class_in, class_of, named_or};
 ghost use Rattle.ned_types.specs.Types.{has_duplicate, is_simple_kind};
 ghost use Rattle.ned_inheritance.specs.Flats.{bare_derived_with, flat_behind, flat_by_base};
 ghost use Rattle.ned_inheritance.specs.Flats.{found_at, derived_alone, derived_by, derived_over};
-ghost use Rattle.ned_inheritance.specs.Flats.{own_lines, with_inherited, AddsFlat, FlatsAlong};
+ghost use Rattle.ned_inheritance.specs.Flats.{own_lines, with_inherited, AddsFlat, FlatsAlong, TakesFlat};
 ghost use Rattle.ned_inheritance.specs.Inheritance.{class_lines, flat_type, has_other_base};
 ghost use Rattle.ned_inheritance.specs.Inheritance.{types_in};
 ghost use Rattle.ned_inheritance.specs.Named.{HaveLines};
@@ -259,45 +259,51 @@ fn flats_of<'a>(
     after(flats, done)
 }
 
-/// The flat type of a type; the type itself where there is none.
-fn found(
+/// Takes the flat type of a type out of the table; an equal type where there is none.
+fn taken(
     alloc: Global,
-    flats: &Flats<'_>,
+    flats: &mut Flats<'_>,
     declared: &TypeDeclaration,
 ) -> Result<TypeDeclaration, AllocError>
-    ensures { IfOk result (λ flat. flat ≡ found_at flats.now.entries declared.now) }
+    ensures flat { IfOk result (λ flat. flat ≡ found_at flats.old.entries declared.now) }
+    ensures left { TakesFlat flats.old.entries flats.new.entries declared.now }
 {
-    match flats.get(declared.name.as_bytes()) {
-        Some(flat) => copy_type(alloc, flat),
+    match flats.swap_remove(declared.name.as_bytes()) {
+        Some(flat) => Ok(flat),
         None => copy_type(alloc, declared),
     }
 }
 
-/// Adds the flat type of each.
-fn add_found(
+/// Adds the flat type of each, which the table loses.
+fn add_taken(
     alloc: Global,
     flat: &mut Items<TypeDeclaration>,
-    flats: &Flats<'_>,
+    flats: &mut Flats<'_>,
     types: &[TypeDeclaration],
 ) -> Result<(), AllocError>
-    ensures { OnOk result (flat.new ≡ flat.old ++ map (found_at flats.now.entries) types.now) }
+    requires { has_duplicate types.now ≡ false }
+    ensures { OnOk result (flat.new ≡ flat.old ++ map (found_at flats.old.entries) types.now) }
 {
-    for declared in types {
-        flat.push(found(alloc, flats, declared)?)?;
+    let mut rest = types;
+    while let [declared, after @ ..] = rest {
+        flat.push(taken(alloc, flats, declared)?)?;
+        rest = after;
     }
     Ok(())
 }
 
 /// The flat type of each.
-fn found_all(
+fn all_taken(
     alloc: Global,
-    flats: &Flats<'_>,
+    flats: Flats<'_>,
     types: &[TypeDeclaration],
 ) -> Result<Items<TypeDeclaration>, AllocError>
-    ensures { IfOk result (λ flat. flat ≡ map (found_at flats.now.entries) types.now) }
+    requires { has_duplicate types.now ≡ false }
+    ensures { IfOk result (λ flat. flat ≡ map (found_at flats.entry.entries) types.now) }
 {
+    let mut flats = flats;
     let mut flat = Items::new(alloc);
-    let done = add_found(alloc, &mut flat, flats, types);
+    let done = add_taken(alloc, &mut flat, &mut flats, types);
     after(flat, done)
 }
 
@@ -317,5 +323,5 @@ pub(crate) fn flat_types<'a>(
     ensures { IfOk result (λ flat. flat ≡ map (flat_type types.now) types.now) }
 {
     let flats = flats_of(alloc, lines, order)?;
-    found_all(alloc, &flats, types)
+    all_taken(alloc, flats, types)
 }

@@ -6,6 +6,6 @@ use Rattle.ned_inheritance.proofs.flats.flat_types.Goals as goal
 
 pub returns : goal.returns
 returns c =
-    subst (λ (all : List TypeDeclaration). IfOk c.found_all.result (λ flat. flat ≡ all))
+    subst (λ (all : List TypeDeclaration). IfOk c.all_taken.result (λ flat. flat ≡ all))
     (all_found c.args.lines.now.entries c.in_ok-flats.flats.entries (types_in c.args.order.now) c.args.types.now c.in_ok-flats.ensures c.requires.order c.requires.apart c.requires.fit c.requires.lines)
-    c.found_all.ensures
+    c.all_taken.ensures
