@@ -219,7 +219,7 @@ pub fn positions_text(alloc: Global, counts: &[u64]) -> Result<Name, NoMemory>
 }
 
 /// The text `refused NAME`.
-pub fn refused_as(alloc: Global, name: &[u8]) -> Result<Text, NoMemory>
+fn refused_as(alloc: Global, name: &[u8]) -> Result<Text, NoMemory>
     ensures { IfOk result (λ text. text ≡ codes "refused " ++ name.now) }
 {
     let mut text = TextWriter::new(alloc);

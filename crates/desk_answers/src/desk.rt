@@ -102,7 +102,8 @@ impl<C: Catalogue> Desk<C> {
 
     /// Answers a command that asks for no run. One that asks to write files, or names a file that
     /// is to be read, is no command here: who asks does these. Where memory runs out there is no
-    /// answer, and nothing changed; it doesn't for a command that is refused by its name alone.
+    /// answer, and nothing changed; it doesn't for `write`, nor for a line that is too long or no
+    /// command.
     pub fn reply(&mut self, command: Command) -> Result<Answer, NoMemory>
         requires sound { IsSettled C.behaviour SimpleModule-box self.old }
         requires plain { AsksNoRun command }

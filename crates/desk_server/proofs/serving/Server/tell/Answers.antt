@@ -1,5 +1,4 @@
-use Rattle.std.proofs.Common.{ap, ◌∙◌, rules}
-use Rattle.desk_answers.specs.Turns.{editing_at, Forgoes}
+use Rattle.std.proofs.Common.{◌∙◌, rules}
 use Rattle.module_stock.specs.Stock.{stock}
 use Rattle.desk_server.specs.Serving.{seen_in}
 use Rattle.desk_server.proofs.Hearing.{tells_forgone, tells_reply}
