@@ -29,8 +29,8 @@ ThreeTicks = Gives three_ticks 100
 
 -- no ticks: the vector file is its header, and nothing has no greatest value
 abbrev pub NoTicks : Type 0
-NoTicks = Gives (ticks (codes "t" ∷ [])
-    (given (codes "count") (codes "0") (values.Whole (pos 0)) ∷ [])) 100
+NoTicks = Gives
+    (ticks (codes "t" ∷ []) (given (codes "count") (codes "0") (values.Whole (pos 0)) ∷ [])) 100
     (codes "done no-more-events from start executed 0")
     (header ++ codes "config **.count 0\n\nscalar N.t fired:count 0\n")
     (header ++ codes "config **.count 0\n\n")
@@ -38,8 +38,8 @@ NoTicks = Gives (ticks (codes "t" ∷ [])
 -- two Ticks that fire at equal times, in the order of their insertion
 abbrev pub TwoModules : Type 0
 TwoModules = Gives (ticks (codes "a" ∷ codes "b" ∷ [])
-    (given (codes "count") (codes "2") (values.Whole (pos 2)) ∷ [])) 100
-    (codes "done no-more-events from start executed 4")
+    (given (codes "count") (codes "2") (values.Whole (pos 2)) ∷ []))
+    100 (codes "done no-more-events from start executed 4")
     (header
     ++ codes "config **.count 2\n\nscalar N.a fired:count 2\nscalar N.a fired:max 2\nscalar N.b fired:count 2\nscalar N.b fired:max 2\n")
     (header
@@ -48,11 +48,12 @@ TwoModules = Gives (ticks (codes "a" ∷ codes "b" ∷ [])
 -- the second tick would come after the greatest time: no module is finished, and so the scalar file
 -- is its header
 abbrev pub TimeOverflow : Type 0
-TimeOverflow =
-    Gives (ticks (codes "t" ∷ []) (given (codes "count") (codes "2") (values.Whole (pos 2))
+TimeOverflow = Gives (ticks (codes "t" ∷ [])
+    (given (codes "count") (codes "2") (values.Whole (pos 2))
     ∷ given (codes "gap") (codes "9223372.036854775807s")
-    (values.Quantity dimension.Time (pos 9223372036854775807)) ∷ [])) 100
-    (codes "done fault 1 N.t TimeOverflow from start executed 1")
+    (values.Quantity dimension.Time (pos 9223372036854775807))
+    ∷ []))
+    100 (codes "done fault 1 N.t TimeOverflow from start executed 1")
     (header ++ codes "config **.count 2\nconfig **.gap 9223372.036854775807s\n\n")
     (header
     ++ codes "config **.count 2\nconfig **.gap 9223372.036854775807s\n\nvector 0 N.t fired:vector ETV\n0\t1\t9223372.036854775807\t1\n")

@@ -126,9 +126,12 @@ pub trait Client<O: Out + Drop> {
         ensures kept { keeps self.new }
         ensures label { label self.new ≡ label self.old }
         ensures stuck { OnErr result (stops self.new why.Gone) }
-        ensures heard { OnOk result (heard self.new ≡ heard self.old
+        ensures heard { OnOk result
+            (heard self.new
+            ≡ heard self.old
             ++ Files pages.config.bytes (O.taken pages.scalars).bytes
-            (O.taken pages.vectors).bytes ∷ []) }
+            (O.taken pages.vectors).bytes
+            ∷ []) }
         ensures gone { OnErr result (heard self.new ≡ heard self.old) }
         ensures asked { asked self.new ≡ asked self.old }
         ensures left { left self.new ≡ left self.old };

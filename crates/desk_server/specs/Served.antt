@@ -97,8 +97,9 @@ HearsHeld held heard = (heard ≡ Answer (held_text held) ∷ []) ⊎ (heard ≡
 -- configuration that the model selects. Where no run is done there are none.
 abbrev pub HearsFiles : Behaviour → Model → Option ℕ → List Heard → Type 0
 HearsFiles b m None heard = heard ≡ Answer (codes "refused NotDone") ∷ []
-HearsFiles b m (Some limit) heard = heard ≡ Files m.config (scalars_of_run b m limit)
-    (vectors_of_run b m limit) ∷ Answer (codes "written") ∷ []
+HearsFiles b m (Some limit) heard = heard
+    ≡ Files m.config (scalars_of_run b m limit) (vectors_of_run b m limit)
+    ∷ Answer (codes "written") ∷ []
 
 -- WHAT IS HEARD OF A COMMAND, and what the machine holds after it
 abbrev pub Hears : Behaviour → Machine → Command → List Heard → Machine → Type 0

@@ -166,8 +166,8 @@ IsHeardRun b limit before after = (after.asked ≡ before.asked) × (after.may �
     × HearsRun b s limit front s' × IsAt b after.editing s')
 
 -- The first part of it is heard, or nothing, and no more, wherever the machine may be.
-pub record IsCutOff (b : Behaviour) (c : Command) (may_be : Machine
-    → Type 0) (before after : Seen) : Type 0 where
+pub record IsCutOff (b : Behaviour) (c : Command) (may_be : Machine → Type 0)
+    (before after : Seen) : Type 0 where
   pub asked : after.asked ≡ before.asked
   pub more : List Heard
   pub heard : after.heard ≡ before.heard ++ more
@@ -207,8 +207,8 @@ module _ {O K X : Type 0} {Y : X → Type 0} where
   IsServer b members server = IsSettled b members server.desk
 
   -- What each step that answers a command takes for granted.
-  pub record IsReady (b : Behaviour) (members : Members X Y) (keeps : K
-      → Type 0) (server : Server O K X Y) : Type 0 where
+  pub record IsReady (b : Behaviour) (members : Members X Y) (keeps : K → Type 0)
+      (server : Server O K X Y) : Type 0 where
     -- the desk keeps what it keeps
     pub sound : IsServer b members server
     -- no run goes on
@@ -218,8 +218,8 @@ module _ {O K X : Type 0} {Y : X → Type 0} where
 
   -- What each step comes to, by what the client says of itself. The step's own relation, and which
   -- of its answers end it, are handed over: it answers a `Next` or a `ServerStep`.
-  pub record Serves {R : Type 0} (b : Behaviour) (members : Members X Y) (asked_of : K
-      → List AskedLine) (heard_of : K → List Heard) (may_ask : K → ℕ)
+  pub record Serves {R : Type 0} (b : Behaviour) (members : Members X Y)
+      (asked_of : K → List AskedLine) (heard_of : K → List Heard) (may_ask : K → ℕ)
       (keeps : K → Type 0) (label_of : K → ℕ) (stops_of : K → ServeEnd → Type 0)
       (may_stop : (ServeEnd → Type 0) → R → Type 0) (is_step : Seen → Seen → R → Type 0)
       (before after : Server O K X Y) (answer : R) : Type 0 where
@@ -237,10 +237,9 @@ module _ {O K X : Type 0} {Y : X → Type 0} where
 
   -- The client hears this, an answer or that memory ran out, or is gone, and nothing else changes
   -- but which run goes on.
-  pub record Tells (asked_of : K → List AskedLine) (heard_of : K → List Heard) (may_ask : K
-      → ℕ) (keeps : K → Type 0) (label_of : K → ℕ)
-      (stops_of : K → ServeEnd → Type 0) (told : Heard) (goes_on : Option ℕ)
-      (before after : Server O K X Y) (answer : Next) : Type 0 where
+  pub record Tells (asked_of : K → List AskedLine) (heard_of : K → List Heard) (may_ask : K → ℕ)
+      (keeps : K → Type 0) (label_of : K → ℕ) (stops_of : K → ServeEnd → Type 0) (told : Heard)
+      (goes_on : Option ℕ) (before after : Server O K X Y) (answer : Next) : Type 0 where
     -- the client keeps true of itself what it says
     pub kept : keeps after.client
     -- its label is that from before

@@ -91,8 +91,8 @@ place_at s t = option_or (first_at s.firsts t) (other_at s.others t)
 
 -- each timer of the events stands at its place, and nothing else does; and numbers are below the
 -- next
-pub record AreSound (es : List (Key × EventEntry)) (at : TimerKey
-    → Option Key) (next : ℕ) : Type 0 where
+pub record AreSound (es : List (Key × EventEntry)) (at : TimerKey → Option Key)
+    (next : ℕ) : Type 0 where
   pub ordered : IsStrictlySortedBy key_order (keys_of es)
   pub below : Each (λ (e : Key × EventEntry). e.0.number < next) es
   pub placed : (k : Key) (e : EventEntry) (t : TimerKey) → at_key es k ≡ Some e

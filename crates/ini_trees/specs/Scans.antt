@@ -46,9 +46,9 @@ abbrev pub IsWantedAmong : Wanted → List Bytes → Option Bytes → LineMeanin
 IsWantedAmong wanted names section m (Some (at, entry)) =
     (name : Bytes) × IsPlace names name (Some at) × (section ≡ Some name)
     × (m ≡ line.Entry entry.now) × (is_wanted wanted entry.now.meaning ≡ true)
-IsWantedAmong wanted names section m None =
-    (k : ℕ) → k < length names → option_and_then (wanted_of wanted)
-    (entry_here (is_in (slice_index_or names k []) section) m) ≡ None
+IsWantedAmong wanted names section m None = (k : ℕ) → k < length names
+    → option_and_then (wanted_of wanted) (entry_here (is_in (slice_index_or names k []) section) m)
+    ≡ None
 
 -- the first that is looked for in these sections, of lines of which the first stands in this
 -- section

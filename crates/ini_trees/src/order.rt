@@ -207,8 +207,9 @@ impl Walk {
         requires within { top < length rows.now }
         requires passed { length self.old.passed ≡ length rows.now }
         requires done { length self.old.done ≡ length rows.now }
-        ensures { (root : ℕ) (front : List ℕ) → IsWalk rows.now root self.old.path
-            self.old.passed self.old.done self.old.order → self.old.path ≡ front ++ top ∷ []
+        ensures { (root : ℕ) (front : List ℕ)
+            → IsWalk rows.now root self.old.path self.old.passed self.old.done self.old.order
+            → self.old.path ≡ front ++ top ∷ []
             → SettlesStep rows.now root self.old self.new result }
     {
         match next_at(rows, self.passed.as_slice(), self.done.as_slice(), top) {

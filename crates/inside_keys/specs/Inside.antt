@@ -227,8 +227,10 @@ module _ (m : Module) (names : List (List ℕ)) (gates : List TypeGates) (is_who
 abbrev pub gates : Module → (List ℕ → What) → List TypeGate → State → Rest → KeyAsking
 gates m size [] s rest = rest s
 gates m size (g ∷ gs) s rest =
-    if g.kind.is_vector then ask_then (key m (size g.name)) (λ v. size_then v
-    (λ n. gates m size gs (grown s n) rest)) else gates m size gs (grown s 1) rest
+    if g.kind.is_vector
+    then ask_then (key m (size g.name))
+    (λ v. size_then v (λ n. gates m size gs (grown s n) rest))
+    else gates m size gs (grown s 1) rest
 
 -- THE DECLARED SIZES OF A SUBMODULE'S GATES. One that is given to what is no gate vector of that
 -- name is asked for first, and refused

@@ -225,8 +225,9 @@ module _ (s : ModuleRules) where
   abbrev pub type_asking_by : Module → TypeDeclaration → ParametricType → SubmoduleBody
       → Option Written → KeyAsking
   type_asking_by around t p body None = Done (Err Unassigned)
-  type_asking_by around t p body (Some w) = valued_then (meant_under []
-      (place_in s around section.OfInside)) (valued w.expression) (type_told t p body)
+  type_asking_by around t p body (Some w) = valued_then
+      (meant_under [] (place_in s around section.OfInside)) (valued w.expression)
+      (type_told t p body)
 
   -- WHAT CHOOSES THE TYPE OF A SUBMODULE: `<e>`; or the first entry of the ini text that matches
   -- its path and `typename`; or `<default(e)>`

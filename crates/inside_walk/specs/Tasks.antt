@@ -171,8 +171,9 @@ module _ (g : Ground) where
   abbrev pub waited : Wait → Value → State → Rest → KeyAsking
   waited wait.Parameter v s rest = rest s
   waited wait.Gate v s rest = size_then v (λ n. rest (grown s n))
-  waited (wait.Condition l) v s rest = truth_then v (submodule_there g.site g.types.now g.gates.now
-      g.is_whole l.now s rest) (rest (noted s Absent))
+  waited (wait.Condition l) v s rest = truth_then v
+      (submodule_there g.site g.types.now g.gates.now g.is_whole l.now s rest)
+      (rest (noted s Absent))
   waited (wait.Size l) v s rest = size_then v (λ n. elements g.site g.types.now g.gates.now
       g.is_whole n n l.now (noted s (Vector (length s.parts.parts) n)) rest)
   waited (wait.Type l index) v s rest = number_then v (λ n. element_typed g.site g.types.now

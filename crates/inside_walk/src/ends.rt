@@ -254,9 +254,10 @@ fn named<'m>(
 ) -> Result<Next<'m>, InsideError>
     ensures leads { Leads ground.now result tasks.new (name_begun ground.now connection.now side
         (scope_of tasks.old) state (continued ground.now tasks.old) name.now) }
-    ensures spends { Spends ground.now (of_maybe name.now.index
-        + of_position (end_at side connection.now).gate.index + of_rest connection.now side + 4) 0
-        tasks.old state.turns result tasks.new }
+    ensures spends { Spends ground.now
+        (of_maybe name.now.index + of_position (end_at side connection.now).gate.index
+        + of_rest connection.now side + 4)
+        0 tasks.old state.turns result tasks.new }
 {
     match &name.index {
         Some(index) => {

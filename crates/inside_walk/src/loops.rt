@@ -267,9 +267,10 @@ fn connection_line<'m>(
         (inside.looped ground.now.place line.now.clauses (inside.connected ground.now.place
         ground.now.submodules.now ground.now.gates.now (joined ground.now) line.now.connection)
         (scope_of tasks.old) state (continued ground.now tasks.old)) }
-    ensures spends { Spends ground.now (of_clauses line.now.clauses (of_connection
-        line.now.connection)) (of_clauses line.now.clauses (of_connection line.now.connection))
-        tasks.old state.turns result tasks.new }
+    ensures spends { Spends ground.now
+        (of_clauses line.now.clauses (of_connection line.now.connection))
+        (of_clauses line.now.clauses (of_connection line.now.connection)) tasks.old state.turns
+        result tasks.new }
 {
     let body = body_of_line(line);
     clauses(alloc, ground, tasks, line.clauses.as_slice(), body, state)
@@ -310,9 +311,10 @@ fn group<'m>(
         (inside.looped ground.now.place group.now.clauses (inside.connection_lines ground.now.place
         ground.now.submodules.now ground.now.gates.now (joined ground.now) group.now.lines)
         (scope_of tasks.old) state (continued ground.now tasks.old)) }
-    ensures spends { Spends ground.now (of_clauses group.now.clauses (of_connection_lines
-        group.now.lines)) (of_clauses group.now.clauses (of_connection_lines group.now.lines))
-        tasks.old state.turns result tasks.new }
+    ensures spends { Spends ground.now
+        (of_clauses group.now.clauses (of_connection_lines group.now.lines))
+        (of_clauses group.now.clauses (of_connection_lines group.now.lines)) tasks.old state.turns
+        result tasks.new }
 {
     let body = Body::Connections(group.lines.as_slice());
     clauses(alloc, ground, tasks, group.clauses.as_slice(), body, state)

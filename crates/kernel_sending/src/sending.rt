@@ -155,9 +155,11 @@ fn can_leave<A: Answers>(
     id: u32,
     gate: &OwnGate,
 ) -> Result<bool, NoMemory>
-    ensures asked { IfOk result (λ can. (next : Bool → World → Flow)
+    ensures asked { IfOk result
+        (λ can. (next : Bool → World → Flow)
         → asking A.answers (GateSize id gate.now.name)
-        (λ a v. next (is_out_gate a gate.now.index) v) core.old ≡ next can core.new) }
+        (λ a v. next (is_out_gate a gate.now.index) v) core.old
+        ≡ next can core.new) }
     ensures next { core.new.next ≡ core.old.next }
     ensures grown { IsGrownFrom core.old core.new }
 {
@@ -224,9 +226,11 @@ fn is_taken<A: Answers>(
     model: &mut A,
     gate: &PlacedGate,
 ) -> Result<bool, NoMemory>
-    ensures asked { IfOk result (λ taken. (next : Bool → World → Flow)
+    ensures asked { IfOk result
+        (λ taken. (next : Bool → World → Flow)
         → asking A.answers (HopBack gate.now.id gate.now.name gate.now.index)
-        (λ a v. next (is_connected a) v) core.old ≡ next taken core.new) }
+        (λ a v. next (is_connected a) v) core.old
+        ≡ next taken core.new) }
     ensures next { core.new.next ≡ core.old.next }
     ensures grown { IsGrownFrom core.old core.new }
 {
@@ -268,9 +272,11 @@ fn can_enter<A: Answers>(
     id: u32,
     place: &GatePlace,
 ) -> Result<bool, NoMemory>
-    ensures asked { IfOk result (λ can. (next : Bool → World → Flow)
+    ensures asked { IfOk result
+        (λ can. (next : Bool → World → Flow)
         → asking A.answers (GateSize id place.now.name)
-        (λ a v. next (is_in_gate a place.now.index) v) core.old ≡ next can core.new) }
+        (λ a v. next (is_in_gate a place.now.index) v) core.old
+        ≡ next can core.new) }
     ensures next { core.new.next ≡ core.old.next }
     ensures grown { IsGrownFrom core.old core.new }
 {

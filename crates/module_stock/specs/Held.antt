@@ -64,9 +64,14 @@ headed kind priority length_in_bits size =
 unfoldable pub header_in : State → Option (Header × List ℕ)
 header_in state =
     option_and_then
-    (λ kind. option_and_then (λ priority. option_and_then (λ length_in_bits. option_map (λ size.
-    headed kind.0 priority.0 length_in_bits.0 size)
-    (take_word length_in_bits.1)) (take_long priority.1)) (take_word kind.1)) (take_word state)
+    (λ kind. option_and_then
+    (λ priority. option_and_then
+    (λ length_in_bits. option_map
+    (λ size. headed kind.0 priority.0 length_in_bits.0 size)
+    (take_word length_in_bits.1))
+    (take_long priority.1))
+    (take_word kind.1))
+    (take_word state)
 
 -- a message with such a header, and as many of these bytes as it says
 abbrev pub with_payload : Header × List ℕ → Option (Outgoing × List ℕ)

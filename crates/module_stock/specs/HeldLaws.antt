@@ -41,8 +41,9 @@ header_fits m fits = record {
   size = fits.payload;
 }
 
-header_in-bytes : (h : Header) (rest : List ℕ) → FitsHeader h → header_in
-    (word h.kind ++ (word h.priority ++ (long h.bits ++ (word h.size ++ rest)))) ≡ Some (h, rest)
+header_in-bytes : (h : Header) (rest : List ℕ) → FitsHeader h
+    → header_in (word h.kind ++ (word h.priority ++ (long h.bits ++ (word h.size ++ rest))))
+    ≡ Some (h, rest)
 unfolding header_in
 header_in-bytes h rest fits =
     ap (option_and_then (λ kind. option_and_then (λ priority. option_and_then
@@ -90,13 +91,15 @@ front_of-message m rest fits =
     ∙ with_payload-is m rest fits)
 
 -- a message has a byte at least, so its bytes are not none
-some_byte : (m : Outgoing) (rest : List ℕ) (messages : State → Option (List Outgoing)) → messages_by
-    messages (message_bytes m ++ rest) ≡ behind_front messages (front_of (message_bytes m ++ rest))
+some_byte : (m : Outgoing) (rest : List ℕ) (messages : State → Option (List Outgoing))
+    → messages_by messages (message_bytes m ++ rest)
+    ≡ behind_front messages (front_of (message_bytes m ++ rest))
 unfolding message_bytes header_bytes word
 some_byte m rest messages = refl
 
-messages_in-message : (most : ℕ) (m : Outgoing) (rest : List ℕ) → Fits m → messages_in (suc most)
-    (message_bytes m ++ rest) ≡ option_map (λ ms. m ∷ ms) (messages_in most rest)
+messages_in-message : (most : ℕ) (m : Outgoing) (rest : List ℕ) → Fits m
+    → messages_in (suc most) (message_bytes m ++ rest)
+    ≡ option_map (λ ms. m ∷ ms) (messages_in most rest)
 messages_in-message most m rest fits =
     some_byte m rest (messages_in most)
     ∙ ap (behind_front (messages_in most)) (front_of-message m rest fits)
@@ -221,8 +224,9 @@ behind-fits : (messages : State → Option (List Outgoing)) → ((s : State) →
 behind-fits messages all None h = tt
 behind-fits messages all (Some p) h = one_more-fits p.0 h (messages p.1) (all p.1)
 
-messages_by-fit : (messages : State → Option (List Outgoing)) → ((s : State)
-    → OnMessages (messages s)) → (state : State) → OnMessages (messages_by messages state)
+messages_by-fit : (messages : State → Option (List Outgoing))
+    → ((s : State) → OnMessages (messages s)) → (state : State)
+    → OnMessages (messages_by messages state)
 messages_by-fit messages all [] = tt
 messages_by-fit messages all (b ∷ bs) =
     behind-fits messages all (front_of (b ∷ bs)) (front_of-fits (b ∷ bs))

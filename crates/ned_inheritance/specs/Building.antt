@@ -30,8 +30,9 @@ use Rattle.ned_types.specs.WellFormed.{IsAmong, IsTypeOf, IsWellFormed}
 abbrev pub base_fault : List TypeDeclaration → Option TypeFault
 base_fault types =
     if has_duplicate types then Some DuplicateType
-    else (if has_unknown types || (has_unknown_base types
-    || (has_unknown_interface types || has_unknown_channels types)) then Some UnknownType
+    else (if has_unknown types
+    || (has_unknown_base types || (has_unknown_interface types || has_unknown_channels types))
+    then Some UnknownType
     else (if has_circle types then Some InheritanceCircle
     else (if has_inner_network types || (has_other_base types || has_other_interface types)
     then Some KindClash else None)))

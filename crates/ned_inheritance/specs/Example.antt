@@ -433,9 +433,12 @@ pub record ExampleIsFlat : Type 0 where
       ≡ Some (time_of 2000000000000)
   pub statistics : statistics_of (flat_type (tick ∷ slow ∷ []) slow).lines ≡ summed ∷ []
   pub own_class : class_of (flat_type (tick ∷ classed (codes "Fast") (codes "Tick") ∷ [])
-      (classed (codes "Fast") (codes "Tick"))) ≡ codes "Own"
-  pub class_between : class_of (flat_type (heir (codes "Last") (codes "Fast") ∷ tick ∷ classed
-      (codes "Fast") (codes "Tick") ∷ []) (heir (codes "Last") (codes "Fast"))) ≡ codes "Own"
+      (classed (codes "Fast") (codes "Tick")))
+      ≡ codes "Own"
+  pub class_between : class_of (flat_type
+      (heir (codes "Last") (codes "Fast") ∷ tick ∷ classed (codes "Fast") (codes "Tick") ∷ [])
+      (heir (codes "Last") (codes "Fast")))
+      ≡ codes "Own"
   pub root : flat_type (tick ∷ slow ∷ []) tick ≡ tick
 
 -- the first fault in the order DuplicateType, UnknownType, InheritanceCircle, KindClash, wherever
@@ -472,18 +475,24 @@ pub record ExampleBodies : Type 0 where
   pub default_after : fault_with (codes "Slow") (default_gap 5 ∷ []) ≡ Some KindClash
   pub unknown : fault_with (codes "Tick") (second_for (codes "gab") ∷ []) ≡ Some KindClash
   pub declared_again : fault_with (codes "Tick") (double_named (codes "gap") ∷ []) ≡ Some KindClash
-  pub declared : fault_with (codes "Tick") (double_named (codes "own") ∷ second_for (codes "own")
-      ∷ []) ≡ Some KindClash
+  pub declared : fault_with (codes "Tick")
+      (double_named (codes "own") ∷ second_for (codes "own") ∷ [])
+      ≡ Some KindClash
   pub around : fault_of (network_of (double_named (codes "own") ∷ [])
-      (t_with (codes "Tick") (second_for (codes "own") ∷ []) ∷ []) ∷ tick ∷ []) ≡ Some KindClash
-  pub network : flat_type (network_of (double_named (codes "own") ∷ []) [] ∷ tick ∷ []) (network_of
-      (double_named (codes "own") ∷ []) []) ≡ network_of (double_named (codes "own") ∷ []) []
-  pub section : fault_of (network_of (double_named (codes "own") ∷ second_for (codes "own") ∷ []) []
-      ∷ []) ≡ None
+      (t_with (codes "Tick") (second_for (codes "own") ∷ []) ∷ [])
+      ∷ tick ∷ [])
+      ≡ Some KindClash
+  pub network : flat_type (network_of (double_named (codes "own") ∷ []) [] ∷ tick ∷ [])
+      (network_of (double_named (codes "own") ∷ []) [])
+      ≡ network_of (double_named (codes "own") ∷ []) []
+  pub section : fault_of
+      (network_of (double_named (codes "own") ∷ second_for (codes "own") ∷ []) [] ∷ [])
+      ≡ None
   pub section_unknown : fault_of (network_of (second_for (codes "own") ∷ []) [] ∷ [])
       ≡ Some KindClash
-  pub section_twice : fault_of (network_of (double_named (codes "own") ∷ double_named (codes "own")
-      ∷ []) [] ∷ []) ≡ Some KindClash
+  pub section_twice : fault_of
+      (network_of (double_named (codes "own") ∷ double_named (codes "own") ∷ []) [] ∷ [])
+      ≡ Some KindClash
 
 -- a network that extends another has its parameters, gates and submodules too, those of the root
 -- first; a member of the base isn't declared again, and a network extends networks alone
@@ -497,48 +506,61 @@ pub record ExampleNetworks : Type 0 where
       (derived_network (codes "M") (second_for (codes "own") ∷ []) [])).lines
       ≡ double_named (codes "own") ∷ second_for (codes "own") ∷ []
   pub none : fault_of (derived_network (codes "M") (second_for (codes "own") ∷ [])
-      (tick_named (codes "b") ∷ []) ∷ network_of (double_named (codes "own") ∷ [])
-      (tick_named (codes "a") ∷ []) ∷ tick ∷ []) ≡ None
+      (tick_named (codes "b") ∷ [])
+      ∷ network_of (double_named (codes "own") ∷ []) (tick_named (codes "a") ∷ []) ∷ tick ∷ [])
+      ≡ None
   pub again : fault_of (derived_network (codes "M") [] (tick_named (codes "a") ∷ [])
-      ∷ network_of [] (tick_named (codes "a") ∷ []) ∷ tick ∷ []) ≡ Some KindClash
-  pub body : fault_of (network_of (double_named (codes "own") ∷ []) (t_with (codes "Tick")
-      (second_for (codes "own") ∷ []) ∷ []) ∷ derived_network (codes "M") [] [] ∷ tick ∷ [])
+      ∷ network_of [] (tick_named (codes "a") ∷ []) ∷ tick ∷ [])
       ≡ Some KindClash
-  pub unknown : fault_of (derived_network (codes "M") [] []
-      ∷ network_of [] (t_with (codes "Zed") [] ∷ []) ∷ []) ≡ Some UnknownType
+  pub body : fault_of (network_of (double_named (codes "own") ∷ [])
+      (t_with (codes "Tick") (second_for (codes "own") ∷ []) ∷ [])
+      ∷ derived_network (codes "M") [] [] ∷ tick ∷ [])
+      ≡ Some KindClash
+  pub unknown : fault_of
+      (derived_network (codes "M") [] [] ∷ network_of [] (t_with (codes "Zed") [] ∷ []) ∷ [])
+      ≡ Some UnknownType
   pub of_simple : fault_of (type_with (codes "N") None [] ∷ derived_network (codes "M") [] [] ∷ [])
       ≡ Some KindClash
   pub simple_of : fault_of (network_of [] [] ∷ heir (codes "A") (codes "N") ∷ []) ≡ Some KindClash
   pub circle : fault_of (derived_network (codes "N") [] [] ∷ []) ≡ Some InheritanceCircle
   pub channels : fault_of
-      (channel_of (codes "Fast") (Some (codes "Slow")) ∷ channel_of (codes "Slow") None ∷ []) ≡ None
+      (channel_of (codes "Fast") (Some (codes "Slow")) ∷ channel_of (codes "Slow") None ∷ [])
+      ≡ None
   pub channel_of_simple : fault_of (channel_of (codes "Fast") (Some (codes "Tick")) ∷ tick ∷ [])
       ≡ Some KindClash
-  pub submodule_channel : fault_of (network_of [] (t_with (codes "Slow") [] ∷ [])
-      ∷ channel_of (codes "Slow") None ∷ []) ≡ Some KindClash
+  pub submodule_channel : fault_of
+      (network_of [] (t_with (codes "Slow") [] ∷ []) ∷ channel_of (codes "Slow") None ∷ [])
+      ≡ Some KindClash
 
 -- a channel has what the built-in channel has that its root extends, and no more; those are
 -- parameters with a default
 pub record ExampleChannels : Type 0 where
   pub ideal : (flat_type (channel_with (codes "C") (codes "IdealChannel") [] ∷ [])
-      (channel_with (codes "C") (codes "IdealChannel") [])).lines ≡ []
-  pub delay : (flat_type (channel_with (codes "C") (codes "DelayChannel") [] ∷ []) (channel_with
-      (codes "C") (codes "DelayChannel") [])).lines ≡ delay_default ∷ disabled_default ∷ []
-  pub rate : (flat_type (channel_with (codes "C") (codes "DatarateChannel") [] ∷ []) (channel_with
-      (codes "C") (codes "DatarateChannel") [])).lines ≡ delay_default ∷ disabled_default
-      ∷ rate_default ∷ zero_default (codes "ber") ∷ zero_default (codes "per") ∷ []
+      (channel_with (codes "C") (codes "IdealChannel") [])).lines
+      ≡ []
+  pub delay : (flat_type (channel_with (codes "C") (codes "DelayChannel") [] ∷ [])
+      (channel_with (codes "C") (codes "DelayChannel") [])).lines
+      ≡ delay_default ∷ disabled_default ∷ []
+  pub rate : (flat_type (channel_with (codes "C") (codes "DatarateChannel") [] ∷ [])
+      (channel_with (codes "C") (codes "DatarateChannel") [])).lines
+      ≡ delay_default ∷ disabled_default ∷ rate_default ∷ zero_default (codes "ber")
+      ∷ zero_default (codes "per") ∷ []
   pub behind : (flat_type (slow_channel ∷ channel_of (codes "Slower") (Some (codes "Slow")) ∷ [])
       (channel_of (codes "Slower") (Some (codes "Slow")))).lines
       ≡ delay_default ∷ disabled_default ∷ second_for (codes "delay") ∷ []
   pub none : fault_of (slow_channel ∷ channel_of (codes "Slower") (Some (codes "Slow")) ∷ []) ≡ None
-  pub fixed : fault_of (slow_channel ∷ channel_with (codes "Slower") (codes "Slow")
-      (second_for (codes "delay") ∷ []) ∷ []) ≡ Some KindClash
-  pub no_rate : fault_of (channel_with (codes "C") (codes "DelayChannel")
-      (second_for (codes "datarate") ∷ []) ∷ []) ≡ Some KindClash
-  pub no_delay : fault_of (channel_with (codes "C") (codes "IdealChannel")
-      (second_for (codes "delay") ∷ []) ∷ []) ≡ Some KindClash
-  pub again : fault_of (channel_with (codes "C") (codes "DelayChannel")
-      (double_named (codes "delay") ∷ []) ∷ []) ≡ Some KindClash
+  pub fixed : fault_of (slow_channel
+      ∷ channel_with (codes "Slower") (codes "Slow") (second_for (codes "delay") ∷ []) ∷ [])
+      ≡ Some KindClash
+  pub no_rate : fault_of
+      (channel_with (codes "C") (codes "DelayChannel") (second_for (codes "datarate") ∷ []) ∷ [])
+      ≡ Some KindClash
+  pub no_delay : fault_of
+      (channel_with (codes "C") (codes "IdealChannel") (second_for (codes "delay") ∷ []) ∷ [])
+      ≡ Some KindClash
+  pub again : fault_of
+      (channel_with (codes "C") (codes "DelayChannel") (double_named (codes "delay") ∷ []) ∷ [])
+      ≡ Some KindClash
   pub simple : fault_of (heir (codes "A") (codes "DelayChannel") ∷ []) ≡ Some KindClash
   pub network : fault_of (record {
     kind = Network;
@@ -557,18 +579,24 @@ pub record ExampleChannels : Type 0 where
 -- and a parameter may have one name; and a size, also that of a gate that is declared nowhere, is
 -- no fault of types
 pub record ExampleGates : Type 0 where
-  pub joined : (flat_type (gated
-      (codes "B") (Some (codes "A")) (output_gates (codes "out") ∷ three_of (codes "out") ∷ [])
-      ∷ gated (codes "A") None (input_gate (codes "in") ∷ []) ∷ []) (gated (codes "B")
-      (Some (codes "A")) (output_gates (codes "out") ∷ three_of (codes "out") ∷ []))).gates
+  pub joined : (flat_type (gated (codes "B") (Some (codes "A"))
+      (output_gates (codes "out") ∷ three_of (codes "out") ∷ [])
+      ∷ gated (codes "A") None (input_gate (codes "in") ∷ []) ∷ [])
+      (gated (codes "B") (Some (codes "A"))
+      (output_gates (codes "out") ∷ three_of (codes "out") ∷ []))).gates
       ≡ input_gate (codes "in") ∷ output_gates (codes "out") ∷ three_of (codes "out") ∷ []
   pub sized : fault_of (gated (codes "A") None (output_gates (codes "out") ∷ [])
       ∷ gated (codes "B") (Some (codes "A"))
-      (three_of (codes "out") ∷ three_of (codes "out") ∷ three_of (codes "in") ∷ []) ∷ []) ≡ None
-  pub again : fault_of (gated (codes "A") None (input_gate (codes "g") ∷ []) ∷ gated (codes "B")
-      (Some (codes "A")) (output_gates (codes "g") ∷ []) ∷ []) ≡ Some KindClash
-  pub twice : fault_of (gated (codes "A") None (input_gate (codes "g") ∷ input_gate (codes "h")
-      ∷ input_gate (codes "g") ∷ []) ∷ []) ≡ Some KindClash
+      (three_of (codes "out") ∷ three_of (codes "out") ∷ three_of (codes "in") ∷ [])
+      ∷ [])
+      ≡ None
+  pub again : fault_of (gated (codes "A") None (input_gate (codes "g") ∷ [])
+      ∷ gated (codes "B") (Some (codes "A")) (output_gates (codes "g") ∷ []) ∷ [])
+      ≡ Some KindClash
+  pub twice : fault_of (gated (codes "A") None
+      (input_gate (codes "g") ∷ input_gate (codes "h") ∷ input_gate (codes "g") ∷ [])
+      ∷ [])
+      ≡ Some KindClash
   pub other_kind : fault_of (record {
     kind = Simple;
     name = codes "A";
@@ -611,10 +639,12 @@ pub record ExampleInterfaces : Type 0 where
     loose = false;
   }) ∷ []) ≡ Some Interface
   pub more : fault_like (double_named (codes "own") ∷ double_named (codes "gap") ∷ [])
-      (output_gates (codes "out") ∷ input_gate (codes "in") ∷ []) ≡ None
-  pub of_base : fault_of
-      (keeping (codes "A") (Some (codes "B")) (codes "I" ∷ []) [] (input_gate (codes "in") ∷ [])
-      ∷ type_with (codes "B") None (double_named (codes "gap") ∷ []) ∷ gap_and_in ∷ []) ≡ None
+      (output_gates (codes "out") ∷ input_gate (codes "in") ∷ [])
+      ≡ None
+  pub of_base : fault_of (keeping (codes "A") (Some (codes "B")) (codes "I" ∷ []) []
+      (input_gate (codes "in") ∷ [])
+      ∷ type_with (codes "B") None (double_named (codes "gap") ∷ []) ∷ gap_and_in ∷ [])
+      ≡ None
   pub extended : fault_of (keeping (codes "A") None (codes "J" ∷ []) [] (input_gate (codes "in")
       ∷ []) ∷ interface_of (codes "J") (codes "I" ∷ []) [] [] ∷ gap_and_in ∷ [])
       ≡ Some Interface
@@ -648,54 +678,72 @@ pub record ExampleInterfaces : Type 0 where
     connections = no_connections;
   } ∷ []) ≡ None
   pub last : fault_of (keeping (codes "A") None (codes "I" ∷ []) [] [] ∷ gap_and_in
-      ∷ type_with (codes "B") None (second_for (codes "own") ∷ []) ∷ []) ≡ Some KindClash
+      ∷ type_with (codes "B") None (second_for (codes "own") ∷ []) ∷ [])
+      ≡ Some KindClash
 
 -- an interface has what those have that it extends, each once, in the order in which they are
 -- named; two declarations of one name clash; and what stands among the interfaces of a type is an
 -- interface for its kind
 pub record ExampleExtending : Type 0 where
-  pub flat : flat_type (interface_of (codes "J") (codes "I" ∷ [])
-      (double_named (codes "own") ∷ []) [] ∷ gap_and_in ∷ []) (interface_of (codes "J")
-      (codes "I" ∷ []) (double_named (codes "own") ∷ []) []) ≡ interface_of (codes "J") []
-      (double_named (codes "gap") ∷ double_named (codes "own") ∷ []) (input_gate (codes "in") ∷ [])
+  pub flat : flat_type (interface_of (codes "J") (codes "I" ∷ []) (double_named (codes "own") ∷ [])
+      []
+      ∷ gap_and_in ∷ [])
+      (interface_of (codes "J") (codes "I" ∷ []) (double_named (codes "own") ∷ []) [])
+      ≡ interface_of (codes "J") [] (double_named (codes "gap") ∷ double_named (codes "own") ∷ [])
+      (input_gate (codes "in") ∷ [])
   pub two_ways : (flat_type (interface_of (codes "K") (codes "J" ∷ codes "H" ∷ [])
-      (double_named (codes "k") ∷ []) [] ∷ interface_of (codes "H") (codes "I" ∷ [])
-      (double_named (codes "h") ∷ []) [] ∷ interface_of (codes "J") (codes "I" ∷ [])
-      (double_named (codes "j") ∷ []) [] ∷ gap_and_in ∷ []) (interface_of (codes "K") (codes "J"
-      ∷ codes "H" ∷ []) (double_named (codes "k") ∷ []) [])).lines ≡ double_named (codes "gap")
-      ∷ double_named (codes "j") ∷ double_named (codes "h") ∷ double_named (codes "k") ∷ []
+      (double_named (codes "k") ∷ []) []
+      ∷ interface_of (codes "H") (codes "I" ∷ []) (double_named (codes "h") ∷ []) []
+      ∷ interface_of (codes "J") (codes "I" ∷ []) (double_named (codes "j") ∷ []) []
+      ∷ gap_and_in ∷ [])
+      (interface_of (codes "K") (codes "J" ∷ codes "H" ∷ []) (double_named (codes "k") ∷ [])
+      [])).lines
+      ≡ double_named (codes "gap") ∷ double_named (codes "j") ∷ double_named (codes "h")
+      ∷ double_named (codes "k") ∷ []
   pub two_ways_fine : fault_of (interface_of (codes "K") (codes "J" ∷ codes "H" ∷ []) [] []
       ∷ interface_of (codes "H") (codes "I" ∷ []) [] []
-      ∷ interface_of (codes "J") (codes "I" ∷ []) [] [] ∷ gap_and_in ∷ []) ≡ None
-  pub named_twice : fault_of (interface_of (codes "J") (codes "I" ∷ codes "I" ∷ []) [] []
-      ∷ gap_and_in ∷ []) ≡ None
-  pub twice : fault_of (interface_of (codes "K") (codes "I" ∷ codes "H" ∷ []) [] [] ∷ interface_of
-      (codes "H") [] (double_named (codes "gap") ∷ []) [] ∷ gap_and_in ∷ []) ≡ Some KindClash
+      ∷ interface_of (codes "J") (codes "I" ∷ []) [] [] ∷ gap_and_in ∷ [])
+      ≡ None
+  pub named_twice : fault_of
+      (interface_of (codes "J") (codes "I" ∷ codes "I" ∷ []) [] [] ∷ gap_and_in ∷ [])
+      ≡ None
+  pub twice : fault_of (interface_of (codes "K") (codes "I" ∷ codes "H" ∷ []) [] []
+      ∷ interface_of (codes "H") [] (double_named (codes "gap") ∷ []) [] ∷ gap_and_in ∷ [])
+      ≡ Some KindClash
   pub gate_twice : fault_of (interface_of (codes "J") (codes "I" ∷ []) []
-      (input_gate (codes "in") ∷ []) ∷ gap_and_in ∷ []) ≡ Some KindClash
+      (input_gate (codes "in") ∷ [])
+      ∷ gap_and_in ∷ [])
+      ≡ Some KindClash
   pub unknown : fault_of (keeping (codes "A") None (codes "Zed" ∷ []) [] [] ∷ []) ≡ Some UnknownType
-  pub unknown_base : fault_of (interface_of (codes "J") (codes "I" ∷ codes "Zed" ∷ []) [] []
-      ∷ gap_and_in ∷ []) ≡ Some UnknownType
+  pub unknown_base : fault_of
+      (interface_of (codes "J") (codes "I" ∷ codes "Zed" ∷ []) [] [] ∷ gap_and_in ∷ [])
+      ≡ Some UnknownType
   pub simple : fault_of (keeping (codes "A") None (codes "Tick" ∷ []) [] [] ∷ tick ∷ [])
       ≡ Some KindClash
   pub built_in : fault_of (keeping (codes "A") None (codes "IdealChannel" ∷ []) [] [] ∷ [])
       ≡ Some KindClash
-  pub for_channels : fault_of (keeping (codes "A") None (codes "D" ∷ []) [] []
-      ∷ channel_interface (codes "D") ∷ []) ≡ Some KindClash
-  pub base_for_channels : fault_of (interface_of (codes "J") (codes "D" ∷ []) [] []
-      ∷ channel_interface (codes "D") ∷ []) ≡ Some KindClash
+  pub for_channels : fault_of
+      (keeping (codes "A") None (codes "D" ∷ []) [] [] ∷ channel_interface (codes "D") ∷ [])
+      ≡ Some KindClash
+  pub base_for_channels : fault_of
+      (interface_of (codes "J") (codes "D" ∷ []) [] [] ∷ channel_interface (codes "D") ∷ [])
+      ≡ Some KindClash
   pub extended_by_simple : fault_of (heir (codes "A") (codes "I") ∷ gap_and_in ∷ [])
       ≡ Some KindClash
   pub submodule : fault_of (network_of [] (t_with (codes "I") [] ∷ []) ∷ gap_and_in ∷ [])
       ≡ Some KindClash
-  pub itself : fault_of (interface_of (codes "J") (codes "I" ∷ codes "J" ∷ []) [] [] ∷ gap_and_in
-      ∷ []) ≡ Some InheritanceCircle
+  pub itself : fault_of
+      (interface_of (codes "J") (codes "I" ∷ codes "J" ∷ []) [] [] ∷ gap_and_in ∷ [])
+      ≡ Some InheritanceCircle
   pub circle : fault_of (interface_of (codes "J") (codes "K" ∷ []) [] []
-      ∷ interface_of (codes "K") (codes "J" ∷ []) [] [] ∷ []) ≡ Some InheritanceCircle
-  pub mixed_circle : fault_of (interface_of (codes "J") (codes "A" ∷ []) [] []
-      ∷ heir (codes "A") (codes "J") ∷ []) ≡ Some InheritanceCircle
+      ∷ interface_of (codes "K") (codes "J" ∷ []) [] [] ∷ [])
+      ≡ Some InheritanceCircle
+  pub mixed_circle : fault_of
+      (interface_of (codes "J") (codes "A" ∷ []) [] [] ∷ heir (codes "A") (codes "J") ∷ [])
+      ≡ Some InheritanceCircle
   pub kept_circle : fault_of (keeping (codes "A") None (codes "J" ∷ []) [] []
-      ∷ interface_of (codes "J") (codes "A" ∷ []) [] [] ∷ []) ≡ Some KindClash
+      ∷ interface_of (codes "J") (codes "A" ∷ []) [] [] ∷ [])
+      ≡ Some KindClash
 
 -- the type of a submodule is one of modules, and what stands after `like` an interface of modules,
 -- over whose lines the body stands; a body declares no gate; what a connection names as its channel
@@ -703,9 +751,11 @@ pub record ExampleExtending : Type 0 where
 -- fixed one; a block alone means the built-in channel that has what it sets
 pub record ExampleInsides : Type 0 where
   pub like_interface : fault_inside (like_with (codes "I") (second_for (codes "gap") ∷ []))
-      no_connections ≡ None
+      no_connections
+      ≡ None
   pub like_other : fault_inside (like_with (codes "I") (second_for (codes "own") ∷ []))
-      no_connections ≡ Some KindClash
+      no_connections
+      ≡ Some KindClash
   pub like_simple : fault_inside (like_with (codes "Tick") []) no_connections ≡ Some KindClash
   pub like_unknown : fault_inside (like_with (codes "Zed") []) no_connections ≡ Some UnknownType
   pub gate_declared : fault_inside (gates_with (input_gate (codes "in") ∷ [])) no_connections

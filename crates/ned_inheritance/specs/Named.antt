@@ -70,8 +70,11 @@ line_at entries name = line_or_none (lookup (λ k. bytes_eq name k.now) entries)
 
 -- whether a type has no members of its own, and extends no type
 abbrev pub is_bare : TypeDeclaration → Bool
-is_bare t = is_none t.base && (length t.lines == 0 && (length t.gates == 0 && (length t.submodules
-    == 0 && (length t.connections.items == 0 && not t.connections.allow_unconnected))))
+is_bare t = is_none t.base
+    && (length t.lines == 0
+    && (length t.gates == 0
+    && (length t.submodules == 0
+    && (length t.connections.items == 0 && not t.connections.allow_unconnected))))
 
 abbrev pub has_kept : Option TypeDeclaration → Bool
 has_kept None = false

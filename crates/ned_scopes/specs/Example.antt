@@ -182,9 +182,9 @@ pub record ExampleScopes : Type 0 where
   -- and the type of a submodule, but in the types of its own network and of that one's bases alone:
   -- A in Within isn't that of Net. What is found nowhere keeps its name
   pub parts : map (λ (t : TypeDeclaration). map (λ (s : Submodule). type_name s) t.submodules)
-      example ≡
-      [] ∷ [] ∷ [] ∷ (codes "Net.A" ∷ codes "Base.B" ∷ codes "E" ∷ []) ∷ [] ∷ [] ∷ [] ∷ [] ∷ [] ∷ []
-      ∷ [] ∷ (codes "A" ∷ []) ∷ [] ∷ []
+      example
+      ≡ [] ∷ [] ∷ [] ∷ (codes "Net.A" ∷ codes "Base.B" ∷ codes "E" ∷ []) ∷ [] ∷ [] ∷ [] ∷ [] ∷ []
+      ∷ [] ∷ [] ∷ (codes "A" ∷ []) ∷ [] ∷ []
   -- a simple type within another has the class of its own name, unless it extends one
   pub classes : map (λ (t : TypeDeclaration). t.lines) example ≡
       [] ∷ [] ∷ (line.Class (codes "B") ∷ []) ∷ [] ∷ (line.Class (codes "A") ∷ []) ∷ [] ∷ [] ∷ []

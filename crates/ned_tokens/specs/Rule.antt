@@ -134,8 +134,10 @@ many_is Is (x ∷ xs) ts = (front : List Token) × (back : List Token) × (ts �
 unfoldable pub many_read : {X : Type 0} → (Token → Bool) → (List Token → Reading X) → ℕ → List Token
     → Reading (List X)
 many_read starts read zero ts = Ok ([], ts)
-many_read starts read (suc n) ts = if begins starts ts then (read ts
-    >>= λ x. many_read starts read n x.1 >>= λ xs. Ok (x.0 ∷ xs.0, xs.1)) else Ok ([], ts)
+many_read starts read (suc n) ts =
+    if begins starts ts
+    then (read ts >>= λ x. many_read starts read n x.1 >>= λ xs. Ok (x.0 ∷ xs.0, xs.1))
+    else Ok ([], ts)
 
 abbrev pub many : {X : Type 0} → Rule X → Rule (List X)
 many r = record {

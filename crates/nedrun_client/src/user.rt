@@ -166,9 +166,11 @@ impl<'a, R: Files + Input + Print + Eprint + AllocGlobal> User<'a, R> {
         requires scalars { unwritten pages.now.scalars ≡ [] }
         requires vectors { unwritten pages.now.vectors ≡ [] }
         ensures known { KnowsFault self.new.dialogue }
-        ensures heard { self.new.dialogue.transcript.heard ≡ self.old.dialogue.transcript.heard
+        ensures heard { self.new.dialogue.transcript.heard
+            ≡ self.old.dialogue.transcript.heard
             ++ heards.Files pages.now.config.bytes pages.now.scalars.content.bytes
-            pages.now.vectors.content.bytes ∷ [] }
+            pages.now.vectors.content.bytes
+            ∷ [] }
         ensures asked { self.new.dialogue.transcript.asked ≡ self.old.dialogue.transcript.asked }
         ensures words { self.new.words ≡ self.old.words }
         ensures at_terminal { self.new.dialogue.at_terminal ≡ self.old.dialogue.at_terminal }
@@ -495,10 +497,12 @@ impl<'a, R: Files + Input + Print + Eprint + AllocGlobal> Client<FileOut<'a, R>>
     fn keep(&mut self, pages: Pages<FileOut<'a, R>>) -> Result<(), Gone>
         requires kept { Keeps self.old.dialogue }
         ensures kept { Keeps self.new.dialogue }
-        ensures heard { OnOk result (self.new.dialogue.transcript.heard
+        ensures heard { OnOk result
+            (self.new.dialogue.transcript.heard
             ≡ self.old.dialogue.transcript.heard
             ++ heards.Files pages.entry.config.bytes pages.entry.scalars.content.bytes
-            pages.entry.vectors.content.bytes ∷ []) }
+            pages.entry.vectors.content.bytes
+            ∷ []) }
         ensures gone { OnErr result (self.new.dialogue.transcript.heard
             ≡ self.old.dialogue.transcript.heard) }
         ensures stuck { OnErr result

@@ -17,8 +17,8 @@ room es keys = 2 * (2 ^ 63 - length es) + (2 ^ 63 - length keys)
 
 -- There is a key that is being evaluated, none of these has a value yet, and each evaluation that
 -- was begun was of one of these or of one that has a value.
-pub record IsBusy {K V : Type 0} (same : K → K
-    → Bool) (table : Known K V) (keys : List K) : Type 0 where
+pub record IsBusy {K V : Type 0} (same : K → K → Bool) (table : Known K V)
+    (keys : List K) : Type 0 where
   pub some : 0 < length keys
   pub counted : table.begun ≤ length table.entries + length keys
   pub unknown : (k : K) → list_any (same k) keys ≡ true → known same table.entries k ≡ None

@@ -60,8 +60,8 @@ IsAt {K} same es k place = (stored : K) × (key_at es place ≡ Some stored) × 
 -- A key with its value and what it asked for, after the entries that were found before it: its
 -- value is what its asking comes to, and the places are those of the keys that it asks for, in
 -- order, all among the entries before it.
-pub record IsNoted {K V F : Type 0} (rules : Rules K V F) (known : K
-    → Option V) (before : Entries K V) (e : K × Finished V) : Type 0 where
+pub record IsNoted {K V F : Type 0} (rules : Rules K V F) (known : K → Option V)
+    (before : Entries K V) (e : K × Finished V) : Type 0 where
   pub comes : outcome (λ j. answer_of (known j)) (rules.asking e.0) ≡ Some (Ok e.1.value)
   pub places : keys_at before e.1.asked ≡ map Some (asked_by known (rules.asking e.0))
 

@@ -19,8 +19,8 @@ abbrev pub Grows : {K V : Type 0} → (K → Option V) → (K → Option V) → 
 Grows {K} {V} before after = (k : K) (v : V) → before k ≡ Some v → after k ≡ Some v
 
 -- An asking has come from s to t, and asked on its way for the keys at these places.
-pub record HasAsked {K V F : Type 0} (es : Entries K V) (known : K
-    → Option V) (s : Asking K V F V) (places : List ℕ) (t : Asking K V F V) : Type 0 where
+pub record HasAsked {K V F : Type 0} (es : Entries K V) (known : K → Option V) (s : Asking K V F V)
+    (places : List ℕ) (t : Asking K V F V) : Type 0 where
   pub keys : List K
   pub places_are : keys_at es places ≡ map Some keys
   pub asks : (more : K → Option V) → Grows known more → asked_by more s ≡ keys ++ asked_by more t
@@ -56,9 +56,9 @@ module _ {K V F E : Type 0} (resumed : E → V → Asking K V F V) where
   -- each of those that wait has asked for the keys at its places
   abbrev pub HaveAsked : Rules K V F → Entries K V → K → List (Opened K E) → Type 0
   HaveAsked rules es k [] = Unit {0}
-  HaveAsked rules es k (o ∷ os) =
-      HasAsked es (known rules.same es) (rules.asking o.0) o.1.asked
-      (Ask k (resumed o.1.evaluation)) × HaveAsked rules es o.0 os
+  HaveAsked rules es k (o ∷ os) = HasAsked es (known rules.same es) (rules.asking o.0) o.1.asked
+      (Ask k (resumed o.1.evaluation))
+      × HaveAsked rules es o.0 os
 
 abbrev pub AreDistinct : {K : Type 0} → (K → K → Bool) → List K → Type 0
 AreDistinct same [] = Unit {0}
@@ -67,10 +67,10 @@ AreDistinct same (k ∷ ks) = (is_on same k ks ≡ false) × AreDistinct same ks
 -- The key `asked` is being evaluated over a table that began as `start`: now k, the last of the
 -- keys, whose asking has come to t and asked for the keys at these places, and those that wait,
 -- each for the one after it.
-pub record IsGoingAt {K V F E : Type 0} (rules : Rules K V F) (resumed : E → V
-    → Asking K V F V) (start : Entries K V) (asked : K)
-    (es : Entries K V) (begun : ℕ) (keys : List K) (frames : List (Frame E)) (places : List ℕ)
-    (t : Asking K V F V) (k : K) (os : List (Opened K E)) : Type 0 where
+pub record IsGoingAt {K V F E : Type 0} (rules : Rules K V F) (resumed : E → V → Asking K V F V)
+    (start : Entries K V) (asked : K) (es : Entries K V) (begun : ℕ) (keys : List K)
+    (frames : List (Frame E)) (places : List ℕ) (t : Asking K V F V) (k : K)
+    (os : List (Opened K E)) : Type 0 where
   pub stand : Stand keys frames k os
   pub kept : IsKept rules es
   pub comes : ComesTo (known rules.same es) (rules.asking k) t

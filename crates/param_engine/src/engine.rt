@@ -121,8 +121,9 @@ fn descend<A: Asker>(
     ensures waiting { OnOk result (going.new.waiting
         ≡ going.old.waiting ++ going.old.current ∷ []) }
     ensures asked { OnOk result (going.new.current.asked ≡ []) }
-    ensures asking { IfOk result (λ turn. came_to (A.resumed asker.now going.new.current.evaluation)
-        turn ≡ A.asking asker.now key) }
+    ensures asking { IfOk result
+        (λ turn. came_to (A.resumed asker.now going.new.current.evaluation) turn
+        ≡ A.asking asker.now key) }
     ensures entries { table.new.entries ≡ table.old.entries }
     ensures begun { table.new.begun ≡ table.old.begun + 1 }
 {

@@ -100,7 +100,8 @@ abbrev pub EditKeeps : {K V F : Type 0} → Rules K V F → Rules K V F → Type
 EditKeeps {K} {V} old new = (n : ℕ) (known : K → Option V) (changed : K → Bool) (ks : List K) →
     let asked : K → List K = λ k. asked_by known (old.asking k) in
     let keep : K → Bool = λ k. is_on old.same k (kept_keys old.same asked changed ks []) in
-    IsRight old n known → IsClosed old known → ((k : K) → changed k ≡ false
-    → new.asking k ≡ old.asking k) → IsInOrder old.same asked ks [] →
+    IsRight old n known → IsClosed old known
+    → ((k : K) → changed k ≡ false → new.asking k ≡ old.asking k)
+    → IsInOrder old.same asked ks [] →
     IsRight new n (kept_of keep known) × IsClosed new (kept_of keep known) ×
     ((k : K) → is_on old.same k ks ≡ true → keep k ≡ false → RestsOnChanged asked changed k)

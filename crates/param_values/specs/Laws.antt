@@ -71,12 +71,13 @@ own name = expression.Scoped scope.This name
 -- CHAINS: let x0 be `this.x1`, x1 be `this.x2` and so on, and xn be a number: x0 is that number,
 -- however long the chain is
 abbrev pub IsChained : Type 0
-IsChained = (s : ParameterRules) (id parent n : ℕ) (name : ℕ → List ℕ) (z : ℤ) → n < 2 ^ 64 →
-    ((i : ℕ) → i < n → s.declared (key_of id (name i))
-    ≡ Some (whole parent (fixed section.OfType (own (name (suc i)))))) →
-    s.declared (key_of id (name n))
-    ≡ Some (whole parent (fixed section.OfType (expression.Literal (value.Whole z)))) →
-    value_at s (key_of id (name 0)) ≡ Ok (value.Whole z)
+IsChained = (s : ParameterRules) (id parent n : ℕ) (name : ℕ → List ℕ) (z : ℤ) → n < 2 ^ 64
+    → ((i : ℕ) → i < n
+    → s.declared (key_of id (name i))
+    ≡ Some (whole parent (fixed section.OfType (own (name (suc i))))))
+    → s.declared (key_of id (name n))
+    ≡ Some (whole parent (fixed section.OfType (expression.Literal (value.Whole z))))
+    → value_at s (key_of id (name 0)) ≡ Ok (value.Whole z)
 
 -- ---- one module `t: Tick { .. }` of id 2 in a network of id 1
 
@@ -103,29 +104,34 @@ number n = expression.Literal (value.Whole (pos n))
 abbrev pub both_ways : ParameterRules
 both_ways = tick (parameter 2 (codes "count") (whole 1 (fixed section.OfBody (own (codes "late"))))
     (parameter 2 (codes "late") (whole 1 (fixed section.OfBody (own (codes "count"))))
-    no_parameter)) None
+    no_parameter))
+    None
 
 -- `t: Tick { count = 4; }` and `**.count = 9`
 abbrev pub fixed_four : ParameterRules
-fixed_four = tick (parameter 2 (codes "count") (whole 1 (fixed section.OfBody (number 4)))
-    no_parameter) (Some (entry.Given (number 9)))
+fixed_four = tick
+    (parameter 2 (codes "count") (whole 1 (fixed section.OfBody (number 4))) no_parameter)
+    (Some (entry.Given (number 9)))
 
 -- `t: Tick { count = default(4); }` and `**.count = 9`
 abbrev pub default_four : ParameterRules
-default_four = tick (parameter 2 (codes "count") (whole 1 (default section.OfBody (number 4)))
-    no_parameter) (Some (entry.Given (number 9)))
+default_four = tick
+    (parameter 2 (codes "count") (whole 1 (default section.OfBody (number 4))) no_parameter)
+    (Some (entry.Given (number 9)))
 
 -- the same with `**.count = default`
 abbrev pub default_kept : ParameterRules
-default_kept = tick (parameter 2 (codes "count") (whole 1 (default section.OfBody (number 4)))
-    no_parameter) (Some entry.Default)
+default_kept = tick
+    (parameter 2 (codes "count") (whole 1 (default section.OfBody (number 4))) no_parameter)
+    (Some entry.Default)
 
 -- `t: Tick { count = late; late = 3; }` in a network with `late = 5`: in a body a bare name is the
 -- network's
 abbrev pub lates : Given → Option EntryValue → ParameterRules
 lates g found = tick (parameter 2 (codes "count") (whole 1 g)
-    (parameter 2 (codes "late") (whole 1 (fixed section.OfBody (number 3))) (parameter 1
-    (codes "late") (whole 0 (fixed section.OfType (number 5))) no_parameter))) found
+    (parameter 2 (codes "late") (whole 1 (fixed section.OfBody (number 3)))
+    (parameter 1 (codes "late") (whole 0 (fixed section.OfType (number 5))) no_parameter)))
+    found
 
 abbrev pub name : Section → Given
 name s = fixed s (expression.Name (codes "late"))
@@ -148,9 +154,12 @@ pub record AreWorked : Type 0 where
   pub bare_in_type : value_at (lates (name section.OfType) None) count ≡ Ok (value.Whole (pos 3))
   pub of_this : value_at (lates (fixed section.OfBody (own (codes "late"))) None) count
       ≡ Ok (value.Whole (pos 3))
-  pub of_parent : value_at (lates (fixed section.OfType
-      (expression.Scoped scope.Parent (codes "late"))) None) count ≡ Ok (value.Whole (pos 5))
+  pub of_parent : value_at
+      (lates (fixed section.OfType (expression.Scoped scope.Parent (codes "late"))) None) count
+      ≡ Ok (value.Whole (pos 5))
   pub bare_in_entry : value_at (lates (default section.OfBody (number 4))
-      (Some (entry.Given (expression.Name (codes "late"))))) count ≡ Ok (value.Whole (pos 3))
+      (Some (entry.Given (expression.Name (codes "late")))))
+      count
+      ≡ Ok (value.Whole (pos 3))
   pub of_none : value_at no_text (key_of 2 (codes "late")) ≡ Err Unassigned
   pub of_other_kind : value_at no_text count ≡ Err Mismatch

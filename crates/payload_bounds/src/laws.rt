@@ -28,6 +28,7 @@ pub fn messages_are_short()
     ensures pending { (b : Behaviour) (m : Answers) (n : ℕ) → AreShort m.injections
         → BringShort (world_at (after b m n)).pending }
     ensures next { (b : Behaviour) (m : Answers) (n : ℕ) (u : World) (p : Pending)
-        (rest : List Pending) → AreShort m.injections
-        → upcoming m (world_at (after b m n)) ≡ Comes u p rest → IsShort (message_of p).payload }
+        (rest : List Pending)
+        → AreShort m.injections → upcoming m (world_at (after b m n)) ≡ Comes u p rest
+        → IsShort (message_of p).payload }
 {}

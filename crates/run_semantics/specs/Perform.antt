@@ -164,8 +164,9 @@ abbrev pub with_hop : List PassedHop → PlacedGate → NextHop → List PassedH
 with_hop passed g h = passed ++ record { from = g; channel = h.channel } ∷ []
 
 -- after a hop: at a simple module the chain ends
-abbrev pub after_hop : ℕ → (PlacedGate → List PassedHop → World → Flow) → (List PassedHop
-    → PlacedGate → World → Flow) → PlacedGate → List PassedHop → Option NextHop → World → Flow
+abbrev pub after_hop : ℕ → (PlacedGate → List PassedHop → World → Flow)
+    → (List PassedHop → PlacedGate → World → Flow) → PlacedGate → List PassedHop → Option NextHop
+    → World → Flow
 after_hop id further reached g passed None w = broken id fault.NotConnected w
 after_hop id further reached g passed (Some h) w =
     if is_simple w.records h.to.id then reached (with_hop passed g h) h.to w
@@ -199,11 +200,13 @@ travelled id message from end w (Ok found) = On (completed message from end w fo
 -- a message departs over these hops, where its departure is a time
 abbrev pub sent_over : ℕ → Outgoing → Option ℕ → List PassedHop → PlacedGate → World → Flow
 sent_over id message (Some departure) hops end w =
-    travelled id message (transmission_gate hops) end w (travel (channels_of hops) departure
-    message.bits (busy_of (transmission_gate hops) w.transmissions))
+    travelled id message (transmission_gate hops) end w
+    (travel (channels_of hops) departure message.bits
+    (busy_of (transmission_gate hops) w.transmissions))
 sent_over id message None hops end w =
-    broken id (if nat_lt 1 (transmissions (channels_of hops)) then fault.TwoTransmissionChannels
-    else fault.TimeOverflow) w
+    broken id
+    (if nat_lt 1 (transmissions (channels_of hops))
+    then fault.TwoTransmissionChannels else fault.TimeOverflow) w
 
 -- a gate was asked about: a message goes out through it, if it is there and of that direction
 abbrev pub sent_through : Answers → ℕ → PlacedGate → Outgoing → Option ℕ → Answer → World → Flow
@@ -215,8 +218,9 @@ sent_through m id g message departure a w =
 -- Messages")
 abbrev pub sent : Answers → ℕ → OwnGate → Outgoing → Option ℕ → World → Flow
 sent m id gate message departure w =
-    asking m (GateSize id gate.name) (sent_through m id
-    (record { id = id; name = gate.name; index = gate.index }) message departure) w
+    asking m (GateSize id gate.name)
+    (sent_through m id (record { id = id; name = gate.name; index = gate.index }) message
+    departure) w
 
 -- a message is at a gate at that time: it arrives, or goes on inside of a compound module
 abbrev pub entering : Answers → ℕ → Outgoing → PlacedGate → Option ℕ → World → Flow
@@ -245,8 +249,9 @@ sent_into m id g message flight a w =
 abbrev pub sent_to : Answers → ℕ → GatePlace → Outgoing → Flight → World → Option ℕ → Flow
 sent_to m id place message flight w None = broken id fault.NoModule w
 sent_to m id place message flight w (Some target) =
-    asking m (GateSize target place.name) (sent_into m id
-    (record { id = target; name = place.name; index = place.index }) message flight) w
+    asking m (GateSize target place.name)
+    (sent_into m id (record { id = target; name = place.name; index = place.index }) message
+    flight) w
 
 -- A MESSAGE IS SENT DIRECTLY to a gate of a module (OMNeT++ Simulation Manual, "Direct Message
 -- Sending")

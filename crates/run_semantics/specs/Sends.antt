@@ -157,8 +157,9 @@ module _ (b : Behaviour) where
 
   pub record ExampleSends : Type 0 where
     -- 1,000 bits at 1 Mbps take 1 ms, and the channel 1 ms more
-    pub datarate : does (linked (Some (at_rate 1000000000 1000000)) false) (send 0 1000) (at_event 0
-        []) ≡ On (arrives 2000000000 1000 (asked_about both_hops (at_event 0 (until 1000000000))))
+    pub datarate : does (linked (Some (at_rate 1000000000 1000000)) false) (send 0 1000)
+        (at_event 0 [])
+        ≡ On (arrives 2000000000 1000 (asked_about both_hops (at_event 0 (until 1000000000))))
     -- 1 bit at 3 bps: rounded up
     pub rounded : does (linked (Some (at_rate 0 3)) false) (send 0 1) (at_event 0 [])
         ≡ On (arrives 333333333334 1 (asked_about both_hops (at_event 0 (until 333333333334))))
@@ -198,10 +199,12 @@ module _ (b : Behaviour) where
     pub to_nobody : does (linked (Some ideal) false) (direct (codes "N.x") 10 20) (at_event 5 [])
         ≡ told fault.NoModule (at_event 5 [])
     pub to_connected : does (linked (Some ideal) true) (direct (codes "N.c.k") 10 20)
-        (at_event 5 []) ≡ told fault.AlreadyConnected
+        (at_event 5 [])
+        ≡ told fault.AlreadyConnected
         (asked_about (GateSize 4 (codes "in") ∷ HopBack 4 (codes "in") 0 ∷ []) (at_event 5 []))
     pub too_late : does (linked (Some ideal) false) (direct (codes "N.c.k") 9223372036854775807 1)
-        (at_event 5 []) ≡ told fault.TimeOverflow
+        (at_event 5 [])
+        ≡ told fault.TimeOverflow
         (asked_about (GateSize 4 (codes "in") ∷ HopBack 4 (codes "in") 0 ∷ []) (at_event 5 []))
     -- in a reply to the end no message is sent, whatever its gate
     pub at_end : act b (linked None false) occasion.End 2 (send 0 8) (at_event 5 [])

@@ -10,9 +10,9 @@ use sim_values::text::Text;
 use std::alloc::Global;
 use std::marker::Model;
 
-/// A text as it grows. A call that adds to it never fails: the writer keeps for itself whether memory
-/// ran out, and whoever takes the text is told. Contracts see it as the list of all bytes that were
-/// to be added.
+/// A text as it grows. A call that adds to it never fails: the writer keeps for itself whether
+/// memory ran out, and whoever takes the text is told. Contracts see it as the list of all bytes
+/// that were to be added.
 #[derive(Drop)]
 pub struct TextWriter {
     bytes: Vec<u8>,
