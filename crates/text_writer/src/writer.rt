@@ -65,8 +65,7 @@ impl TextWriter {
     pub fn push_number(&mut self, number: u64)
         ensures { self.new ≡ self.old ++ decimal number }
     {
-        let mut digits = Digits::new();
-        self.push(digits.format(number).as_bytes());
+        self.push_wide(u128::from(number));
     }
 
     /// Adds the decimal digits of a number of more bits.
