@@ -141,10 +141,12 @@ AnswersCommand b before command.Unknown answer after =
 AnswersCommand b before command.TooLarge answer after =
     IsTextOf answer (λ text. text ≡ codes "refused TooLarge") × (after ≡ before)
 
--- the command asks for no run
-abbrev pub AsksNoRun : Command → Type 0
-AsksNoRun (command.Run limit) = ⊥
-AsksNoRun _ = Unit {0}
+-- the command needs nothing but the desk: neither boxes nor files
+abbrev pub IsOfDesk : Command → Type 0
+IsOfDesk (command.Run limit) = ⊥
+IsOfDesk (command.Ned number path) = ⊥
+IsOfDesk command.Write = ⊥
+IsOfDesk _ = Unit {0}
 
 abbrev pub AnswersLine : Behaviour → Editing → List ℕ → DeskTurn → Editing → Type 0
 AnswersLine b before line answer after = AnswersCommand b before (command_of line) answer after

@@ -1,7 +1,7 @@
 //! The desk.
 
 ghost use Rattle.std.specs.Prelude.{◌≡◌, ◌↔◌, None, IsSome, length, OnOk, OnErr, IfOk, IfErr};
-ghost use Rattle.std.specs.Prelude.{option_map, option_copied};
+ghost use Rattle.std.specs.Prelude.{codes, option_map, option_copied};
 ghost use Rattle.edit_session.specs.Editing.{Completed, IsFor, IsUnknown, wanted_of, with_box};
 ghost use Rattle.edit_session.specs.Files.{scalars_of_run, vectors_of_run, FileWritten};
 ghost use Rattle.edit_session.specs.Sessions.{editing_of, IsSound};
@@ -11,7 +11,7 @@ ghost use Rattle.desk_commands.specs.Commands.{command_of};
 ghost use Rattle.desk_client.specs.Answers.{held_text, positions_text, IsTold};
 ghost use Rattle.model_edits.specs.declared.edit.Edit.TheVariants as edits;
 ghost use Rattle.desk_answers.specs.Turns.{editing_at, limit_at, limit_after, AnswersCommand};
-ghost use Rattle.desk_answers.specs.Turns.{AnswersEdit, AnswersLine, AsksNoRun, Forgoes, IsRunTurn};
+ghost use Rattle.desk_answers.specs.Turns.{AnswersEdit, AnswersLine, Forgoes, IsOfDesk, IsRunTurn};
 ghost use Rattle.desk_answers.specs.Turns.{IsSettled, IsToldIn, MayBeDone, StaysSettled};
 
 use crate::answers::{Answer, done, edited_text, held_text, positions_text, refused};
@@ -62,6 +62,17 @@ impl<C: Catalogue> Drop for Desk<C> {
     }
 }
 
+/// What a line is answered that is no command.
+fn no_command() -> Answer
+    ensures text { result.text ≡ codes "refused Command" }
+    ensures told { IsTold result.told result.text }
+{
+    Answer {
+        text: Name::word("refused Command"),
+        told: AnswerContent::NoCommand,
+    }
+}
+
 impl<C: Catalogue> Desk<C> {
     /// The desk of a session. The limit of its last run is 0, as long as none was asked for.
     pub fn of_session(alloc: Global, session: Session<C>) -> Desk<C>
@@ -96,17 +107,17 @@ impl<C: Catalogue> Desk<C> {
     {
         match command_of(self.alloc, line)? {
             Command::Run(limit) => self.run(limit, observer),
+            Command::Write | Command::Ned(_, _) => Ok(DeskTurn::Text(no_command())),
             command => Ok(DeskTurn::Text(self.reply(command)?)),
         }
     }
 
-    /// Answers a command that asks for no run. One that asks to write files, or names a file that
-    /// is to be read, is no command here: who asks does these. Where memory runs out there is no
-    /// answer, and nothing changed; it doesn't for `write`, nor for a line that is too long or no
+    /// Answers a command that needs nothing but the desk: neither boxes nor files. Where memory runs
+    /// out there is no answer, and nothing changed; it doesn't for a line that is too long or no
     /// command.
     pub fn reply(&mut self, command: Command) -> Result<Answer, NoMemory>
         requires sound { IsSettled C.behaviour SimpleModule-box self.old }
-        requires plain { AsksNoRun command }
+        requires plain { IsOfDesk command }
         ensures sound { IsSettled C.behaviour SimpleModule-box self.new }
         ensures answer { let before = editing_at SimpleModule-box self.old in
             let after = editing_at SimpleModule-box self.new in
@@ -122,15 +133,12 @@ impl<C: Catalogue> Desk<C> {
             Command::Edit(edit) => self.edit(edit),
             Command::Positions => self.positions(),
             Command::Held => self.held(),
-            Command::Write | Command::Unknown | Command::Ned(_, _) => Ok(Answer {
-                text: Name::word("refused Command"),
-                told: AnswerContent::NoCommand,
-            }),
+            Command::Unknown => Ok(no_command()),
             Command::TooLarge => Ok(Answer {
                 text: Name::word("refused TooLarge"),
                 told: AnswerContent::TooLarge,
             }),
-            Command::Run(_) => unreachable!(),
+            Command::Run(_) | Command::Write | Command::Ned(_, _) => unreachable!(),
         }
     }
 

@@ -13,7 +13,7 @@ use Rattle.edit_session.specs.Files.{scalars_of_run, vectors_of_run}
 use Rattle.desk_client.specs.Answers.{held_text, positions_text}
 use Rattle.desk_answers.specs.declared.answers.Answer.{Answer as Reply}
 use Rattle.desk_answers.specs.declared.desk.DeskTurn.TheVariants as turns
-use Rattle.desk_answers.specs.Turns.{AnswersCommand, AnswersEdit, Forgoes, HasRun, IsDone, IsMade, IsRefused, MayBeDone}
+use Rattle.desk_answers.specs.Turns.{AnswersCommand, AnswersEdit, Forgoes, HasRun, IsDone, IsMade, IsOfDesk, IsRefused, MayBeDone}
 use Rattle.model_edits.specs.declared.edit.Edit.{Edit}
 use Rattle.model_edits.specs.declared.edit.Edit.TheVariants as edit
 use Rattle.desk_commands.specs.Commands.{IsEdit}
@@ -22,7 +22,7 @@ use Rattle.desk_commands.specs.declared.commands.Command.TheVariants as command
 use Rattle.desk_server.specs.Served.{Machine, AreHeard, Hears, HearsFiles, behind_run, command_asked, events_of}
 use Rattle.transcripts.specs.Heard.{Answer, Files, Heard, OutOfMemory, Read}
 use Rattle.transcripts.specs.declared.asked.AskedLine.{AskedLine}
-use Rattle.desk_server.specs.Serving.{Seen, AreFilled, ComesTo, HearsNext, HearsOne, IsAt, IsCutOff, IsOfDesk, IsRunIn, RunsAlike}
+use Rattle.desk_server.specs.Serving.{Seen, AreFilled, ComesTo, HearsNext, HearsOne, IsAt, IsCutOff, IsRunIn, RunsAlike}
 use Rattle.desk_server.specs.declared.serving.Next.{Next}
 use Rattle.desk_server.specs.declared.serving.Next.TheVariants as next
 use Rattle.desk_client.specs.declared.clients.ServeEnd.TheVariants as stop

@@ -180,13 +180,6 @@ HearsNext b c before after next.GoOn =
 HearsNext b c before after (next.Stop stop.End) = ⊥
 HearsNext b c before after (next.Stop why) = IsCutOff b c (IsAt b before.editing) before after
 
--- the command needs nothing but the desk: neither boxes nor files
-abbrev pub IsOfDesk : Command → Type 0
-IsOfDesk (command.Run limit) = ⊥
-IsOfDesk (command.Ned number path) = ⊥
-IsOfDesk command.Write = ⊥
-IsOfDesk _ = Unit {0}
-
 -- the files of the last run, where one is done
 abbrev pub AreFilled : Behaviour → Model → Option Completed → List ℕ → List ℕ → Type 0
 AreFilled b m None scalars vectors = ⊥
