@@ -5,7 +5,7 @@ use Rattle.std.specs.Str.{bytes_eq}
 use Rattle.sim_values.specs.declared.value.Dimension.TheVariants.{Time}
 use Rattle.sim_values.specs.declared.value.Value.TheVariants as value
 use Rattle.ned_trees.specs.declared.expressions.Scope.TheVariants.{This, Parent}
-use Rattle.param_eval.specs.declared.fault.ValueFault.TheVariants.{Unassigned, Circle}
+use Rattle.sim_values.specs.declared.value_fault.ValueFault.TheVariants.{Unassigned, Circle}
 use Rattle.param_eval.specs.Operators.{Evaluated}
 use Rattle.param_eval.specs.References.{Reference, Own, Scoped, Member, Element, Index, ParentIndex}
 use Rattle.param_eval.specs.References.{Sizeof, Exists, ExistsAt}

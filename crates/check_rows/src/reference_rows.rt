@@ -10,12 +10,12 @@ use crate::scene_rows::{Line, WHOLE, add, tell_error, tell_fault, tell_lone, tel
 use crate::telling::Telling;
 use ned_leaves::error::NedError;
 use param_engine::table::Table;
-use param_eval::fault::ValueFault;
 use param_values::key::Key;
 use param_values::values::{empty_table, parameter_value};
 use sim_values::NoMemory;
 use sim_values::text::Text;
 use sim_values::value::Value;
+use sim_values::value_fault::ValueFault;
 use std::alloc::{AllocError, Global};
 
 /// Adds `int xN` of the module 2, which is given that.

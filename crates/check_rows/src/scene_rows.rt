@@ -7,7 +7,6 @@ use crate::telling::Telling;
 use ini_trees::entry::EntryValue;
 use ned_expressions::parse::parse_expression;
 use ned_leaves::error::NedError;
-use param_eval::fault::ValueFault;
 use param_values::key::Key;
 use param_values::kind::Kind;
 use param_values::scene::Section;
@@ -15,6 +14,7 @@ use param_values::values::lone_value;
 use sim_values::NoMemory;
 use sim_values::text::Text;
 use sim_values::value::{Dimension, Value};
+use sim_values::value_fault::ValueFault;
 use std::alloc::Global;
 
 /// A parameter, as a row describes it.
@@ -133,7 +133,7 @@ pub fn tell_value(told: &mut Telling, value: &Value) {
 /// Tells why there is no value.
 pub fn tell_fault(told: &mut Telling, fault: &ValueFault) {
     told.text(" ");
-    told.shown(fault);
+    told.bytes(fault.name());
 }
 
 /// Tells why a row's text means nothing.

@@ -27,9 +27,14 @@ impl Telling {
         self.told.refuse(NoMemory::from(error));
     }
 
+    /// Tells a text, by its bytes.
+    pub fn bytes(&mut self, text: &[u8]) {
+        self.told.push(text);
+    }
+
     /// Tells a text.
     pub fn text(&mut self, text: &str) {
-        self.told.push(text.as_bytes());
+        self.bytes(text.as_bytes());
     }
 
     /// Tells a text, where there was room for it.

@@ -9,11 +9,11 @@ use crate::tree_rows::tell_literal;
 use ned_expressions::parse::parse_expression;
 use ned_trees::expressions::{Expression, Scope};
 use param_eval::evaluation::evaluate;
-use param_eval::fault::ValueFault;
 use param_eval::names::{Name, Names};
 use sim_values::NoMemory;
 use sim_values::text::Text;
 use sim_values::value::{Dimension, Value};
+use sim_values::value_fault::ValueFault;
 use std::alloc::Global;
 
 /// What references mean in these rows.
@@ -78,7 +78,7 @@ impl Names for Example {
 fn tell_value(alloc: Global, told: &mut Telling, expression: &Expression) {
     match evaluate(alloc, expression, &Example) {
         Ok(Ok(value)) => tell_literal(told, &value),
-        Ok(Err(fault)) => told.shown(&fault),
+        Ok(Err(fault)) => told.bytes(fault.name()),
         Err(error) => told.fail(error.error()),
     }
 }

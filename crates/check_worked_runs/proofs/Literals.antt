@@ -6,7 +6,8 @@ use Rattle.ned_trees.specs.declared.expressions.Expression.{Expression, the_lemm
 use Rattle.ned_trees.specs.declared.expressions.Expression.TheVariants as expression
 use Rattle.sim_values.specs.declared.value.Value.{Value}
 use Rattle.sim_values.specs.declared.model_fault.ModelFault.{ModelFault}
-use Rattle.sim_values.specs.declared.model_fault.ModelFault.TheVariants.{Unassigned, Circle}
+use Rattle.sim_values.specs.declared.model_fault.ModelFault.TheVariants as fault
+use Rattle.sim_values.specs.declared.value_fault.ValueFault.TheVariants.{Unassigned, Circle}
 use Rattle.inside_keys.specs.declared.found.Found.{Found}
 use Rattle.inside_keys.specs.Keys.{same_key}
 use Rattle.param_eval.specs.Values.{Valued, valued}
@@ -27,7 +28,7 @@ literal_valued (expression.Literal v) = Done (Ok v)
 literal_valued e = valued e
 
 abbrev pub posed_by : Option Posed → KeyAsking
-posed_by None = Done (Err Unassigned)
+posed_by None = Done (Err (fault.Value Unassigned))
 posed_by (Some p) = valued_then (meant_under p.variables p.place) (literal_valued p.expression) (λ v. kept (checked p.check v))
 
 abbrev pub asks : ModuleRules → Module → What → KeyAsking
@@ -38,7 +39,7 @@ abbrev pub asks_of : ModuleRules → Key → KeyAsking
 asks_of s k = asks s k.site k.what
 
 abbrev pub value_by : (Key → KeyAsking) → Key → Result Found ModelFault
-value_by asking k = or_circle Circle (value_within (record { same = same_key; asking = asking; circle = Circle }) (2 ^ 64) [] k)
+value_by asking k = or_circle (fault.Value Circle) (value_within (record { same = same_key; asking = asking; circle = fault.Value Circle }) (2 ^ 64) [] k)
 
 at_literal : (v : Value) → valued (expression.Literal v) ≡ Done (Ok v)
 at_literal v = search the_lemmas

@@ -30,6 +30,7 @@ use run_semantics::outcome::RunFault;
 use sim_values::NoMemory;
 use sim_values::model_fault::ModelFault;
 use sim_values::text::Text;
+use sim_values::value_fault::ValueFault;
 use std::alloc::Global;
 
 /// A module of a model that answers: its path, its type, and its declaration, which the network has
@@ -81,10 +82,10 @@ fn has_fault(
     alloc: Global,
     it: &Found<'_>,
     name: &[u8],
-    fault: ModelFault,
+    fault: ValueFault,
 ) -> Result<bool, NoMemory> {
     match it.answers.value_at_path(alloc, it.path, name)? {
-        Answer::Fault(_, found) => Ok(found == fault),
+        Answer::Fault(_, found) => Ok(found == ModelFault::Value(fault)),
         _ => Ok(false),
     }
 }
@@ -94,7 +95,7 @@ fn has_fault(
 fn blamed<'a>(
     alloc: Global,
     it: &Found<'a>,
-    fault: ModelFault,
+    fault: ValueFault,
 ) -> Result<Option<&'a Declaration>, NoMemory> {
     let mut first = None;
     for line in it.of.lines.as_slice() {
@@ -112,15 +113,10 @@ fn blamed<'a>(
 }
 
 /// The fault of a parameter that ended a run, where it is one that a parameter can have.
-fn parameter_fault(fault: &RunFault) -> Option<ModelFault> {
+fn parameter_fault(fault: &RunFault) -> Option<ValueFault> {
     match fault {
-        RunFault::Model(
-            it @ (ModelFault::Unassigned
-            | ModelFault::Overflow
-            | ModelFault::Inexact
-            | ModelFault::Mismatch
-            | ModelFault::Circle),
-        ) => Some(*it),
+        RunFault::Model(ModelFault::Value(ValueFault::TooDeep)) => None,
+        RunFault::Model(ModelFault::Value(fault)) => Some(*fault),
         _ => None,
     }
 }
@@ -158,7 +154,7 @@ struct Faulty<'a> {
     /// The path of the module.
     path: &'a str,
     declaration: &'a Declaration,
-    fault: ModelFault,
+    fault: ValueFault,
 }
 
 /// Says the path of a parameter.
@@ -246,21 +242,21 @@ fn tell_wrong(
     value: Option<&Expression>,
 ) {
     match it.fault {
-        ModelFault::Overflow => say_of_value(
+        ValueFault::Overflow => say_of_value(
             told,
             "a number in ",
             it,
             entry,
             "is outside -9223372036854775808 to 9223372036854775807, or something is shifted by less than 0 or more than 63",
         ),
-        ModelFault::Inexact => say_of_value(
+        ValueFault::Inexact => say_of_value(
             told,
             "in ",
             it,
             entry,
             "a division leaves a remainder or is by zero, or an exponent is negative",
         ),
-        ModelFault::Mismatch => say_mismatch(told, it, entry, value),
+        ValueFault::Mismatch => say_mismatch(told, it, entry, value),
         _ => say_unassigned(told, it, entry),
     }
 }
@@ -268,14 +264,14 @@ fn tell_wrong(
 /// Says what is wrong with the value of a parameter that a NED file gives by that expression.
 fn tell_wrong_in_ned(told: &mut Explanation, it: Faulty<'_>, expression: &Expression) {
     match it.fault {
-        ModelFault::Unassigned => say_of_value(
+        ValueFault::Unassigned => say_of_value(
             told,
             "",
             it,
             None,
             "refers to something that has no value: in a type 'x' and 'this.x' are its own parameter x, in a body 'x' is one of the module around it, and 'parent.x' is so in both; 'sub.x' is one of a submodule that is there",
         ),
-        ModelFault::Circle => say_of_value(
+        ValueFault::Circle => say_of_value(
             told,
             "",
             it,
@@ -384,7 +380,7 @@ fn tell_parameter(
     sources: &Sources<'_>,
     path: &str,
     it: &Found<'_>,
-    fault: ModelFault,
+    fault: ValueFault,
 ) -> Result<bool, NoMemory> {
     let alloc = told.alloc();
     let Some(declaration) = blamed(alloc, it, fault)? else {

@@ -5,9 +5,9 @@ use Rattle.param_following.specs.Asking.{Asking, Done, Ask}
 use Rattle.sim_values.specs.declared.value.Value.{Value}
 use Rattle.sim_values.specs.declared.value.Value.TheVariants as value
 use Rattle.sim_values.specs.declared.model_fault.ModelFault.{ModelFault}
-use Rattle.sim_values.specs.declared.model_fault.ModelFault.TheVariants.{UnknownType, Unassigned}
-use Rattle.sim_values.specs.declared.model_fault.ModelFault.TheVariants.{Mismatch, GateSize}
-use Rattle.inside_parts.specs.Faults.{of_value}
+use Rattle.sim_values.specs.declared.model_fault.ModelFault.TheVariants as fault
+use Rattle.sim_values.specs.declared.model_fault.ModelFault.TheVariants.{UnknownType, GateSize}
+use Rattle.sim_values.specs.declared.value_fault.ValueFault.TheVariants.{Unassigned, Mismatch}
 use Rattle.inside_wiring.specs.declared.wiring.Carrier.{Carrier}
 use Rattle.param_eval.specs.References.{Reference}
 use Rattle.param_eval.specs.Values.{Valued}
@@ -24,8 +24,8 @@ KeyAsking = Asking Key Found ModelFault Found
 -- with a value; an inside is never asked for where a value is wanted
 abbrev pub value_then : (Value → KeyAsking) → Found → KeyAsking
 value_then next (found.Value v) = next v
-value_then next (found.Carrier c) = Done (Err Mismatch)
-value_then next (found.Inside i) = Done (Err Mismatch)
+value_then next (found.Carrier c) = Done (Err (fault.Value Mismatch))
+value_then next (found.Inside i) = Done (Err (fault.Value Mismatch))
 
 -- the value of a key, and then the rest
 abbrev pub ask_then : Key → (Value → KeyAsking) → KeyAsking
@@ -34,8 +34,8 @@ ask_then k next = Ask k (value_then next)
 -- with what a channel does
 abbrev pub carrier_then : (Carrier → KeyAsking) → Found → KeyAsking
 carrier_then next (found.Carrier c) = next c
-carrier_then next (found.Value v) = Done (Err Mismatch)
-carrier_then next (found.Inside i) = Done (Err Mismatch)
+carrier_then next (found.Value v) = Done (Err (fault.Value Mismatch))
+carrier_then next (found.Inside i) = Done (Err (fault.Value Mismatch))
 
 -- what a channel does, and then the rest
 abbrev pub carried_then : Key → (Carrier → KeyAsking) → KeyAsking
@@ -49,7 +49,7 @@ result_then (Err f) next = Done (Err f)
 -- with a whole number
 abbrev pub whole_then : Value → (ℤ → KeyAsking) → KeyAsking
 whole_then (value.Whole z) next = next z
-whole_then _ next = Done (Err Mismatch)
+whole_then _ next = Done (Err (fault.Value Mismatch))
 
 -- a size of 0 to 65,536, as keys of sizes have
 abbrev pub small : ℤ → Result ℕ ModelFault
@@ -58,7 +58,7 @@ small (negsuc n) = Err GateSize
 
 abbrev pub sized_by : Value → Result ℕ ModelFault
 sized_by (value.Whole z) = small z
-sized_by _ = Err Mismatch
+sized_by _ = Err (fault.Value Mismatch)
 
 abbrev pub size_then : Value → (ℕ → KeyAsking) → KeyAsking
 size_then v next = result_then (sized_by v) next
@@ -66,11 +66,11 @@ size_then v next = result_then (sized_by v) next
 -- the number of a type, as keys of types have
 abbrev pub natural_in : ℤ → Result ℕ ModelFault
 natural_in (pos n) = Ok n
-natural_in (negsuc n) = Err Mismatch
+natural_in (negsuc n) = Err (fault.Value Mismatch)
 
 abbrev pub numbered_by : Value → Result ℕ ModelFault
 numbered_by (value.Whole z) = natural_in z
-numbered_by _ = Err Mismatch
+numbered_by _ = Err (fault.Value Mismatch)
 
 abbrev pub number_then : Value → (ℕ → KeyAsking) → KeyAsking
 number_then v next = result_then (numbered_by v) next
@@ -84,17 +84,17 @@ known_then (Some x) next = next x
 abbrev pub truth_then : Value → KeyAsking → KeyAsking → KeyAsking
 truth_then (value.Truth true) if_so if_not = if_so
 truth_then (value.Truth false) if_so if_not = if_not
-truth_then _ if_so if_not = Done (Err Mismatch)
+truth_then _ if_so if_not = Done (Err (fault.Value Mismatch))
 
 -- what is meant
 abbrev pub meant_then : Meaning → (Value → KeyAsking) → KeyAsking
 meant_then (meaning.Is v) next = next v
 meant_then (meaning.Of k) next = ask_then k next
-meant_then meaning.Nothing next = Done (Err Unassigned)
+meant_then meaning.Nothing next = Done (Err (fault.Value Unassigned))
 
 -- an asking for references is one for what they mean; then the rest, with the value that it comes
 -- to
 abbrev pub valued_then : (Reference → Meaning) → Valued → (Value → KeyAsking) → KeyAsking
 valued_then means (Done (Ok v)) next = next v
-valued_then means (Done (Err f)) next = Done (Err (of_value f))
+valued_then means (Done (Err f)) next = Done (Err (fault.Value f))
 valued_then means (Ask r rest) next = meant_then (means r) (λ v. valued_then means (rest v) next)

@@ -10,6 +10,7 @@ use Rattle.ned_trees.specs.declared.declarations.TypeDeclaration.{TypeDeclaratio
 use Rattle.ned_trees.specs.declared.declarations.TypeKind.TheVariants as kinds
 use Rattle.sim_values.specs.declared.model_fault.ModelFault.{ModelFault}
 use Rattle.sim_values.specs.declared.model_fault.ModelFault.TheVariants as fault
+use Rattle.sim_values.specs.declared.value_fault.ValueFault.TheVariants as value_fault
 use Rattle.inside_wiring.specs.declared.wiring.Carrier.{Carrier}
 use Rattle.inside_wiring.specs.declared.wiring.Link.{Link}
 use Rattle.inside_keys.specs.declared.found.Found.{Found}
@@ -98,4 +99,4 @@ pub record AreWorkedToo : Type 0 where
   pub all_free : lacking [] ≡ Some 1
   -- where nothing names the type of a submodule
   pub unnamed : carriers_in (inside_by (setting_of (chosen_network ∷ plug ∷ [])))
-      ≡ Some (Err fault.Unassigned)
+      ≡ Some (Err (fault.Value value_fault.Unassigned))

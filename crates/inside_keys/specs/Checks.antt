@@ -3,9 +3,9 @@ use Rattle.std.specs.Prelude.{zero, nat_lt, ℤ, pos, negsuc, Result, Ok, Err, i
 use Rattle.sim_values.specs.declared.value.Value.{Value}
 use Rattle.sim_values.specs.declared.value.Value.TheVariants as value
 use Rattle.sim_values.specs.declared.model_fault.ModelFault.{ModelFault}
-use Rattle.sim_values.specs.declared.model_fault.ModelFault.TheVariants.{Mismatch, TooManyModules}
-use Rattle.sim_values.specs.declared.model_fault.ModelFault.TheVariants.{GateSize}
-use Rattle.inside_parts.specs.Faults.{of_value}
+use Rattle.sim_values.specs.declared.model_fault.ModelFault.TheVariants as fault
+use Rattle.sim_values.specs.declared.model_fault.ModelFault.TheVariants.{TooManyModules, GateSize}
+use Rattle.sim_values.specs.declared.value_fault.ValueFault.TheVariants.{Mismatch}
 use Rattle.param_eval.specs.Operators.{Evaluated}
 use Rattle.param_values.specs.declared.kind.Kind.{Kind}
 use Rattle.param_values.specs.Kinds.{of_kind}
@@ -14,7 +14,7 @@ use Rattle.inside_keys.specs.declared.check.Check.TheVariants as check
 
 abbrev pub told : Evaluated → Result Value ModelFault
 told (Ok v) = Ok v
-told (Err f) = Err (of_value f)
+told (Err f) = Err (fault.Value f)
 
 -- 0 to 65,536
 abbrev pub sized : ModelFault → ModelFault → ℤ → Result Value ModelFault
@@ -23,7 +23,7 @@ sized below above (negsuc n) = Err below
 
 abbrev pub not_negative : Value → Result Value ModelFault
 not_negative (value.Quantity d (pos n)) = Ok (value.Quantity d (pos n))
-not_negative _ = Err Mismatch
+not_negative _ = Err (fault.Value Mismatch)
 
 abbrev pub amount_by : Result Value ModelFault → Result Value ModelFault
 amount_by (Ok v) = not_negative v
@@ -39,6 +39,6 @@ checked (check.Parameter k) v = told (of_kind k v)
 checked (check.Amount k) v = amount k v
 checked check.Zero (value.Whole (pos zero)) = Ok (value.Whole (pos zero))
 checked check.Condition (value.Truth b) = Ok (value.Truth b)
-checked check.VectorSize (value.Whole z) = sized Mismatch TooManyModules z
+checked check.VectorSize (value.Whole z) = sized (fault.Value Mismatch) TooManyModules z
 checked check.GateSize (value.Whole z) = sized GateSize GateSize z
-checked _ v = Err Mismatch
+checked _ v = Err (fault.Value Mismatch)

@@ -24,10 +24,11 @@ use Rattle.sim_values.specs.declared.value.Value.{Value}
 use Rattle.sim_values.specs.declared.value.Value.TheVariants as value
 use Rattle.param_eval.specs.Values.{valued}
 use Rattle.sim_values.specs.declared.model_fault.ModelFault.{ModelFault}
+use Rattle.sim_values.specs.declared.model_fault.ModelFault.TheVariants as fault
 use Rattle.sim_values.specs.declared.model_fault.ModelFault.TheVariants.{UnknownType, Interface}
-use Rattle.sim_values.specs.declared.model_fault.ModelFault.TheVariants.{Unassigned, Mismatch}
-use Rattle.sim_values.specs.declared.model_fault.ModelFault.TheVariants.{Circle, NoGate}
-use Rattle.sim_values.specs.declared.model_fault.ModelFault.TheVariants.{TooDeep}
+use Rattle.sim_values.specs.declared.model_fault.ModelFault.TheVariants.{NoGate}
+use Rattle.sim_values.specs.declared.value_fault.ValueFault.TheVariants.{Unassigned, Mismatch}
+use Rattle.sim_values.specs.declared.value_fault.ValueFault.TheVariants.{Circle, TooDeep}
 use Rattle.inside_parts.specs.Gates as type_gates
 use Rattle.inside_parts.specs.Names.{is_one, position_of}
 use Rattle.inside_wiring.specs.declared.wiring.Carrier.{Carrier}
@@ -63,7 +64,7 @@ kept (Err f) = Done (Err f)
 
 -- an expression that gives a value: what it asks, and what its value has to be
 abbrev pub posed_asking : Option Posed → KeyAsking
-posed_asking None = Done (Err Unassigned)
+posed_asking None = Done (Err (fault.Value Unassigned))
 posed_asking (Some p) = valued_then (meant_under p.variables p.place) (valued p.expression)
     (λ v. kept (checked p.check v))
 
@@ -76,9 +77,9 @@ module _ (m : Module) where
 
   -- `sub.x`: of no vector
   abbrev pub member : List ℕ → Option Submodule → KeyAsking
-  member x None = Done (Err Unassigned)
-  member x (Some l) = if is_vector l then Done (Err Unassigned)
-      else conditioned m l (of_child l.name None x) (Done (Err Unassigned))
+  member x None = Done (Err (fault.Value Unassigned))
+  member x (Some l) = if is_vector l then Done (Err (fault.Value Unassigned))
+      else conditioned m l (of_child l.name None x) (Done (Err (fault.Value Unassigned)))
 
   -- the index, where it is one of so many
   abbrev pub among : ℕ → Option ℕ → Option ℕ
@@ -86,15 +87,15 @@ module _ (m : Module) where
   among n (Some k) = if nat_lt k n then Some k else None
 
   abbrev pub at_index : List ℕ → List ℕ → Option ℕ → KeyAsking
-  at_index name x None = Done (Err Unassigned)
+  at_index name x None = Done (Err (fault.Value Unassigned))
   at_index name x (Some k) = of_child name (Some k) x
 
   -- `sub[k].x`: of a vector
   abbrev pub element_of : ℤ → List ℕ → Option Submodule → KeyAsking
-  element_of k x None = Done (Err Unassigned)
+  element_of k x None = Done (Err (fault.Value Unassigned))
   element_of k x (Some l) =
       if is_vector l then conditioned m l (sized m l (λ n. at_index l.name x (among n (natural k))))
-      (Done (Err Unassigned)) else Done (Err Unassigned)
+      (Done (Err (fault.Value Unassigned))) else Done (Err (fault.Value Unassigned))
 
   -- `exists(sub)`
   abbrev pub exists : Option Submodule → KeyAsking
@@ -116,10 +117,10 @@ module _ (m : Module) where
 
   -- `sizeof(sub)`: a vector whose condition doesn't hold has no elements
   abbrev pub vector_size : Option Submodule → KeyAsking
-  vector_size None = Done (Err Unassigned)
+  vector_size None = Done (Err (fault.Value Unassigned))
   vector_size (Some l) = if is_vector l
       then conditioned m l (sized m l (λ n. is (value.Whole (pos n)))) (is (value.Whole (pos 0)))
-      else Done (Err Unassigned)
+      else Done (Err (fault.Value Unassigned))
 
 -- a body that says nothing
 abbrev pub no_body : SubmoduleBody
@@ -215,7 +216,7 @@ module _ (s : ModuleRules) where
   -- the type that a value names
   abbrev pub type_told : TypeDeclaration → ParametricType → SubmoduleBody → Value → KeyAsking
   type_told t p body (value.Text name) = type_found p body name (type_meant t name)
-  type_told t p body _ = Done (Err Mismatch)
+  type_told t p body _ = Done (Err (fault.Value Mismatch))
 
   -- the full path of an entry that names a submodule's type
   abbrev pub type_path : Module → List ℕ
@@ -224,7 +225,7 @@ module _ (s : ModuleRules) where
   -- an expression that stands in the type of the module around
   abbrev pub type_asking_by : Module → TypeDeclaration → ParametricType → SubmoduleBody
       → Option Written → KeyAsking
-  type_asking_by around t p body None = Done (Err Unassigned)
+  type_asking_by around t p body None = Done (Err (fault.Value Unassigned))
   type_asking_by around t p body (Some w) = valued_then
       (meant_under [] (place_in s around section.OfInside)) (valued w.expression)
       (type_told t p body)
@@ -263,7 +264,8 @@ module _ (s : ModuleRules) where
 
   abbrev pub type_declared : Module → Option Module → KeyAsking
   type_declared m None = numbered (s.root m)
-  type_declared m (Some around) = if s.is_too_deep m then Done (Err TooDeep) else typed_then around
+  type_declared m (Some around) =
+      if s.is_too_deep m then Done (Err (fault.Value TooDeep)) else typed_then around
       (λ n t. type_in m around t (submodule_named (s.stands m).name t.submodules))
 
   -- THE TYPE OF A MODULE: its nesting comes first
@@ -325,7 +327,7 @@ module _ (s : ModuleRules) where
   asking_of k = asking_by k.site k.what
 
   abbrev pub rules_of : Rules Key Found ModelFault
-  rules_of = record { same = same_key; asking = asking_of; circle = Circle }
+  rules_of = record { same = same_key; asking = asking_of; circle = fault.Value Circle }
 
   -- THE VALUE OF A KEY, or why it has none: Circle where it rests on itself
   abbrev pub value_at : Key → Result Found ModelFault

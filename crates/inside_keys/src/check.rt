@@ -4,10 +4,10 @@ ghost use Rattle.std.specs.Prelude.{◌≡◌};
 ghost use Rattle.inside_keys.specs.Checks.{amount, checked, not_negative, told};
 ghost use Rattle.param_values.specs.Kinds.{of_kind};
 
-use inside_parts::fault::of_value;
 use param_values::kind::{Kind, of_kind};
 use sim_values::model_fault::ModelFault;
 use sim_values::value::Value;
+use sim_values::value_fault::ValueFault;
 
 /// What the value of an expression has to be.
 #[derive(Clone, Copy, PartialEq, Eq)]
@@ -33,12 +33,12 @@ fn not_negative(value: Value) -> Result<Value, ModelFault>
     match value {
         Value::Quantity(dimension, amount) => {
             if amount < 0 {
-                Err(ModelFault::Mismatch)
+                Err(ModelFault::Value(ValueFault::Mismatch))
             } else {
                 Ok(Value::Quantity(dimension, amount))
             }
         }
-        _ => Err(ModelFault::Mismatch),
+        _ => Err(ModelFault::Value(ValueFault::Mismatch)),
     }
 }
 
@@ -48,7 +48,7 @@ fn parameter(kind: Kind, value: Value) -> Result<Value, ModelFault>
 {
     match of_kind(kind, value) {
         Ok(value) => Ok(value),
-        Err(fault) => Err(of_value(fault)),
+        Err(fault) => Err(ModelFault::Value(fault)),
     }
 }
 
@@ -73,7 +73,7 @@ pub fn checked(check: Check, value: Value) -> Result<Value, ModelFault>
         (Check::Condition, Value::Truth(holds)) => Ok(Value::Truth(holds)),
         (Check::VectorSize, Value::Whole(size)) => {
             if size < 0 {
-                Err(ModelFault::Mismatch)
+                Err(ModelFault::Value(ValueFault::Mismatch))
             } else if size > 65536 {
                 Err(ModelFault::TooManyModules)
             } else {
@@ -87,6 +87,6 @@ pub fn checked(check: Check, value: Value) -> Result<Value, ModelFault>
                 Ok(Value::Whole(size))
             }
         }
-        _ => Err(ModelFault::Mismatch),
+        _ => Err(ModelFault::Value(ValueFault::Mismatch)),
     }
 }

@@ -1,19 +1,8 @@
 -- Faults of a model.
 use Rattle.std.specs.Prelude.{◌≡◌, Result, Ok, Err}
-use Rattle.param_eval.specs.declared.fault.ValueFault as value_type
-use Rattle.param_eval.specs.declared.fault.ValueFault.TheVariants as value
 use Rattle.sim_values.specs.declared.model_fault.ModelFault.{ModelFault}
-use Rattle.sim_values.specs.declared.model_fault.ModelFault.TheVariants as fault
 use Rattle.inside_parts.specs.declared.fault.InsideError.{InsideError}
 use Rattle.inside_parts.specs.declared.fault.InsideError.TheVariants as stop
-
-abbrev pub of_value : value_type.ValueFault → ModelFault
-of_value value.Overflow = fault.Overflow
-of_value value.Inexact = fault.Inexact
-of_value value.Mismatch = fault.Mismatch
-of_value value.Unassigned = fault.Unassigned
-of_value value.Circle = fault.Circle
-of_value value.TooDeep = fault.TooDeep
 
 -- lack of memory
 abbrev pub IsOfMemory : InsideError → Type 0

@@ -1,26 +1,8 @@
 //! Why there is no value and no inside.
 
-ghost use Rattle.std.specs.Prelude.{◌≡◌};
-ghost use Rattle.inside_parts.specs.Faults as faults;
-
-use param_eval::fault::ValueFault;
 use sim_values::NoMemory;
 use sim_values::model_fault::ModelFault;
 use std::alloc::{AllocError, AllocFailed};
-
-/// The fault of a value, as one of a model.
-pub fn of_value(fault: ValueFault) -> ModelFault
-    ensures { result ≡ faults.of_value fault }
-{
-    match fault {
-        ValueFault::Overflow => ModelFault::Overflow,
-        ValueFault::Inexact => ModelFault::Inexact,
-        ValueFault::Mismatch => ModelFault::Mismatch,
-        ValueFault::Unassigned => ModelFault::Unassigned,
-        ValueFault::Circle => ModelFault::Circle,
-        ValueFault::TooDeep => ModelFault::TooDeep,
-    }
-}
 
 /// Why building stopped: a fault of the model, or lack of memory, which says nothing of the model.
 #[derive(Clone, Copy)]

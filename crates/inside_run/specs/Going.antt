@@ -10,7 +10,9 @@ use Rattle.ned_types.specs.Flat.{submodule_named}
 use Rattle.param_eval.specs.Evaluating.{resumed}
 use Rattle.sim_values.specs.declared.value.Value.{Value}
 use Rattle.sim_values.specs.declared.value.Value.TheVariants as value
-use Rattle.sim_values.specs.declared.model_fault.ModelFault.TheVariants.{NoGate, Unassigned}
+use Rattle.sim_values.specs.declared.model_fault.ModelFault.TheVariants as fault
+use Rattle.sim_values.specs.declared.model_fault.ModelFault.TheVariants.{NoGate}
+use Rattle.sim_values.specs.declared.value_fault.ValueFault.TheVariants.{Unassigned}
 use Rattle.inside_parts.specs.declared.fault.InsideError.{InsideError}
 use Rattle.inside_parts.specs.declared.fault.InsideError.TheVariants as stop
 use Rattle.inside_wiring.specs.Ends.{natural, part_named}
@@ -44,9 +46,9 @@ use Rattle.inside_walk.specs.Tasks.{done_with}
 
 -- with the number of elements
 abbrev pub counted : Module → List ℕ → Reading → ℕ → KeyAsking
-counted m name (reading.Member x) n = Done (Err Unassigned)
+counted m name (reading.Member x) n = Done (Err (fault.Value Unassigned))
 counted m name (reading.Element k x) n = at_index m name x (among m n (natural k))
-counted m name reading.Exists n = Done (Err Unassigned)
+counted m name reading.Exists n = Done (Err (fault.Value Unassigned))
 counted m name (reading.ExistsAt k) n = is (value.Truth (is_there m (among m n (natural k))))
 counted m name reading.Size n = is (value.Whole (pos n))
 
@@ -63,19 +65,19 @@ there m name reading.Size = counting m name reading.Size
 
 -- where its condition doesn't hold
 abbrev pub absent : Reading → KeyAsking
-absent (reading.Member x) = Done (Err Unassigned)
-absent (reading.Element k x) = Done (Err Unassigned)
+absent (reading.Member x) = Done (Err (fault.Value Unassigned))
+absent (reading.Element k x) = Done (Err (fault.Value Unassigned))
 absent reading.Exists = is (value.Truth false)
 absent (reading.ExistsAt k) = is (value.Truth false)
 absent reading.Size = is (value.Whole (pos 0))
 
 -- where nothing of that kind is declared
 abbrev pub unread : Reading → KeyAsking
-unread (reading.Member x) = Done (Err Unassigned)
-unread (reading.Element k x) = Done (Err Unassigned)
+unread (reading.Member x) = Done (Err (fault.Value Unassigned))
+unread (reading.Element k x) = Done (Err (fault.Value Unassigned))
 unread reading.Exists = is (value.Truth false)
 unread (reading.ExistsAt k) = is (value.Truth false)
-unread reading.Size = Done (Err Unassigned)
+unread reading.Size = Done (Err (fault.Value Unassigned))
 
 -- whether it is read of what is a vector, or is none
 abbrev pub fits : Reading → Bool → Bool
@@ -97,7 +99,7 @@ module _ (s : ModuleRules) where
   abbrev pub bodied : Module → What → TypeDeclaration → SubmoduleBody → KeyAsking
   bodied m (what.Param x) t body = posed_asking (parameter_posed s m t body x)
   bodied m (what.Declared g) t body = declared_asking s m t g body
-  bodied m _ t body = Done (Err Unassigned)
+  bodied m _ t body = Done (Err (fault.Value Unassigned))
 
   -- with the type that was asked for
   abbrev pub typed : (ℕ → TypeDeclaration → KeyAsking) → Found → KeyAsking

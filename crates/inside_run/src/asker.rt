@@ -2,7 +2,8 @@
 
 ghost use Rattle.std.specs.Prelude.{◌≡◌, ◌+◌, ◌≤◌, ℕ, IfOk};
 ghost use Rattle.param_engine.specs.Turns.{came_to, asks};
-ghost use Rattle.sim_values.specs.declared.model_fault.ModelFault.TheVariants.{Circle};
+ghost use Rattle.sim_values.specs.declared.model_fault.ModelFault.TheVariants as fault;
+ghost use Rattle.sim_values.specs.declared.value_fault.ValueFault.TheVariants.{Circle};
 ghost use Rattle.inside_keys.specs.Asked.{KeyAsking as asked_type};
 ghost use Rattle.inside_keys.specs.Settings.{ModuleRules};
 ghost use Rattle.inside_keys.specs.Values.{asking_of};
@@ -33,6 +34,7 @@ use sim_values::NoMemory;
 use sim_values::model_fault::ModelFault;
 use sim_values::text::Text;
 use sim_values::value::Value;
+use sim_values::value_fault::ValueFault;
 use std::alloc::Global;
 use std::mem::replace;
 
@@ -211,7 +213,7 @@ fn on_inside<'m, S: ModuleSource>(
 {
     match progress {
         KeyProgress::Joined(names, stands, gate) => size_from(scene, names, &stands, &gate, inside),
-        _ => Err(InsideError::Fault(ModelFault::Mismatch)),
+        _ => Err(InsideError::Fault(ModelFault::Value(ValueFault::Mismatch))),
     }
 }
 
@@ -230,7 +232,7 @@ fn on_carrier<'m, S: ModuleSource>(
     match progress {
         KeyProgress::Inside(walking) => carried_inside(alloc, walking.into_inner(), carrier),
         KeyProgress::Joined(_, _, _) => Err(InsideError::Fault(ModelFault::NoGate)),
-        _ => Err(InsideError::Fault(ModelFault::Mismatch)),
+        _ => Err(InsideError::Fault(ModelFault::Value(ValueFault::Mismatch))),
     }
 }
 
@@ -297,7 +299,7 @@ impl<'m, S: ModuleSource> Asker for Keys<'m, S> {
 
     ghost asking = { λ keys. asking_of (S.setting keys.scene.now) };
 
-    ghost circle = { λ keys. Circle };
+    ghost circle = { λ keys. fault.Value Circle };
 
     ghost resumed = { λ keys evaluation.
         goes_on (S.setting evaluation.scene.now) evaluation.progress };
@@ -305,7 +307,7 @@ impl<'m, S: ModuleSource> Asker for Keys<'m, S> {
     ghost left = { λ evaluation. weight (S.setting evaluation.scene.now) evaluation.progress };
 
     fn circle(&self) -> ModelFault {
-        ModelFault::Circle
+        ModelFault::Value(ValueFault::Circle)
     }
 
     fn start(

@@ -31,6 +31,7 @@ use sim_values::NoMemory;
 use sim_values::model_fault::ModelFault;
 use sim_values::text::Text;
 use sim_values::value::Value;
+use sim_values::value_fault::ValueFault;
 use std::alloc::Global;
 
 /// Whether a type has a gate vector of that name.
@@ -133,7 +134,7 @@ pub fn with_body<'m, S: ModuleSource>(
     match what {
         What::Param(name) => parameter_of(alloc, scene, site, name, declared, submodule),
         What::Declared(name) => declared_gate(alloc, scene, site, name, declared, submodule),
-        _ => Err(InsideError::Fault(ModelFault::Unassigned)),
+        _ => Err(InsideError::Fault(ModelFault::Value(ValueFault::Unassigned))),
     }
 }
 
@@ -234,7 +235,7 @@ pub fn begin_type<'m, S: ModuleSource>(
     match declarer_of(&stands) {
         Some(around) => {
             if scene.is_too_deep(site) {
-                return Err(InsideError::Fault(ModelFault::TooDeep));
+                return Err(InsideError::Fault(ModelFault::Value(ValueFault::TooDeep)));
             }
             let key = around.key(alloc, What::Type)?;
             let name = stands.name.copy(alloc)?;

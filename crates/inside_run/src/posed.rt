@@ -39,6 +39,7 @@ use sim_values::NoMemory;
 use sim_values::model_fault::ModelFault;
 use sim_values::text::Text;
 use sim_values::value::Value;
+use sim_values::value_fault::ValueFault;
 use sqlite_items::Boxed;
 use std::alloc::Global;
 
@@ -99,7 +100,7 @@ pub fn begin_posed<'m>(alloc: Global, posed: Option<Posable<'m>>) -> Result<Move
     ensures costs { (s : ModuleRules) → Costs s (posed_weight (maybe_posed posed.entry)) result }
 {
     let Some(posed) = posed else {
-        return Err(InsideError::Fault(ModelFault::Unassigned));
+        return Err(InsideError::Fault(ModelFault::Value(ValueFault::Unassigned)));
     };
     let Posable {
         expression,

@@ -9,12 +9,13 @@ ghost use Rattle.inside_run.specs.Runs.{Reaches, needs};
 use crate::variables::Variables;
 use inside_keys::key::Key;
 use inside_keys::place::{ExpressionPlace, Meaning};
-use inside_parts::fault::{InsideError, of_value};
+use inside_parts::fault::InsideError;
 use param_eval::evaluation::{Evaluation, EvaluationStep};
 use param_eval::names::Name;
 use sim_values::NoMemory;
 use sim_values::model_fault::ModelFault;
 use sim_values::value::Value;
+use sim_values::value_fault::ValueFault;
 use std::alloc::Global;
 
 /// What an expression has come to.
@@ -60,11 +61,15 @@ pub fn reach<'m, V: Variables>(
     loop {
         turn = match turn {
             EvaluationStep::Done(value) => return Ok(Reached::Value(value)),
-            EvaluationStep::Fault(fault) => return Err(InsideError::Fault(of_value(fault))),
+            EvaluationStep::Fault(fault) => return Err(InsideError::Fault(ModelFault::Value(
+                fault,
+            ))),
             EvaluationStep::Ask(name) => match meaning(alloc, place, variables, name)? {
                 Meaning::Is(value) => evaluation.go_on(alloc, value)?,
                 Meaning::Of(key) => return Ok(Reached::Key(key)),
-                Meaning::Nothing => return Err(InsideError::Fault(ModelFault::Unassigned)),
+                Meaning::Nothing => return Err(InsideError::Fault(ModelFault::Value(
+                    ValueFault::Unassigned,
+                ))),
             },
         };
     }

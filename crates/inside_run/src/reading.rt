@@ -21,6 +21,7 @@ use ned_trees::declarations::Submodule;
 use sim_values::model_fault::ModelFault;
 use sim_values::text::Text;
 use sim_values::value::Value;
+use sim_values::value_fault::ValueFault;
 use std::alloc::Global;
 
 /// Of what nothing of that kind is declared.
@@ -30,7 +31,7 @@ fn unread<'m>(reading: &Reading) -> Result<Moved<'m>, InsideError>
 {
     match reading {
         Reading::Member(_) | Reading::Element(_, _) | Reading::Size => {
-            Err(InsideError::Fault(ModelFault::Unassigned))
+            Err(InsideError::Fault(ModelFault::Value(ValueFault::Unassigned)))
         }
         Reading::Exists | Reading::ExistsAt(_) => Ok(Moved::Done(Found::Value(Value::Truth(
             false,
@@ -44,9 +45,9 @@ fn absent<'m>(reading: &Reading) -> Result<Moved<'m>, InsideError>
     ensures costs { (s : ModuleRules) → Costs s 2 result }
 {
     match reading {
-        Reading::Member(_) | Reading::Element(_, _) => Err(InsideError::Fault(
-            ModelFault::Unassigned,
-        )),
+        Reading::Member(_) | Reading::Element(_, _) => Err(InsideError::Fault(ModelFault::Value(
+            ValueFault::Unassigned,
+        ))),
         Reading::Exists | Reading::ExistsAt(_) => Ok(Moved::Done(Found::Value(Value::Truth(
             false,
         )))),
@@ -134,7 +135,7 @@ fn at_index<'m>(
 {
     match index {
         Some(index) => of_child(alloc, site, name, Some(index), parameter),
-        None => Err(InsideError::Fault(ModelFault::Unassigned)),
+        None => Err(InsideError::Fault(ModelFault::Value(ValueFault::Unassigned))),
     }
 }
 
@@ -151,7 +152,9 @@ fn counted<'m>(
     ensures costs { (s : ModuleRules) → Costs s 1 result }
 {
     match reading {
-        Reading::Member(_) | Reading::Exists => Err(InsideError::Fault(ModelFault::Unassigned)),
+        Reading::Member(_) | Reading::Exists => Err(InsideError::Fault(ModelFault::Value(
+            ValueFault::Unassigned,
+        ))),
         Reading::Element(index, parameter) => {
             at_index(alloc, site, name, among(count, index), parameter)
         }
@@ -227,7 +230,7 @@ pub fn held<'m>(
     match value {
         Value::Truth(true) => there(alloc, site, name, reading),
         Value::Truth(false) => absent(&reading),
-        _ => Err(InsideError::Fault(ModelFault::Mismatch)),
+        _ => Err(InsideError::Fault(ModelFault::Value(ValueFault::Mismatch))),
     }
 }
 

@@ -36,6 +36,7 @@ use param_eval::evaluation::{Evaluation, EvaluationStep};
 use sim_values::NoMemory;
 use sim_values::model_fault::ModelFault;
 use sim_values::value::Value;
+use sim_values::value_fault::ValueFault;
 use sqlite_items::{Boxed, Items};
 use std::alloc::Global;
 
@@ -83,7 +84,7 @@ fn wanted_number<'m>(
         tasks.old state.turns result tasks.new }
 {
     match want {
-        Want::If(_, _) => Err(InsideError::Fault(ModelFault::Mismatch)),
+        Want::If(_, _) => Err(InsideError::Fault(ModelFault::Value(ValueFault::Mismatch))),
         Want::First(variable, last, list, body) => {
             let want = Want::Last(variable, number, list, body);
             Ok(evaluate(alloc, last, want, state)?)
@@ -140,7 +141,7 @@ fn wanted_truth<'m>(
 {
     match want {
         Want::If(list, body) => decided(alloc, ground, tasks, list, body, holds, state),
-        _ => Err(InsideError::Fault(ModelFault::Mismatch)),
+        _ => Err(InsideError::Fault(ModelFault::Value(ValueFault::Mismatch))),
     }
 }
 
@@ -161,7 +162,7 @@ fn wanted<'m>(
     match value {
         Value::Whole(number) => wanted_number(alloc, ground, tasks, want, number, state),
         Value::Truth(holds) => wanted_truth(alloc, ground, tasks, want, holds, state),
-        _ => Err(InsideError::Fault(ModelFault::Mismatch)),
+        _ => Err(InsideError::Fault(ModelFault::Value(ValueFault::Mismatch))),
     }
 }
 
@@ -384,7 +385,7 @@ fn resume<'m>(
         Doing::Expression(evaluation, want) => {
             resume_expression(alloc, ground, tasks, evaluation, want, state, value)
         }
-        Doing::Carrier(_) => Err(InsideError::Fault(ModelFault::Mismatch)),
+        Doing::Carrier(_) => Err(InsideError::Fault(ModelFault::Value(ValueFault::Mismatch))),
     }
 }
 
@@ -423,8 +424,8 @@ fn resume_carrier<'m>(
 {
     match doing {
         Doing::Carrier(carry) => carried(alloc, ground, tasks, carry, carrier, state),
-        Doing::Key(_) => Err(InsideError::Fault(ModelFault::Mismatch)),
-        Doing::Expression(_, _) => Err(InsideError::Fault(ModelFault::Mismatch)),
+        Doing::Key(_) => Err(InsideError::Fault(ModelFault::Value(ValueFault::Mismatch))),
+        Doing::Expression(_, _) => Err(InsideError::Fault(ModelFault::Value(ValueFault::Mismatch))),
     }
 }
 

@@ -38,6 +38,7 @@ use sim_values::NoMemory;
 use sim_values::model_fault::ModelFault;
 use sim_values::text::Text;
 use sim_values::value::Value;
+use sim_values::value_fault::ValueFault;
 use sqlite_items::Boxed;
 use std::alloc::Global;
 
@@ -248,7 +249,7 @@ fn told<'m, S: ModuleSource>(
 {
     match value {
         Value::Text(name) => named_type(alloc, scene, declared, parametric, body, &name),
-        _ => Err(InsideError::Fault(ModelFault::Mismatch)),
+        _ => Err(InsideError::Fault(ModelFault::Value(ValueFault::Mismatch))),
     }
 }
 
@@ -355,7 +356,7 @@ fn begin_chosen<'m, S: ModuleSource>(
         (values.type_written (S.setting scene.now) site.now parametric.now)) result }
 {
     let Some(written) = written(alloc, scene, site, parametric)? else {
-        return Err(InsideError::Fault(ModelFault::Unassigned));
+        return Err(InsideError::Fault(ModelFault::Value(ValueFault::Unassigned)));
     };
     let place = place_in(alloc, scene, around, Section::OfInside)?;
     let (evaluation, turn) = Evaluation::start(alloc, written.expression)?;

@@ -28,6 +28,7 @@ use sim_values::NoMemory;
 use sim_values::model_fault::ModelFault;
 use sim_values::text::Text;
 use sim_values::value::Value;
+use sim_values::value_fault::ValueFault;
 use sqlite_items::Boxed;
 use std::alloc::Global;
 
@@ -474,7 +475,7 @@ pub fn size(value: &Value) -> Result<u32, InsideError>
                 Ok(*number as u32)
             }
         }
-        _ => Err(InsideError::Fault(ModelFault::Mismatch)),
+        _ => Err(InsideError::Fault(ModelFault::Value(ValueFault::Mismatch))),
     }
 }
 
@@ -485,12 +486,12 @@ pub fn number(value: &Value) -> Result<usize, InsideError>
     match value {
         Value::Whole(number) => {
             if *number < 0 {
-                Err(InsideError::Fault(ModelFault::Mismatch))
+                Err(InsideError::Fault(ModelFault::Value(ValueFault::Mismatch)))
             } else {
                 Ok(*number as usize)
             }
         }
-        _ => Err(InsideError::Fault(ModelFault::Mismatch)),
+        _ => Err(InsideError::Fault(ModelFault::Value(ValueFault::Mismatch))),
     }
 }
 
@@ -536,7 +537,7 @@ fn held<'m>(
             let state = noted(state, Made::Absent)?;
             Ok(Next::Go(state))
         }
-        _ => Err(InsideError::Fault(ModelFault::Mismatch)),
+        _ => Err(InsideError::Fault(ModelFault::Value(ValueFault::Mismatch))),
     }
 }
 

@@ -8,7 +8,9 @@ use denote.Enum.Bare.{sameb, same_true, true_same}
 use Rattle.sim_values.specs.contracts.value.Dimension as dimension_kind
 use Rattle.sim_values.specs.declared.value.Value.{Value}
 use Rattle.sim_values.specs.declared.value.Value.TheVariants as value
-use Rattle.sim_values.specs.contracts.model_fault.ModelFault as fault_kind
+use Rattle.sim_values.specs.contracts.value_fault.ValueFault as fault_kind
+use Rattle.sim_values.specs.declared.model_fault.ModelFault.{ModelFault}
+use Rattle.sim_values.specs.declared.model_fault.ModelFault.TheVariants as fault
 use Rattle.model_questions.specs.declared.answer.Answer.{Answer}
 use Rattle.model_questions.specs.declared.answer.Answer.TheVariants as answer
 use Rattle.model_questions.specs.declared.answer.Built.{Built}
@@ -20,7 +22,7 @@ use Rattle.model_questions.specs.declared.answer.Neighbour.{Neighbour}
 use Rattle.model_questions.specs.declared.answer.Neighbour.TheVariants as neighbour
 use Rattle.model_questions.specs.declared.answer.NextGate.{NextGate}
 use Rattle.model_injections.specs.declared.injection.Injection.{Injection}
-use Rattle.model_agreement.specs.Same.{same_value, same_class, same_index, same_built, same_inside, same_due, same_message, same_injection, same_injections, same_next, same_gate, same_neighbour, same_channel, same_hop, same_end, same_answer}
+use Rattle.model_agreement.specs.Same.{same_value, same_class, same_index, same_built, same_inside, same_due, same_message, same_injection, same_injections, same_next, same_gate, same_neighbour, same_channel, same_hop, same_end, same_fault, same_answer}
 
 both : (a b : Bool) → (a && b) ≡ true → (a ≡ true) × (b ≡ true)
 both true b e = (refl, e)
@@ -134,6 +136,18 @@ end_is None None e = refl
 end_is (Some a) (Some b) e = ap Some (hop_is a b e)
 end_is _ _ e = cc
 
+fault_is : (a b : ModelFault) → same_fault a b ≡ true → a ≡ b
+fault_is (fault.Value f) (fault.Value g) e = ap fault.Value (same_true fault_kind.the_type (search rules) f g e)
+fault_is fault.UnknownType fault.UnknownType e = refl
+fault_is fault.Interface fault.Interface e = refl
+fault_is fault.GateSize fault.GateSize e = refl
+fault_is fault.NoGate fault.NoGate e = refl
+fault_is fault.AlreadyConnected fault.AlreadyConnected e = refl
+fault_is fault.Unconnected fault.Unconnected e = refl
+fault_is fault.TooManyTurns fault.TooManyTurns e = refl
+fault_is fault.TooManyModules fault.TooManyModules e = refl
+fault_is _ _ e = cc
+
 answer_is : (a b : Answer) → same_answer a b ≡ true → a ≡ b
 answer_is (answer.Root a) (answer.Root b) e = ap answer.Root ((bytes_eq-Decides a b).0 e)
 answer_is (answer.Inside a) (answer.Inside b) e = ap answer.Inside (inside_is a b e)
@@ -141,8 +155,8 @@ answer_is (answer.Value a) (answer.Value b) e = ap answer.Value (value_is a b e)
 answer_is (answer.Gate a) (answer.Gate b) e = ap answer.Gate (gate_is a b e)
 answer_is (answer.Next a) (answer.Next b) e = ap answer.Next (end_is a b e)
 answer_is (answer.Fault a f) (answer.Fault b g) e =
-    let h = both (bytes_eq a b) (sameb fault_kind.the_type f g) e in
-    ap (λ x. answer.Fault x f) ((bytes_eq-Decides a b).0 h.0) ∙ ap (answer.Fault b) (same_true fault_kind.the_type (search rules) f g h.1)
+    let h = both (bytes_eq a b) (same_fault f g) e in
+    ap (λ x. answer.Fault x f) ((bytes_eq-Decides a b).0 h.0) ∙ ap (answer.Fault b) (fault_is f g h.1)
 answer_is (answer.Beyond a) (answer.Beyond b) e = ap answer.Beyond ((booleans_Decides a b).0 e)
 answer_is (answer.Injection a) (answer.Injection b) e = ap answer.Injection (next_is a b e)
 answer_is answer.Absent answer.Absent e = refl
@@ -220,13 +234,24 @@ end_same : (a : Option NextGate) → same_end a a ≡ true
 end_same None = refl
 end_same (Some a) = hop_same a
 
+fault_same : (a : ModelFault) → same_fault a a ≡ true
+fault_same (fault.Value f) = true_same fault_kind.the_type f f refl
+fault_same fault.UnknownType = refl
+fault_same fault.Interface = refl
+fault_same fault.GateSize = refl
+fault_same fault.NoGate = refl
+fault_same fault.AlreadyConnected = refl
+fault_same fault.Unconnected = refl
+fault_same fault.TooManyTurns = refl
+fault_same fault.TooManyModules = refl
+
 answer_same : (a : Answer) → same_answer a a ≡ true
 answer_same (answer.Root a) = (bytes_eq-Decides a a).1 refl
 answer_same (answer.Inside a) = inside_same a
 answer_same (answer.Value a) = value_same a
 answer_same (answer.Gate a) = gate_same a
 answer_same (answer.Next a) = end_same a
-answer_same (answer.Fault a f) = join (bytes_eq a a) (sameb fault_kind.the_type f f) ((bytes_eq-Decides a a).1 refl) (true_same fault_kind.the_type f f refl)
+answer_same (answer.Fault a f) = join (bytes_eq a a) (same_fault f f) ((bytes_eq-Decides a a).1 refl) (fault_same f)
 answer_same (answer.Beyond a) = (booleans_Decides a a).1 refl
 answer_same (answer.Injection a) = next_same a
 answer_same answer.Absent = refl

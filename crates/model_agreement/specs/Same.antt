@@ -7,7 +7,9 @@ use denote.Enum.Bare.{sameb}
 use Rattle.sim_values.specs.contracts.value.Dimension as dimension_kind
 use Rattle.sim_values.specs.declared.value.Value.{Value}
 use Rattle.sim_values.specs.declared.value.Value.TheVariants as value
-use Rattle.sim_values.specs.contracts.model_fault.ModelFault as fault_kind
+use Rattle.sim_values.specs.contracts.value_fault.ValueFault as fault_kind
+use Rattle.sim_values.specs.declared.model_fault.ModelFault.{ModelFault}
+use Rattle.sim_values.specs.declared.model_fault.ModelFault.TheVariants as fault
 use Rattle.model_questions.specs.declared.answer.Answer.{Answer}
 use Rattle.model_questions.specs.declared.answer.Answer.TheVariants as answer
 use Rattle.model_questions.specs.declared.answer.Built.{Built}
@@ -103,6 +105,26 @@ same_end None (Some b) = false
 same_end (Some a) None = false
 same_end (Some a) (Some b) = same_hop a b
 
+abbrev pub same_fault : ModelFault → ModelFault → Bool
+same_fault (fault.Value f) (fault.Value g) = sameb fault_kind.the_type f g
+same_fault (fault.Value f) _ = false
+same_fault fault.UnknownType fault.UnknownType = true
+same_fault fault.UnknownType _ = false
+same_fault fault.Interface fault.Interface = true
+same_fault fault.Interface _ = false
+same_fault fault.GateSize fault.GateSize = true
+same_fault fault.GateSize _ = false
+same_fault fault.NoGate fault.NoGate = true
+same_fault fault.NoGate _ = false
+same_fault fault.AlreadyConnected fault.AlreadyConnected = true
+same_fault fault.AlreadyConnected _ = false
+same_fault fault.Unconnected fault.Unconnected = true
+same_fault fault.Unconnected _ = false
+same_fault fault.TooManyTurns fault.TooManyTurns = true
+same_fault fault.TooManyTurns _ = false
+same_fault fault.TooManyModules fault.TooManyModules = true
+same_fault fault.TooManyModules _ = false
+
 -- whether two answers are the same
 abbrev pub same_answer : Answer → Answer → Bool
 same_answer (answer.Root a) (answer.Root b) = bytes_eq a b
@@ -115,7 +137,7 @@ same_answer (answer.Gate a) (answer.Gate b) = same_gate a b
 same_answer (answer.Gate a) _ = false
 same_answer (answer.Next a) (answer.Next b) = same_end a b
 same_answer (answer.Next a) _ = false
-same_answer (answer.Fault a f) (answer.Fault b g) = bytes_eq a b && sameb fault_kind.the_type f g
+same_answer (answer.Fault a f) (answer.Fault b g) = bytes_eq a b && same_fault f g
 same_answer (answer.Fault a f) _ = false
 same_answer (answer.Beyond a) (answer.Beyond b) = beq a b
 same_answer (answer.Beyond a) _ = false

@@ -5,11 +5,13 @@ ghost use Rattle.std.specs.Bool.{Decides};
 ghost use Rattle.model_agreement.specs.Same.{same_value, same_class, same_index, same_built};
 ghost use Rattle.model_agreement.specs.Same.{same_inside, same_due, same_message, same_injection};
 ghost use Rattle.model_agreement.specs.Same.{same_injections, same_next, same_gate, same_neighbour};
-ghost use Rattle.model_agreement.specs.Same.{same_channel, same_hop, same_end, same_answer};
+ghost use Rattle.model_agreement.specs.Same.{same_channel, same_hop, same_end, same_fault};
+ghost use Rattle.model_agreement.specs.Same.{same_answer};
 
 use model_injections::injection::Injection;
 use model_questions::answer::{Answer, Built, Channel, Neighbour, NextGate};
 use module_api::call::Gate;
+use sim_values::model_fault::ModelFault;
 use sim_values::text::Text;
 use sim_values::value::Value;
 
@@ -185,6 +187,23 @@ fn same_end(one: &Option<NextGate>, other: &Option<NextGate>) -> bool
     }
 }
 
+fn same_fault(one: &ModelFault, other: &ModelFault) -> bool
+    ensures { result ≡ same_fault one.now other.now }
+{
+    match (one, other) {
+        (ModelFault::Value(a), ModelFault::Value(b)) => a == b,
+        (ModelFault::UnknownType, ModelFault::UnknownType) => true,
+        (ModelFault::Interface, ModelFault::Interface) => true,
+        (ModelFault::GateSize, ModelFault::GateSize) => true,
+        (ModelFault::NoGate, ModelFault::NoGate) => true,
+        (ModelFault::AlreadyConnected, ModelFault::AlreadyConnected) => true,
+        (ModelFault::Unconnected, ModelFault::Unconnected) => true,
+        (ModelFault::TooManyTurns, ModelFault::TooManyTurns) => true,
+        (ModelFault::TooManyModules, ModelFault::TooManyModules) => true,
+        _ => false,
+    }
+}
+
 fn compared(one: &Answer, other: &Answer) -> bool
     ensures { result ≡ same_answer one.now other.now }
 {
@@ -194,7 +213,7 @@ fn compared(one: &Answer, other: &Answer) -> bool
         (Answer::Value(a), Answer::Value(b)) => same_value(a, b),
         (Answer::Gate(a), Answer::Gate(b)) => same_gate(a, b),
         (Answer::Next(a), Answer::Next(b)) => same_end(a, b),
-        (Answer::Fault(a, f), Answer::Fault(b, g)) => a.is(b.as_bytes()) && f == g,
+        (Answer::Fault(a, f), Answer::Fault(b, g)) => a.is(b.as_bytes()) && same_fault(f, g),
         (Answer::Beyond(a), Answer::Beyond(b)) => a == b,
         (Answer::Injection(a), Answer::Injection(b)) => same_next(a, b),
         (Answer::Absent, Answer::Absent) => true,

@@ -4,7 +4,7 @@ use Rattle.std.proofs.Math.Nat.{pow-zero, pow-suc, pow-le-pow_left, mul-zero}
 use Rattle.std.proofs.Math.Pow.{pow-lt}
 use Rattle.std.specs.Int.{int_pow}
 use Rattle.param_eval.specs.Wholes.{bounded}
-use Rattle.param_eval.specs.declared.fault.ValueFault.TheVariants.{Overflow}
+use Rattle.sim_values.specs.declared.value_fault.ValueFault.TheVariants.{Overflow}
 
 zero_pow : (e : ℕ) → 63 < e → 0 ^ e ≡ 0
 zero_pow zero h = absurd (omega (arith, h))

@@ -3,7 +3,7 @@ use Rattle.std.proofs.Common.{◌≡◌, ◌≢◌, ℕ, zero, suc, ◌*◌, ◌
 use Rattle.std.proofs.Math.Nat.{zero-div, zero-mod, mul-mod_left, mul-div_cancel, zero-lt-suc}
 use Rattle.std.specs.Prelude.{int_div, int_rem}
 use Rattle.std.proofs.lemmas.Int.{quot-rem, rem_below, ints}
-use Rattle.param_eval.specs.declared.fault.ValueFault.TheVariants.{Overflow, Inexact}
+use Rattle.sim_values.specs.declared.value_fault.ValueFault.TheVariants.{Overflow, Inexact}
 use Rattle.param_eval.specs.Laws.{IsExact, IsFound, IsLeft}
 use Rattle.param_eval.specs.Wholes.{fits, bounded, is_zero}
 

@@ -4,7 +4,7 @@ use Rattle.std.proofs.Math.Nat.{div-add-mod', mod-lt, suc-mul}
 use Rattle.std.proofs.lemmas.Int.{ints}
 use Rattle.std.proofs.lemmas.Nat.{pow_pos}
 use Rattle.std.specs.Int.Signed.{shr_z}
-use Rattle.param_eval.specs.declared.fault.ValueFault.TheVariants.{Overflow}
+use Rattle.sim_values.specs.declared.value_fault.ValueFault.TheVariants.{Overflow}
 use Rattle.param_eval.specs.Laws.{IsRoundedDown}
 
 IsBetween : ℤ → ℕ → ℤ → Type 0

@@ -16,8 +16,8 @@ use Rattle.ned_trees.specs.declared.expressions.Operator.{Operator}
 use Rattle.ned_trees.specs.declared.expressions.Operator.TheVariants as op
 use Rattle.ned_trees.specs.declared.expressions.Sign.{Sign}
 use Rattle.ned_trees.specs.declared.expressions.Sign.TheVariants as sign
-use Rattle.param_eval.specs.declared.fault.ValueFault.{ValueFault}
-use Rattle.param_eval.specs.declared.fault.ValueFault.TheVariants.{Mismatch}
+use Rattle.sim_values.specs.declared.value_fault.ValueFault.{ValueFault}
+use Rattle.sim_values.specs.declared.value_fault.ValueFault.TheVariants.{Mismatch}
 use Rattle.param_eval.specs.Wholes.{sum, difference, product, quotient, remainder, power}
 use Rattle.param_eval.specs.Wholes.{shift_left, shift_right, negation, complement}
 

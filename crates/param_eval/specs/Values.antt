@@ -6,8 +6,8 @@ use Rattle.sim_values.specs.declared.value.Value.{Value}
 use Rattle.sim_values.specs.declared.value.Value.TheVariants as value
 use Rattle.ned_trees.specs.declared.expressions.Expression.{Expression, fold-Expression}
 use Rattle.ned_trees.specs.declared.expressions.Expression.TheOpen.{Expression-F}
-use Rattle.param_eval.specs.declared.fault.ValueFault.{ValueFault}
-use Rattle.param_eval.specs.declared.fault.ValueFault.TheVariants.{Mismatch}
+use Rattle.sim_values.specs.declared.value_fault.ValueFault.{ValueFault}
+use Rattle.sim_values.specs.declared.value_fault.ValueFault.TheVariants.{Mismatch}
 use Rattle.param_eval.specs.Operators.{Evaluated, applied, decided, signed, chosen}
 use Rattle.param_eval.specs.References.{Reference, Own, Scoped, Member, Element, Index, ParentIndex}
 use Rattle.param_eval.specs.References.{Sizeof, Exists, ExistsAt}

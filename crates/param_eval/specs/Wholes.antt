@@ -5,8 +5,8 @@ use Rattle.std.specs.Prelude.{int_div, int_rem, Bool, true, false, ◌||◌, not
 use Rattle.std.specs.Prelude.{if◌then◌else◌}
 use Rattle.std.specs.Int.{int_pow}
 use Rattle.std.specs.Int.Signed.{shr_z}
-use Rattle.param_eval.specs.declared.fault.ValueFault.{ValueFault}
-use Rattle.param_eval.specs.declared.fault.ValueFault.TheVariants.{Overflow, Inexact}
+use Rattle.sim_values.specs.declared.value_fault.ValueFault.{ValueFault}
+use Rattle.sim_values.specs.declared.value_fault.ValueFault.TheVariants.{Overflow, Inexact}
 
 -- whether a number is one of 64 bits with a sign
 abbrev pub fits : ℤ → Bool

@@ -8,13 +8,13 @@ ghost use Rattle.param_eval.specs.Evaluating.{done_after, task_weight, weight, w
 ghost use Rattle.param_eval.specs.Evaluating.{ended, resumed, came_to, asks, left};
 ghost use Rattle.param_eval.specs.Values.{valued, value_in};
 
-use crate::fault::ValueFault;
 use crate::names::{Name, Names};
 use crate::operators::{Combination, combined, settled, signed};
 use ned_trees::expressions::{Expression, Sign};
 use sim_values::NoMemory;
 use sim_values::text::Text;
 use sim_values::value::Value;
+use sim_values::value_fault::ValueFault;
 use std::alloc::Global;
 
 /// What is done with a value once it is there.

@@ -3,7 +3,6 @@
 #![tactic(auto)]
 
 pub mod evaluation;
-pub mod fault;
 pub mod laws;
 pub mod names;
 pub mod operators;

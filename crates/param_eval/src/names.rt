@@ -1,15 +1,15 @@
 //! What references are, and who knows their values.
 
 ghost use Rattle.std.specs.Prelude.{◌≡◌, Err, IfOk};
-ghost use Rattle.param_eval.specs.declared.fault.ValueFault.TheVariants.{Unassigned};
+ghost use Rattle.sim_values.specs.declared.value_fault.ValueFault.TheVariants.{Unassigned};
 ghost use Rattle.param_eval.specs.Operators.{Evaluated};
 ghost use Rattle.param_eval.specs.References.{Reference, reference_of};
 
-use crate::fault::ValueFault;
 use ned_trees::expressions::Scope;
 use sim_values::NoMemory;
 use sim_values::text::Text;
 use sim_values::value::Value;
+use sim_values::value_fault::ValueFault;
 use std::alloc::Global;
 
 /// A reference, as written; an index in it is the number that it is.

@@ -4,7 +4,6 @@ ghost use Rattle.std.specs.Prelude.{◌≡◌, ◌++◌, IfOk};
 ghost use Rattle.param_eval.specs.Combinations as combinations;
 ghost use Rattle.param_eval.specs.Operators as operators;
 
-use crate::fault::ValueFault;
 use crate::wholes::{
     complement, difference, negation, power, product, quotient, remainder, shift_left, shift_right,
     sum,
@@ -13,6 +12,7 @@ use ned_trees::expressions::{Choice, Operator, Sign};
 use sim_values::NoMemory;
 use sim_values::text::Text;
 use sim_values::value::{Dimension, Value};
+use sim_values::value_fault::ValueFault;
 use std::alloc::Global;
 use std::cmp::Ordering;
 

@@ -4,7 +4,7 @@ ghost use Rattle.std.specs.Prelude.{◌≡◌, ◌^◌, ◌<◌, pos, ◌*ℤ◌
 ghost use Rattle.std.specs.Int.{int_pow};
 ghost use Rattle.param_eval.specs.Wholes as wholes;
 
-use crate::fault::ValueFault;
+use sim_values::value_fault::ValueFault;
 
 /// The sum.
 pub(crate) fn sum(left: i64, right: i64) -> Result<i64, ValueFault>

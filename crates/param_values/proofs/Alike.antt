@@ -5,7 +5,7 @@ use Rattle.param_following.specs.Asking.{Done, Ask, with_value, outcome}
 use Rattle.param_following.specs.Following.{is_on, value_within, followed, or_circle, value_of}
 use Rattle.param_following.proofs.Circles.{no_circle, followed_or_circle}
 use Rattle.sim_values.specs.declared.value.Value.{Value}
-use Rattle.param_eval.specs.declared.fault.ValueFault.TheVariants.{Circle}
+use Rattle.sim_values.specs.declared.value_fault.ValueFault.TheVariants.{Circle}
 use Rattle.param_eval.specs.Operators.{Evaluated}
 use Rattle.param_values.specs.declared.key.Key.{Key}
 use Rattle.param_values.specs.Laws.{AlikeIsTheSame, AsksAmong, IsSelfContained, where_ok}

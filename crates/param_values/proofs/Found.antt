@@ -14,7 +14,7 @@ use Rattle.ned_trees.specs.declared.expressions.Scope.{Scope}
 use Rattle.ned_trees.specs.declared.expressions.Scope.TheVariants as scope
 use Rattle.ini_trees.specs.declared.entry.EntryValue.{EntryValue}
 use Rattle.ini_trees.specs.declared.entry.EntryValue.TheVariants as entry
-use Rattle.param_eval.specs.declared.fault.ValueFault.TheVariants.{Unassigned, Circle, Mismatch}
+use Rattle.sim_values.specs.declared.value_fault.ValueFault.TheVariants.{Unassigned, Circle, Mismatch}
 use Rattle.param_eval.specs.Operators.{Evaluated}
 use Rattle.param_eval.specs.References.{Own, Scoped}
 use Rattle.param_eval.specs.Values.{Valued, valued, asked}

@@ -5,7 +5,7 @@ use Rattle.sim_values.specs.Dimensions.{same_dimension}
 use Rattle.sim_values.specs.declared.value.Dimension.{Dimension}
 use Rattle.sim_values.specs.declared.value.Value.{Value}
 use Rattle.sim_values.specs.declared.value.Value.TheVariants as value
-use Rattle.param_eval.specs.declared.fault.ValueFault.TheVariants.{Mismatch}
+use Rattle.sim_values.specs.declared.value_fault.ValueFault.TheVariants.{Mismatch}
 use Rattle.param_eval.specs.Operators.{Evaluated}
 use Rattle.param_values.specs.declared.kind.Kind.{Kind}
 use Rattle.param_values.specs.declared.kind.Kind.TheVariants as kind

@@ -10,7 +10,7 @@ use Rattle.ned_trees.specs.declared.expressions.Expression.TheVariants as expres
 use Rattle.ned_trees.specs.declared.expressions.Scope.TheVariants as scope
 use Rattle.ini_trees.specs.declared.entry.EntryValue.{EntryValue}
 use Rattle.ini_trees.specs.declared.entry.EntryValue.TheVariants as entry
-use Rattle.param_eval.specs.declared.fault.ValueFault.TheVariants.{Circle, Unassigned, Mismatch}
+use Rattle.sim_values.specs.declared.value_fault.ValueFault.TheVariants.{Circle, Unassigned, Mismatch}
 use Rattle.param_eval.specs.Operators.{Evaluated}
 use Rattle.param_values.specs.declared.key.Key.{Key}
 use Rattle.param_values.specs.declared.kind.Kind.TheVariants as kind

@@ -8,8 +8,8 @@ use Rattle.ned_trees.specs.declared.expressions.Expression.{Expression}
 use Rattle.ned_trees.specs.declared.expressions.Expression.TheVariants.{Literal}
 use Rattle.ini_trees.specs.declared.entry.EntryValue.{EntryValue}
 use Rattle.ini_trees.specs.declared.entry.EntryValue.TheVariants as entry
-use Rattle.param_eval.specs.declared.fault.ValueFault.{ValueFault}
-use Rattle.param_eval.specs.declared.fault.ValueFault.TheVariants.{Unassigned, Circle}
+use Rattle.sim_values.specs.declared.value_fault.ValueFault.{ValueFault}
+use Rattle.sim_values.specs.declared.value_fault.ValueFault.TheVariants.{Unassigned, Circle}
 use Rattle.param_eval.specs.Operators.{Evaluated}
 use Rattle.param_eval.specs.References.{Reference}
 use Rattle.param_eval.specs.Values.{Valued, valued}

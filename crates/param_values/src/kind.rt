@@ -3,8 +3,8 @@
 ghost use Rattle.std.specs.Prelude.{◌≡◌};
 ghost use Rattle.param_values.specs.Kinds as kinds;
 
-use param_eval::fault::ValueFault;
 use sim_values::value::{Dimension, Value};
+use sim_values::value_fault::ValueFault;
 
 /// Of what kind the values of a parameter are, as it is declared; of a number with the dimension of
 /// its unit.

@@ -3,7 +3,7 @@
 ghost use Rattle.std.specs.Prelude.{◌≡◌, ◌+◌, ◌≤◌, IfOk};
 ghost use Rattle.std.specs.Option.{option_copied};
 ghost use Rattle.param_engine.specs.Turns.{came_to, asks};
-ghost use Rattle.param_eval.specs.declared.fault.ValueFault.TheVariants.{Circle};
+ghost use Rattle.sim_values.specs.declared.value_fault.ValueFault.TheVariants.{Circle};
 ghost use Rattle.param_eval.specs.Evaluating as evaluating;
 ghost use Rattle.param_values.specs.Going.{goes_on, goes_on_from, weight_of, same_is};
 ghost use Rattle.param_values.specs.Scenes.{maybe_written, given_by};
@@ -17,9 +17,9 @@ use ini_trees::entry::EntryValue;
 use param_engine::asker::Asker;
 use param_engine::turn::EngineStep;
 use param_eval::evaluation::{Evaluation, EvaluationStep};
-use param_eval::fault::ValueFault;
 use sim_values::NoMemory;
 use sim_values::value::Value;
+use sim_values::value_fault::ValueFault;
 use std::alloc::Global;
 
 /// The parameters of a model.

@@ -15,9 +15,9 @@ use ini_trees::entry::EntryValue;
 use ned_trees::expressions::Expression;
 use param_engine::engine;
 use param_engine::table::Table;
-use param_eval::fault::ValueFault;
 use sim_values::NoMemory;
 use sim_values::value::Value;
+use sim_values::value_fault::ValueFault;
 use std::alloc::Global;
 
 /// A table of which nothing is known. It may be kept, whatever the model.

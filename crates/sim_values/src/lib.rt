@@ -1,5 +1,5 @@
-//! The small values that every layer shares: texts, values of parameters, units of time, faults
-//! of models, and lack of memory.
+//! The small values that every layer shares: texts, values of parameters, units of time, faults of
+//! values and of models, and lack of memory.
 #![tactic(auto)]
 
 pub mod dropping;
@@ -7,6 +7,7 @@ pub mod model_fault;
 pub mod text;
 pub mod units;
 pub mod value;
+pub mod value_fault;
 
 ghost use Rattle.std.specs.Prelude.{◌≡◌};
 

@@ -3,26 +3,17 @@
 ghost use Rattle.std.specs.Prelude.{◌≡◌};
 ghost use Rattle.sim_values.specs.ModelFaults.{model_fault_name};
 
+use crate::value_fault::ValueFault;
+
 /// Why a value can't be found, or the inside of a compound module can't be built.
 #[derive(Clone, Copy, Debug, PartialEq, Eq)]
 pub enum ModelFault {
+    /// A value can't be found.
+    Value(ValueFault),
     /// A submodule's type isn't declared.
     UnknownType,
     /// The type that was chosen for a submodule doesn't keep the interface that it has to keep.
     Interface,
-    /// A parameter has no value.
-    Unassigned,
-    /// A value rests on itself.
-    Circle,
-    /// A number of an expression is outside -2^63 to 2^63 - 1, or an amount to shift by is outside
-    /// 0 to 63.
-    Overflow,
-    /// A quotient in an expression is no whole number, something is divided by zero, or an exponent
-    /// is below zero.
-    Inexact,
-    /// A value is of another kind than its parameter, or than its operator wants, or the size of a
-    /// vector of submodules is negative.
-    Mismatch,
     /// A gate's index is out of range, no gate is free, or the size of a gate vector is outside 0
     /// to 65,536.
     GateSize,
@@ -37,8 +28,6 @@ pub enum ModelFault {
     TooManyTurns,
     /// There would be more modules than may be.
     TooManyModules,
-    /// Modules are nested too deep.
-    TooDeep,
 }
 
 impl ModelFault {
@@ -47,20 +36,15 @@ impl ModelFault {
         ensures { result.now ≡ model_fault_name self }
     {
         match self {
+            ModelFault::Value(fault) => fault.name(),
             ModelFault::UnknownType => b"UnknownType",
             ModelFault::Interface => b"Interface",
-            ModelFault::Unassigned => b"Unassigned",
-            ModelFault::Circle => b"Circle",
-            ModelFault::Overflow => b"Overflow",
-            ModelFault::Inexact => b"Inexact",
-            ModelFault::Mismatch => b"Mismatch",
             ModelFault::GateSize => b"GateSize",
             ModelFault::NoGate => b"NoGate",
             ModelFault::AlreadyConnected => b"AlreadyConnected",
             ModelFault::Unconnected => b"Unconnected",
             ModelFault::TooManyTurns => b"TooManyTurns",
             ModelFault::TooManyModules => b"TooManyModules",
-            ModelFault::TooDeep => b"TooDeep",
         }
     }
 }

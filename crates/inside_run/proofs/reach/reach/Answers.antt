@@ -1,10 +1,7 @@
 use Rattle.std.proofs.Common.{◌∙◌, ap, sym, arith}
-use Rattle.param_following.specs.Asking.{Done}
-use Rattle.std.specs.Prelude.{Err}
 use Rattle.inside_keys.specs.Asked.{meant_then, valued_then}
 use Rattle.inside_keys.specs.Places.{meant_under}
 use Rattle.inside_keys.specs.declared.place.Meaning.{Meaning}
-use Rattle.sim_values.specs.declared.model_fault.ModelFault.{ModelFault}
 use Rattle.param_eval.specs.declared.evaluation.EvaluationStep.{EvaluationStep}
 use Rattle.param_eval.specs.Evaluating.{came_to, resumed}
 use Rattle.param_eval.specs.Values.{Valued}
@@ -18,7 +15,6 @@ pub returns-in-Fault-clause-reaches : goal.returns-in-Fault-clause-reaches
 returns-in-Fault-clause-reaches g c = λ next.
     sym (c.loop-turn.invariant.same next)
     ∙ ap (λ (t : EvaluationStep). valued_then (meant_under (g.V.Variables.scope c.args.variables.now) c.args.place.now) (came_to c.loop-turn.evaluation t) next) c.in-Fault.is
-    ∙ ap (λ (f : ModelFault). Done (Err f)) (sym c.of_value.ensures)
 
 pub returns-in-Of-clause-reaches : goal.returns-in-Of-clause-reaches
 returns-in-Of-clause-reaches g c = λ next.
