@@ -69,7 +69,7 @@ fn shortened(
 }
 
 /// The table of these types, where they make one.
-fn table_of(alloc: Global, types: &[TypeDeclaration]) -> Result<Option<TypeTable>, NoMemory> {
+fn table_of(alloc: Global, types: Items<TypeDeclaration>) -> Result<Option<TypeTable>, NoMemory> {
     match flat_types(alloc, types) {
         Ok(flat) => Ok(Some(TypeTable::of(alloc, flat)?)),
         Err(BuildError::NoMemory(error)) => Err(error),
@@ -94,7 +94,7 @@ fn has_fault(
 /// Whether it has the fault with the first so many items alone.
 fn has_with(alloc: Global, all: Faulted<'_>, count: usize) -> Result<bool, NoMemory> {
     let types = shortened(alloc, all, count)?;
-    let Some(table) = table_of(alloc, types.as_slice())? else {
+    let Some(table) = table_of(alloc, types)? else {
         return Ok(false);
     };
     let mut model = all.model.copy(alloc)?;

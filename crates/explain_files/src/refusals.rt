@@ -11,7 +11,8 @@ use explain_types::types::tell_types;
 use ini_entries::reason::Reason;
 use model_data::faults::ConfigFault;
 use model_reading::begin::{BeginFault, MAX_FILES, model_of};
-use ned_inheritance::table::{BuildError, flat_types};
+use ned_inheritance::places::FaultPlace;
+use ned_inheritance::table::{BuildError, TypeFault, flat_types};
 use sim_values::NoMemory;
 use sim_values::text::{MAX_LENGTH, Text};
 use std::alloc::Global;
@@ -41,20 +42,31 @@ fn tell_large(told: &mut Explanation, sources: &Sources<'_>) {
     told.say(" are read at most");
 }
 
-/// Says why the types of the files don't go together.
-fn tell_clash(told: &mut Explanation, sources: &Sources<'_>) {
-    match read_types(told.alloc(), sources) {
-        Ok(types) => {
-            let types = types.as_slice();
-            let files = Files { sources, types };
-            match flat_types(told.alloc(), types) {
-                Ok(_) => {}
-                Err(BuildError::Fault(fault, place)) => tell_types(told, &files, fault, place),
-                Err(BuildError::NoMemory(error)) => told.refuse(error),
-            }
-        }
-        Err(error) => told.refuse(error),
+/// Why the types of the files don't go together, and the first place that shows it.
+fn clash_of(
+    alloc: Global,
+    sources: &Sources<'_>,
+) -> Result<Option<(TypeFault, FaultPlace)>, NoMemory> {
+    match flat_types(alloc, read_types(alloc, sources)?) {
+        Ok(_) => Ok(None),
+        Err(BuildError::Fault(fault, place)) => Ok(Some((fault, place))),
+        Err(BuildError::NoMemory(error)) => Err(error),
     }
+}
+
+/// Says why the types of the files don't go together. They are read once more, as flat types take
+/// those that they are made of.
+fn tell_clash(told: &mut Explanation, sources: &Sources<'_>) -> Result<(), NoMemory> {
+    let Some((fault, place)) = clash_of(told.alloc(), sources)? else {
+        return Ok(());
+    };
+    let types = read_types(told.alloc(), sources)?;
+    let files = Files {
+        sources,
+        types: types.as_slice(),
+    };
+    tell_types(told, &files, fault, place);
+    Ok(())
 }
 
 /// Says what is wrong with files that were refused.
@@ -71,7 +83,11 @@ fn tell_refusal(told: &mut Explanation, fault: BeginFault, sources: &Sources<'_>
             told.say(": ");
             tell_ini_line(told, line_at(sources.ini, line), reason);
         }
-        BeginFault::Types(_) => tell_clash(told, sources),
+        BeginFault::Types(_) => {
+            if let Err(error) = tell_clash(told, sources) {
+                told.refuse(error);
+            }
+        }
         BeginFault::Config(ConfigFault::NoSuchConfig) => tell_no_config(told, sources),
         BeginFault::Config(ConfigFault::ChainFault) => tell_no_chain(told, sources),
         BeginFault::Config(ConfigFault::NoSuchNetwork) => tell_no_network(told, sources),

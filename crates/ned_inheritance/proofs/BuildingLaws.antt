@@ -19,7 +19,8 @@ use Rattle.ned_types.specs.Types as t
 use Rattle.ned_inheritance.specs.Interfaces as f
 use Rattle.ned_inheritance.specs.Circles.{ExtendsItself}
 use Rattle.ned_inheritance.specs.Inheritance as i
-use Rattle.ned_inheritance.specs.Building.{base_fault, fault_of, flat_fault, AnswersTable, AreFaultless, Builds, KeepRules, IsFlatPlace, IsPlace, MayExtend}
+use Rattle.ned_inheritance.specs.Flats.{with_changed}
+use Rattle.ned_inheritance.specs.Building.{base_fault, fault_of, flat_fault, AnswersTable, AreFaultless, AreUnfaulted, Builds, KeepRules, IsFlatPlace, IsPlace, MayExtend}
 use Rattle.ned_types.specs.Clashes as k
 use Rattle.ned_types.specs.Flat.{named_or, or_else}
 use Rattle.ned_types.specs.WellFormed.{HasChannel, IsAmong, IsChannelNamed, IsTypeOf, StandsBefore, IsWellFormed}
@@ -275,3 +276,9 @@ pub complete_by : (types : List TypeDeclaration) (r : Result (List TypeDeclarati
 complete_by types (Ok table) b w = b.0
 complete_by types (Err (NoMemory _)) b w = tt
 complete_by types (Err (Fault why _)) b w = some_none why _ b.0 (rules_kept types w)
+
+-- types with flat ones in their places have names of their own
+pub changed_apart : (given types : List TypeDeclaration) (changed : List (Option TypeDeclaration)) (flat : List TypeDeclaration) → given ≡ types → AreUnfaulted given changed → flat ≡ with_changed types changed → t.has_duplicate flat ≡ false
+changed_apart given types changed flat same are is =
+    let mine : AreUnfaulted types changed = subst (λ (ts : List TypeDeclaration). AreUnfaulted ts changed) same are in
+    ap t.has_duplicate (is ∙ mine.flat.flat) ∙ duplicate_flat types types ∙ mine.apart

@@ -1,5 +1,5 @@
 -- Flat types, made from those of their bases.
-use Rattle.std.proofs.Common.{◌≡◌, inl, inr, ℕ, zero, suc, ◌≤◌, ◌<◌, ◌-◌, Bool, true, false, ◌||◌, ◌&&◌, List, [], ◌∷◌, ◌++◌, Option, Some, None, is_some, unwrap_or, refl, sym, subst, ap, ◌∙◌, arith, append_assoc, append-nil, length, map, drop, take, slice_index_or, bytes_eq, Bor, if◌then◌else◌}
+use Rattle.std.proofs.Common.{◌≡◌, inl, inr, length-set, ℕ, zero, suc, ◌≤◌, ◌<◌, ◌-◌, Bool, true, false, ◌||◌, ◌&&◌, List, [], ◌∷◌, ◌++◌, Option, Some, None, Result, Ok, Err, IfOk, is_some, unwrap_or, refl, sym, subst, ap, ◌∙◌, arith, append_assoc, append-nil, length, map, drop, take, slice_index_or, slice_set, bytes_eq, Bor, if◌then◌else◌}
 use Rattle.std.proofs.lemmas.Bool.{false≢true}
 use Rattle.std.specs.List.{list_any}
 use Rattle.std.specs.Map.{lookup}
@@ -13,11 +13,11 @@ use Rattle.ned_trees.specs.declared.declarations.TypeDeclaration.{TypeDeclaratio
 use Rattle.ned_trees.specs.declared.declarations.TypeKind.{TypeKind}
 use Rattle.ned_trees.specs.declared.declarations.TypeKind.TheVariants.{Simple, Module, Network, Channel, ModuleInterface, ChannelInterface}
 use Rattle.ned_types.specs.Channels.{root_lines}
-use Rattle.ned_types.specs.Flat.{class_in, class_of, named_or}
+use Rattle.ned_types.specs.Flat.{class_in, class_of, named_or, or_else}
 use Rattle.ned_types.specs.Types.{has_duplicate, has_inner_network, is_built_in, is_channel_kind, is_interface_kind, is_simple_kind, is_type_named, type_named}
 use Rattle.ned_types.specs.WellFormed.{IsAmong}
 use Rattle.ned_inheritance.specs.Inheritance.{bare_derived_type, base_of, can_extend, class_along, class_lines, extends_other, flat_as, flat_by, flat_type, has_other_base, derived_type, is_base, is_channel_of, joined_connections, joined_with, line_of, line_within, no_connections, with_members}
-use Rattle.ned_inheritance.specs.Flats.{bare_derived_with, flat_at, flat_behind, flat_by_base, found_at, derived_by, derived_over, own_lines, with_inherited, AddsFlat, FlatEntries, FlatsAlong, HaveFlats, TakesFlat}
+use Rattle.ned_inheritance.specs.Flats.{bare_derived_with, base_at, changed_at, changed_behind, changed_by_base, flat_at, found_at, derived_by, derived_over, own_lines, with_changed, with_inherited, AddsChanged, AddsFlat, AreChanged, FlatEntries, FlatsAlong, HaveFlats, TakesFlat}
 use Rattle.ned_inheritance.specs.Named.{flat_by_lines, is_other_named, HaveLines, IsBehind, StandBehind}
 use Rattle.ned_inheritance.specs.Interfaces.{keeps_other}
 use Rattle.ned_inheritance.specs.Places.{other_in, place_from}
@@ -308,8 +308,12 @@ line_begun : (n : ℕ) (types : List TypeDeclaration) (t : TypeDeclaration) → 
 line_begun zero types t l = absurd (omega (arith, l))
 line_begun (suc m) types t l = (m, refl, refl)
 
+or_found : (o : Option TypeDeclaration) (b : TypeDeclaration) → or_else o (Some b) ≡ Some (unwrap_or o b)
+or_found None b = refl
+or_found (Some flat) b = refl
+
 derived_step : (entries : FlatEntries) (types seen : List TypeDeclaration) (t : TypeDeclaration) (name : List ℕ) → has_duplicate types ≡ false → has_other_base types ≡ false → HaveFlats entries types seen → Stable types seen → length seen < length types → IsBehind types seen t
-    → ((n : List ℕ) → is_type_named n seen ≡ true → is_type_named n types ≡ true) → t.base ≡ Some name → derived_by (flat_at entries name) t ≡ derived_type types t
+    → ((n : List ℕ) → is_type_named n seen ≡ true → is_type_named n types ≡ true) → t.base ≡ Some name → derived_by (base_at entries types name) t ≡ derived_type types t
 derived_step entries types seen t name apart fit have stable short behind within based = go (type_named name types) refl
   where
     begun : (m : ℕ) × (length types ≡ suc m) × (line_of types t ≡ t ∷ line_within m types (base_of types t.base))
@@ -318,10 +322,10 @@ derived_step entries types seen t name apart fit have stable short behind within
     next : line_of types t ≡ t ∷ line_within begun.0 types (type_named name types)
     next = begun.2 ∙ ap (λ o. t ∷ line_within begun.0 types (base_of types o)) based
 
-    go : (o : Option TypeDeclaration) → type_named name types ≡ o → derived_by (flat_at entries name) t ≡ derived_type types t
+    go : (o : Option TypeDeclaration) → type_named name types ≡ o → derived_by (base_at entries types name) t ≡ derived_type types t
     go None e =
         let alone : line_of types t ≡ t ∷ [] = next ∙ ap (λ o. t ∷ line_within begun.0 types o) e ∙ ap (λ ts. t ∷ ts) (none_within begun.0 types) in
-        ap (λ o. derived_by o t) (have.1 name (unseen (is_type_named name seen) refl)) ∙ sym (ap (λ ts. joined_with (bare_derived_type ts t) ts) alone)
+        ap (λ o. derived_by (or_else o (type_named name types)) t) (have.1 name (unseen (is_type_named name seen) refl)) ∙ ap (λ o. derived_by o t) e ∙ sym (ap (λ ts. joined_with (bare_derived_type ts t) ts) alone)
       where
         unseen : (b : Bool) → is_type_named name seen ≡ b → b ≡ false
         unseen false p = refl
@@ -341,26 +345,29 @@ derived_step entries types seen t name apart fit have stable short behind within
         let more = line_within begun-b.0 types (base_of types b.base) in
         let shorter : line_within begun.0 types (Some b) ≡ line_of types b = stable b found.0 in-seen begun.0 (length types) (omega (arith, short, begun.1)) (omega (arith, short)) in
         let line-t : line_of types t ≡ t ∷ b ∷ more = next ∙ ap (λ o. t ∷ line_within begun.0 types o) e ∙ ap (λ ts. t ∷ ts) (shorter ∙ begun-b.2) in
-        ap (λ o. derived_by o t) (ap (flat_at entries) (sym found.1) ∙ have.0 b found.0 in-seen)
+        ap (λ o. derived_by (or_else (flat_at entries name) o) t) e
+        ∙ ap (λ (n : List ℕ). derived_by (or_else (flat_at entries n) (Some b)) t) (sym found.1)
+        ∙ ap (λ o. derived_by o t) (or_found (flat_at entries b.name) b)
+        ∙ ap (λ (x : TypeDeclaration). derived_by (Some x) t) (have.0 b found.0 in-seen)
         ∙ ap (λ c. derived_over (flat_as c types b) t) (extended_plain t.kind b.kind fits)
         ∙ over_base types t t b more line-t begun-b.2 (λ root. ap (λ o. line_within begun-b.0 types (base_of types o)) root ∙ none_within begun-b.0 types) fits
 
 -- the flat type of a type over those of what was seen
 flat_step : (lines : List LineEntry) (entries : FlatEntries) (types seen : List TypeDeclaration) (t : TypeDeclaration) → has_duplicate types ≡ false → has_other_base types ≡ false → HaveLines lines types → HaveFlats entries types seen → Stable types seen → length seen < length types → IsBehind types seen t
-    → ((n : List ℕ) → is_type_named n seen ≡ true → is_type_named n types ≡ true) → flat_behind lines entries t ≡ flat_type types t
+    → ((n : List ℕ) → is_type_named n seen ≡ true → is_type_named n types ≡ true) → unwrap_or (changed_behind lines entries types t) t ≡ flat_type types t
 flat_step lines entries types seen t apart fit fit-lines have stable short behind within = by (is_interface_kind t.kind) refl
   where
-    plain : (base : Option (List ℕ)) → t.base ≡ base → flat_by_base entries t base ≡ flat_by types t base
+    plain : (base : Option (List ℕ)) → t.base ≡ base → unwrap_or (changed_by_base entries types t base) t ≡ flat_by types t base
     plain None e = refl
     plain (Some name) e = derived_step entries types seen t name apart fit have stable short behind within e
 
-    by : (k : Bool) → is_interface_kind t.kind ≡ k → flat_behind lines entries t ≡ flat_type types t
+    by : (k : Bool) → is_interface_kind t.kind ≡ k → unwrap_or (changed_behind lines entries types t) t ≡ flat_type types t
     by true e =
-        ap (λ k. if k then flat_by_lines lines t else flat_by_base entries t t.base) e
+        ap (λ k. unwrap_or (if k then Some (flat_by_lines lines t) else changed_by_base entries types t t.base) t) e
         ∙ flat_same lines types t fit-lines
         ∙ sym (ap (λ k. flat_as k types t) e)
     by false e =
-        ap (λ k. if k then flat_by_lines lines t else flat_by_base entries t t.base) e
+        ap (λ k. unwrap_or (if k then Some (flat_by_lines lines t) else changed_by_base entries types t t.base) t) e
         ∙ plain t.base refl
         ∙ sym (ap (λ k. flat_as k types t) e)
 
@@ -390,55 +397,68 @@ flat_added before after k flat t named now = λ name.
     ∙ flat_inserted name k flat before
     ∙ ap (λ (n : List ℕ). if bytes_eq n name then Some flat else flat_at before name) named
 
-pub flats_none : (lines : List LineEntry) (entries : FlatEntries) → entries ≡ [] → FlatsAlong lines entries []
-flats_none lines entries e = λ types apart fit fit-lines order. (λ t is there. absurd (false≢true there), λ name none. ap (λ (es : FlatEntries). flat_at es name) e)
+pub flats_none : (lines : List LineEntry) (entries : FlatEntries) (types : List TypeDeclaration) → entries ≡ [] → FlatsAlong lines entries types []
+flats_none lines entries types e = λ apart fit fit-lines order. (λ t is there. absurd (false≢true there), λ name none. ap (λ (es : FlatEntries). flat_at es name) e)
 
-pub flats_more : (lines : List LineEntry) (before after : FlatEntries) (seen : List TypeDeclaration) (t : TypeDeclaration) → FlatsAlong lines before seen → AddsFlat before after t (flat_behind lines before t) → FlatsAlong lines after (seen ++ t ∷ [])
-flats_more lines before after seen t along adds = λ types apart fit fit-lines order. go types apart fit fit-lines order
+pub flats_more : (lines : List LineEntry) (before after : FlatEntries) (types seen : List TypeDeclaration) (t : TypeDeclaration) → FlatsAlong lines before types seen → AddsChanged before after t (changed_behind lines before types t) → FlatsAlong lines after types (seen ++ t ∷ [])
+flats_more lines before after types seen t along adds apart fit fit-lines order = go (changed_behind lines before types t) refl adds
   where
-    go : (types : List TypeDeclaration) → has_duplicate types ≡ false → has_other_base types ≡ false → HaveLines lines types → StandBehind types [] (seen ++ t ∷ []) → HaveFlats after types (seen ++ t ∷ [])
-    go types apart fit fit-lines order = (λ x is there. first x is there (bytes_eq t.name x.name) refl, λ name none. second name none (bytes_eq t.name name) refl)
+    parts : StandBehind types [] seen × IsBehind types seen t
+    parts = behind_front types [] seen t order
+
+    have : HaveFlats before types seen
+    have = along apart fit fit-lines parts.0
+
+    short : length seen < length types
+    short = let all = order_length types [] (seen ++ t ∷ []) types order (behind_among types [] (seen ++ t ∷ []) order) in let long = one_longer seen t in omega (arith, all, long)
+
+    stable : Stable types seen
+    stable = stable_all types [] seen apart (λ b is there n m l k. absurd (false≢true there)) parts.0
+
+    own : unwrap_or (changed_behind lines before types t) t ≡ flat_type types t
+    own = flat_step lines before types seen t apart fit fit-lines have stable short parts.1 (stand_within types [] seen parts.0)
+
+    -- one that was seen before t
+    seen_before : (x : TypeDeclaration) → is_type_named x.name (seen ++ t ∷ []) ≡ true → bytes_eq t.name x.name ≡ false → is_type_named x.name seen ≡ true
+    seen_before x there e =
+        let old : (is_type_named x.name seen || (bytes_eq t.name x.name || false)) ≡ true = sym (named_joined x.name seen (t ∷ [])) ∙ there in
+        or_either (bytes_eq t.name x.name || false) (is_type_named x.name seen) (or_turned (is_type_named x.name seen) (bytes_eq t.name x.name || false) old) (ap (λ c. c || false) e)
+
+    unseen_before : (name : List ℕ) → is_type_named name (seen ++ t ∷ []) ≡ false → is_type_named name seen ≡ false
+    unseen_before name none = neither_first (is_type_named name seen) (bytes_eq t.name name || false) (sym (named_joined name seen (t ∷ [])) ∙ none)
+
+    unnamed : (name : List ℕ) → is_type_named name (seen ++ t ∷ []) ≡ false → (b : Bool) → bytes_eq t.name name ≡ b → b ≡ false
+    unnamed name none true e = absurd (false≢true (sym (neither_second (is_type_named name seen) (bytes_eq t.name name || false) (sym (named_joined name seen (t ∷ [])) ∙ none)) ∙ ap (λ b. b || false) e))
+    unnamed name none false e = refl
+
+    go : (o : Option TypeDeclaration) → changed_behind lines before types t ≡ o → AddsChanged before after t o → HaveFlats after types (seen ++ t ∷ [])
+    go None told same = (λ x is there. first x is there (bytes_eq t.name x.name) refl, λ name none. ap (λ (es : FlatEntries). flat_at es name) same ∙ have.1 name (unseen_before name none))
       where
-        parts : StandBehind types [] seen × IsBehind types seen t
-        parts = behind_front types [] seen t order
+        itself : t ≡ flat_type types t
+        itself = sym (ap (λ o. unwrap_or o t) told) ∙ own
 
-        have : HaveFlats before types seen
-        have = along types apart fit fit-lines parts.0
+        new : (x : TypeDeclaration) → IsAmong x types → t ≡ x → (b : Bool) → is_type_named x.name seen ≡ b → found_at before x ≡ flat_type types x
+        new x is e true in-seen = have.0 x is in-seen
+        new x is e false unseen = ap (λ o. unwrap_or o x) (have.1 x.name unseen) ∙ subst (λ (y : TypeDeclaration). y ≡ flat_type types y) e itself
 
-        short : length seen < length types
-        short = let all = order_length types [] (seen ++ t ∷ []) types order (behind_among types [] (seen ++ t ∷ []) order) in let long = one_longer seen t in omega (arith, all, long)
+        first : (x : TypeDeclaration) → IsAmong x types → is_type_named x.name (seen ++ t ∷ []) ≡ true → (b : Bool) → bytes_eq t.name x.name ≡ b → found_at after x ≡ flat_type types x
+        first x is there true e = ap (λ (es : FlatEntries). found_at es x) same ∙ new x is (same_type types t x apart parts.1.0 is e) (is_type_named x.name seen) refl
+        first x is there false e = ap (λ (es : FlatEntries). found_at es x) same ∙ have.0 x is (seen_before x there e)
+    go (Some flat) told added = (λ x is there. first x is there (bytes_eq t.name x.name) refl, λ name none. added name ∙ ap (λ b. if b then Some flat else flat_at before name) (unnamed name none (bytes_eq t.name name) refl ∙ refl) ∙ have.1 name (unseen_before name none))
+      where
+        whole : flat ≡ flat_type types t
+        whole = sym (ap (λ o. unwrap_or o t) told) ∙ own
 
-        stable : Stable types seen
-        stable = stable_all types [] seen apart (λ b is there n m l k. absurd (false≢true there)) parts.0
-
-        own : flat_behind lines before t ≡ flat_type types t
-        own = flat_step lines before types seen t apart fit fit-lines have stable short parts.1 (stand_within types [] seen parts.0)
-
-        first : (x : TypeDeclaration) → IsAmong x types → is_type_named x.name (seen ++ t ∷ []) ≡ true → (b : Bool) → bytes_eq t.name x.name ≡ b → flat_at after x.name ≡ Some (flat_type types x)
+        first : (x : TypeDeclaration) → IsAmong x types → is_type_named x.name (seen ++ t ∷ []) ≡ true → (b : Bool) → bytes_eq t.name x.name ≡ b → found_at after x ≡ flat_type types x
         first x is there true e =
-            adds x.name
-            ∙ ap (λ b. if b then Some (flat_behind lines before t) else flat_at before x.name) e
-            ∙ ap Some own
-            ∙ ap (λ (y : TypeDeclaration). Some (flat_type types y)) (same_type types t x apart parts.1.0 is e)
+            ap (λ o. unwrap_or o x) (added x.name)
+            ∙ ap (λ b. unwrap_or (if b then Some flat else flat_at before x.name) x) e
+            ∙ whole
+            ∙ ap (flat_type types) (same_type types t x apart parts.1.0 is e)
         first x is there false e =
-            let old : (is_type_named x.name seen || (bytes_eq t.name x.name || false)) ≡ true = sym (named_joined x.name seen (t ∷ [])) ∙ there in
-            let in-seen : is_type_named x.name seen ≡ true = or_either (bytes_eq t.name x.name || false) (is_type_named x.name seen) (or_turned (is_type_named x.name seen) (bytes_eq t.name x.name || false) old) (ap (λ c. c || false) e) in
-            adds x.name
-            ∙ ap (λ b. if b then Some (flat_behind lines before t) else flat_at before x.name) e
-            ∙ have.0 x is in-seen
-
-        second : (name : List ℕ) → is_type_named name (seen ++ t ∷ []) ≡ false → (b : Bool) → bytes_eq t.name name ≡ b → flat_at after name ≡ None
-        second name none true e = absurd (false≢true (sym (neither_second (is_type_named name seen) (bytes_eq t.name name || false) (sym (named_joined name seen (t ∷ [])) ∙ none)) ∙ ap (λ b. b || false) e))
-        second name none false e =
-            adds name
-            ∙ ap (λ b. if b then Some (flat_behind lines before t) else flat_at before name) e
-            ∙ have.1 name (neither_first (is_type_named name seen) (bytes_eq t.name name || false) (sym (named_joined name seen (t ∷ [])) ∙ none))
-
--- all types have theirs
-pub flats_fit : (lines : List LineEntry) (entries : FlatEntries) (order types : List TypeDeclaration) → FlatsAlong lines entries order → IsOrder types order → has_duplicate types ≡ false → has_other_base types ≡ false → HaveLines lines types
-    → (t : TypeDeclaration) → IsAmong t types → flat_at entries t.name ≡ Some (flat_type types t)
-flats_fit lines entries order types along is apart fit fit-lines t among =
-    (along types apart fit fit-lines is.0).0 t among (is.1 t.name (named_among types t t.name among (names_same t.name t.name refl)))
+            ap (λ o. unwrap_or o x) (added x.name)
+            ∙ ap (λ b. unwrap_or (if b then Some flat else flat_at before x.name) x) e
+            ∙ have.0 x is (seen_before x there e)
 
 map_among : {X Y : Type 0} (f g : X → Y) (xs : List X) → ((x : X) → IsAmong x xs → f x ≡ g x) → map f xs ≡ map g xs
 map_among f g [] h = refl
@@ -447,18 +467,18 @@ map_among f g (x ∷ xs) h = ap (λ y. y ∷ map f xs) (h x (inl refl)) ∙ ap (
 -- ---- flat types are taken out
 
 -- those of other types stay
-taken_rest : (before after : FlatEntries) (t : TypeDeclaration) (ts : List TypeDeclaration) → TakesFlat before after t → is_type_named t.name ts ≡ false → map (found_at after) ts ≡ map (found_at before) ts
-taken_rest before after t ts takes none = map_among (found_at after) (found_at before) ts (λ u among. ap (λ o. unwrap_or o u) (takes u.name (other u among (bytes_eq t.name u.name) refl)))
+taken_rest : (before after : FlatEntries) (t : TypeDeclaration) (ts : List TypeDeclaration) → TakesFlat before after t → is_type_named t.name ts ≡ false → changed_at after ts ≡ changed_at before ts
+taken_rest before after t ts takes none = map_among (λ (u : TypeDeclaration). flat_at after u.name) (λ (u : TypeDeclaration). flat_at before u.name) ts (λ u among. takes u.name (other u among (bytes_eq t.name u.name) refl))
   where
     other : (u : TypeDeclaration) → IsAmong u ts → (b : Bool) → bytes_eq t.name u.name ≡ b → bytes_eq t.name u.name ≡ false
     other u among true e = absurd (false≢true (sym none ∙ named_among ts u t.name among (names_same u.name t.name (sym (same_names t.name u.name e)))))
     other u among false e = e
 
 -- one more is taken
-pub taken_more : (flat new rest : List TypeDeclaration) (item d got : TypeDeclaration) (before after : FlatEntries) (all : List TypeDeclaration) → 1 ≤ length rest → item ≡ slice_index_or rest 0 d → TakesFlat before after item → got ≡ found_at before item
-    → new ≡ flat ++ got ∷ [] → has_duplicate rest ≡ false → flat ++ map (found_at before) rest ≡ all
-    → (has_duplicate (take (length rest - 1) (drop 1 rest)) ≡ false) × (new ++ map (found_at after) (take (length rest - 1) (drop 1 rest)) ≡ all)
-taken_more flat new rest item d got before after all h is takes got-is pushed apart told = (neither_second (is_built_in item.name || is_type_named item.name ts) (has_duplicate ts) apart-item, moved)
+pub taken_more : (changed new : List (Option TypeDeclaration)) (rest : List TypeDeclaration) (item d : TypeDeclaration) (got : Option TypeDeclaration) (before after : FlatEntries) (all : List (Option TypeDeclaration)) → 1 ≤ length rest → item ≡ slice_index_or rest 0 d → TakesFlat before after item → got ≡ flat_at before item.name
+    → new ≡ changed ++ got ∷ [] → has_duplicate rest ≡ false → changed ++ changed_at before rest ≡ all
+    → (has_duplicate (take (length rest - 1) (drop 1 rest)) ≡ false) × (new ++ changed_at after (take (length rest - 1) (drop 1 rest)) ≡ all)
+taken_more changed new rest item d got before after all h is takes got-is pushed apart told = (neither_second (is_built_in item.name || is_type_named item.name ts) (has_duplicate ts) apart-item, moved)
   where
     ts : List TypeDeclaration
     ts = take (length rest - 1) (drop 1 rest)
@@ -472,19 +492,94 @@ taken_more flat new rest item d got before after all h is takes got-is pushed ap
     none : is_type_named item.name ts ≡ false
     none = neither_second (is_built_in item.name) (is_type_named item.name ts) (neither_first (is_built_in item.name || is_type_named item.name ts) (has_duplicate ts) apart-item)
 
-    moved : new ++ map (found_at after) ts ≡ all
+    moved : new ++ changed_at after ts ≡ all
     moved =
-        ap (λ (xs : List TypeDeclaration). xs ++ map (found_at after) ts) pushed
-        ∙ append_assoc flat (got ∷ []) (map (found_at after) ts)
-        ∙ ap (λ (x : TypeDeclaration). flat ++ x ∷ map (found_at after) ts) got-is
-        ∙ ap (λ (ms : List TypeDeclaration). flat ++ found_at before item ∷ ms) (taken_rest before after item ts takes none)
-        ∙ sym (ap (λ (rs : List TypeDeclaration). flat ++ map (found_at before) rs) split)
+        ap (λ (xs : List (Option TypeDeclaration)). xs ++ changed_at after ts) pushed
+        ∙ append_assoc changed (got ∷ []) (changed_at after ts)
+        ∙ ap (λ (x : Option TypeDeclaration). changed ++ x ∷ changed_at after ts) got-is
+        ∙ ap (λ (ms : List (Option TypeDeclaration)). changed ++ flat_at before item.name ∷ ms) (taken_rest before after item ts takes none)
+        ∙ sym (ap (λ (rs : List TypeDeclaration). changed ++ changed_at before rs) split)
         ∙ told
 
-pub all_found : (lines : List LineEntry) (entries : FlatEntries) (order types : List TypeDeclaration) → FlatsAlong lines entries order → IsOrder types order → has_duplicate types ≡ false → has_other_base types ≡ false → HaveLines lines types
-    → map (found_at entries) types ≡ map (flat_type types) types
-all_found lines entries order types along is apart fit fit-lines =
-    map_among (found_at entries) (flat_type types) types (λ t among. ap (λ o. unwrap_or o t) (flats_fit lines entries order types along is apart fit fit-lines t among))
+-- ---- flat types in the places of types
+
+places_same : (entries : FlatEntries) (ts : List TypeDeclaration) → length (changed_at entries ts) ≡ length ts
+places_same entries [] = refl
+places_same entries (t ∷ ts) = ap suc (places_same entries ts)
+
+all_found : (entries : FlatEntries) (ts : List TypeDeclaration) → with_changed ts (changed_at entries ts) ≡ map (found_at entries) ts
+all_found entries [] = refl
+all_found entries (t ∷ ts) = ap (λ us. found_at entries t ∷ us) (all_found entries ts)
+
+pub all_changed : (lines : List LineEntry) (entries : FlatEntries) (order types : List TypeDeclaration) → FlatsAlong lines entries types order → IsOrder types order → has_duplicate types ≡ false → has_other_base types ≡ false → HaveLines lines types
+    → AreChanged types (changed_at entries types)
+all_changed lines entries order types along is apart fit fit-lines = record {
+  places = places_same entries types;
+  flat = all_found entries types ∙ map_among (found_at entries) (flat_type types) types (λ t among. (along apart fit fit-lines is.0).0 t among (is.1 t.name (named_among types t t.name among (names_same t.name t.name refl))));
+}
+
+pub ok_changed : {E : Type 0} (r : Result (List (Option TypeDeclaration)) E) (types : List TypeDeclaration) (all : List (Option TypeDeclaration)) → AreChanged types all → IfOk r (λ changed. changed ≡ all) → IfOk r (AreChanged types)
+ok_changed (Ok changed) types all are e = subst (AreChanged types) (sym e) are
+ok_changed (Err error) types all are e = tt
+
+pub changed_none : (ts : List TypeDeclaration) → with_changed ts [] ≡ ts
+changed_none [] = refl
+changed_none (t ∷ ts) = refl
+
+-- the last of them, where there is none
+none_last : (ts : List TypeDeclaration) (front : List (Option TypeDeclaration)) → with_changed ts (front ++ None ∷ []) ≡ with_changed ts front
+none_last [] [] = refl
+none_last [] (o ∷ os) = refl
+none_last (t ∷ ts) [] = ap (λ us. t ∷ us) (changed_none ts)
+none_last (t ∷ ts) (o ∷ os) = ap (λ us. unwrap_or o t ∷ us) (none_last ts os)
+
+-- the last of them is put in its place
+set_last : (ts : List TypeDeclaration) (front : List (Option TypeDeclaration)) (flat : TypeDeclaration) → length front < length ts → with_changed ts (front ++ Some flat ∷ []) ≡ with_changed (slice_set ts (length front) flat) front
+set_last [] [] flat h = absurd (omega (arith, h))
+set_last [] (o ∷ os) flat h = absurd (omega (arith, h))
+set_last (t ∷ ts) [] flat h = ap (λ us. flat ∷ us) (changed_none ts)
+set_last (t ∷ ts) (o ∷ os) flat h = ap (λ us. unwrap_or o t ∷ us) (set_last ts os flat (omega (arith, h)))
+
+longer : (front : List (Option TypeDeclaration)) (last : Option TypeDeclaration) → length (front ++ last ∷ []) ≡ suc (length front)
+longer [] last = refl
+longer (o ∷ os) last = ap suc (longer os last)
+
+-- one more is put in its place
+pub put_more : (ts new : List TypeDeclaration) (before front : List (Option TypeDeclaration)) (last : Option TypeDeclaration) (flat : TypeDeclaration) (n : ℕ) (all : List TypeDeclaration) → before ≡ front ++ last ∷ [] → last ≡ Some flat → n ≡ length front → new ≡ slice_set ts n flat
+    → (length before ≤ length ts) × (with_changed ts before ≡ all) → (length front ≤ length new) × (with_changed new front ≡ all)
+put_more ts new before front last flat n all split is at set have = (omega (arith, fits, size), same)
+  where
+    long : length before ≡ suc (length front)
+    long = ap length split ∙ longer front last
+
+    fits : length front < length ts
+    fits = omega (arith, long, have.0)
+
+    size : length new ≡ length ts
+    size = ap length set ∙ length-set ts n flat
+
+    same : with_changed new front ≡ all
+    same =
+        ap (λ (us : List TypeDeclaration). with_changed us front) (set ∙ ap (λ m. slice_set ts m flat) at)
+        ∙ sym (set_last ts front flat fits)
+        ∙ sym (ap (λ o. with_changed ts (front ++ o ∷ [])) is)
+        ∙ sym (ap (with_changed ts) split)
+        ∙ have.1
+
+-- one that is as it is declared stays
+pub passed_more : (ts : List TypeDeclaration) (before front : List (Option TypeDeclaration)) (last : Option TypeDeclaration) (all : List TypeDeclaration) → before ≡ front ++ last ∷ [] → last ≡ None
+    → (length before ≤ length ts) × (with_changed ts before ≡ all) → (length front ≤ length ts) × (with_changed ts front ≡ all)
+passed_more ts before front last all split is have = (omega (arith, long, have.0), same)
+  where
+    long : length before ≡ suc (length front)
+    long = ap length split ∙ longer front last
+
+    same : with_changed ts front ≡ all
+    same =
+        sym (none_last ts front)
+        ∙ sym (ap (λ o. with_changed ts (front ++ o ∷ [])) is)
+        ∙ sym (ap (with_changed ts) split)
+        ∙ have.1
 
 -- where no type names what is of another kind, none extends what is
 pub no_other : (types : List TypeDeclaration) → place_from (other_in types) 0 types ≡ None → has_other_base types ≡ false

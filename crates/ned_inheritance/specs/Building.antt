@@ -24,6 +24,7 @@ use Rattle.ned_inheritance.specs.Interfaces.{can_keep}
 use Rattle.ned_inheritance.specs.Circles.{ExtendsItself}
 use Rattle.ned_inheritance.specs.Inheritance.{has_unknown_base, has_circle, has_other_base}
 use Rattle.ned_inheritance.specs.Inheritance.{flat_types}
+use Rattle.ned_inheritance.specs.Flats.{AreChanged}
 use Rattle.ned_types.specs.WellFormed.{IsAmong, IsTypeOf, IsWellFormed}
 
 -- the faults of names and bases, in their order
@@ -71,6 +72,20 @@ abbrev pub Builds : List TypeDeclaration → Result (List TypeDeclaration) Build
 Builds types (Ok table) = (table ≡ flat_types types) × (fault_of types ≡ None)
 Builds types (Err (NoMemory _)) = Unit {0}
 Builds types (Err (Fault fault place)) = (fault_of types ≡ Some fault) × IsPlace types fault place
+
+-- Names and bases have no fault, and with these in their places the types are flat.
+pub record AreUnfaulted (types : List TypeDeclaration)
+    (changed : List (Option TypeDeclaration)) : Type 0 where
+  pub flat : AreChanged types changed
+  pub apart : has_duplicate types ≡ false
+  pub bases : base_fault types ≡ None
+  pub others : place_from (other_in types) 0 types ≡ None
+
+-- that, or the first fault of names and bases and its place; or memory ran out
+abbrev pub BuildsChanged : List TypeDeclaration → Result (List (Option TypeDeclaration)) BuildError
+    → Type 0
+BuildsChanged types (Ok changed) = AreUnfaulted types changed
+BuildsChanged types (Err error) = Builds types (Err error)
 
 -- these flat types where they have no fault, or their first one and its place; or memory ran out
 abbrev pub AreFaultless : List TypeDeclaration → Result (List TypeDeclaration) BuildError → Type 0

@@ -1,15 +1,16 @@
 //! Why declared types make no model.
 
-ghost use Rattle.std.specs.Prelude.{◌≡◌, ◌||◌, false, not, is_some, None, IfOk, map};
+ghost use Rattle.std.specs.Prelude.{◌≡◌, ◌||◌, false, not, is_some, None, IfOk};
 ghost use Rattle.ned_types.specs.Clashes.{clashes, has_clash};
 ghost use Rattle.ned_types.specs.Types.{has_duplicate, is_built_in, is_type_named, names_unknown};
 ghost use Rattle.ned_types.specs.Types.{has_inner_network, is_inner_name, is_inner_network};
 ghost use Rattle.ned_types.specs.Types.{is_submodule_known, submodules_clash, is_submodule_suited};
 ghost use Rattle.ned_types.specs.Types.{suits_kind, repeats_submodule, has_other_kind};
-ghost use Rattle.ned_inheritance.specs.Inheritance.{flat_type, flat_types, types_in};
+ghost use Rattle.ned_inheritance.specs.Inheritance.{flat_types, types_in};
+ghost use Rattle.ned_inheritance.specs.Flats.{AreChanged};
 ghost use Rattle.ned_inheritance.specs.Order.{IsOrder};
-ghost use Rattle.ned_inheritance.specs.Building.{Builds, AnswersTable, AreFaultless, KeepRules};
-ghost use Rattle.ned_inheritance.specs.Building.{TellsFlat};
+ghost use Rattle.ned_inheritance.specs.Building.{Builds, BuildsChanged, AnswersTable};
+ghost use Rattle.ned_inheritance.specs.Building.{AreFaultless, KeepRules, TellsFlat};
 ghost use Rattle.ned_types.specs.WellFormed.{IsWellFormed};
 ghost use Rattle.std.specs.List.{list_any};
 ghost use Rattle.ned_inheritance.specs.Named.{is_other_named, is_unknown_named};
@@ -19,7 +20,7 @@ ghost use Rattle.ned_inheritance.specs.Seen.{is_one_named, names_in};
 
 use crate::bodies::{body_clash, declared_in_body};
 use crate::connections::{connection_clash, unknown_channel};
-use crate::flats::flat_types;
+use crate::flats::{changed_types, with_changed};
 use crate::gates::redeclared_gate;
 use crate::inheritance::{extends_other, extends_unknown};
 use crate::interfaces::{broken_place, first_other_interface, first_unknown_interface};
@@ -41,23 +42,40 @@ use std::alloc::{AllocError, Global};
 /// The flat type of each of these types, or their first fault, in the order of TypeFault.
 pub(crate) fn flattened(
     alloc: Global,
-    types: &[TypeDeclaration],
+    types: Items<TypeDeclaration>,
 ) -> Result<Items<TypeDeclaration>, BuildError>
-    ensures built { Builds types.now result }
+    ensures built { Builds types result }
     // What is built keeps the rules of types.
     ensures rules { IfOk result IsWellFormed }
     // Types that keep the rules have no fault.
-    ensures complete { KeepRules types.now → AnswersTable (flat_types types.now) result }
+    ensures complete { KeepRules types → AnswersTable (flat_types types) result }
 {
     by_rules(alloc, types)
 }
 
 /// The flat type of each of these types, or their first fault.
-fn by_rules(alloc: Global, types: &[TypeDeclaration]) -> Result<Items<TypeDeclaration>, BuildError>
-    ensures { Builds types.now result }
+fn by_rules(
+    alloc: Global,
+    types: Items<TypeDeclaration>,
+) -> Result<Items<TypeDeclaration>, BuildError>
+    ensures { Builds types result }
+{
+    match changed_by_rules(alloc, types.as_slice()) {
+        Ok(changed) => faultless(alloc, with_changed(types, changed)),
+        Err(error) => Err(err_dropping(types, error)),
+    }
+}
+
+/// The flat type of each of these types where it isn't the type as it is declared, or the first
+/// fault of their names and bases.
+fn changed_by_rules(
+    alloc: Global,
+    types: &[TypeDeclaration],
+) -> Result<Items<Option<TypeDeclaration>>, BuildError>
+    ensures { BuildsChanged types.now result }
 {
     match by_name(alloc, types)? {
-        Ok(named) => built_by(alloc, &named, types),
+        Ok(named) => changed_by(alloc, &named, types),
         Err(number) => {
             let member = Member::Whole;
             Err(BuildError::Fault(TypeFault::DuplicateType, FaultPlace { number, member }))
@@ -65,16 +83,16 @@ fn by_rules(alloc: Global, types: &[TypeDeclaration]) -> Result<Items<TypeDeclar
     }
 }
 
-/// The flat type of each of these types, which have names of their own, or their first fault.
-#[tactic(auto, using(crate::proofs::BuildingLaws::duplicate_flat, crate::proofs::BuildingLaws::built_flat, crate::proofs::PlaceLaws::unknown_found, crate::proofs::PlaceLaws::circle_found, crate::proofs::PlaceLaws::circle_told, crate::proofs::PlaceLaws::other_found, crate::proofs::PlaceLaws::none_found))]
-fn built_by<'a>(
+/// The same of types which have names of their own.
+#[tactic(auto, using(crate::proofs::PlaceLaws::unknown_found, crate::proofs::PlaceLaws::circle_found, crate::proofs::PlaceLaws::circle_told, crate::proofs::PlaceLaws::other_found, crate::proofs::PlaceLaws::none_found))]
+fn changed_by<'a>(
     alloc: Global,
     named: &NamedTypes<'a>,
     types: &'a [TypeDeclaration],
-) -> Result<Items<TypeDeclaration>, BuildError>
+) -> Result<Items<Option<TypeDeclaration>>, BuildError>
     requires names { named.now ≡ types.now }
     requires apart { has_duplicate types.now ≡ false }
-    ensures { Builds types.now result }
+    ensures { BuildsChanged types.now result }
 {
     if let Some(place) = unknown_place(named, types) {
         return Err(BuildError::Fault(TypeFault::UnknownType, place));
@@ -86,23 +104,25 @@ fn built_by<'a>(
     if let Some(place) = other_place(named, types) {
         return Err(err_dropping(order, BuildError::Fault(TypeFault::KindClash, place)));
     }
-    let flat = flat_over(alloc, order, types)?;
-    faultless(alloc, flat)
+    Ok(changed_over(alloc, named, order, types)?)
 }
 
-/// The flat type of each, where this is an order of the types, which nothing needs after it.
-fn flat_over<'a>(
+/// The flat type of each where it isn't the type as it is declared, when this is an order of the
+/// types, which nothing needs after it.
+fn changed_over<'a>(
     alloc: Global,
+    named: &NamedTypes<'a>,
     order: Vec<&'a TypeDeclaration>,
     types: &'a [TypeDeclaration],
-) -> Result<Items<TypeDeclaration>, AllocError>
+) -> Result<Items<Option<TypeDeclaration>>, AllocError>
+    requires names { named.now ≡ types.now }
     requires apart { has_duplicate types.now ≡ false }
     requires order { IsOrder types.now (types_in order.items) }
     requires fit { place_from (other_in types.now) 0 types.now ≡ None }
-    ensures { IfOk result (λ flat. flat ≡ map (flat_type types.now) types.now) }
+    ensures { IfOk result (AreChanged types.now) }
 {
     let lines = lines_of(alloc, &order)?;
-    flat_types(alloc, &lines, &order, types)
+    changed_types(alloc, &lines, named, &order, types)
 }
 
 /// Flat types, which have names of their own, where they have no fault.

@@ -1,23 +1,24 @@
 //! Flat types, made from those of their bases.
 
-ghost use Rattle.std.specs.Prelude.{◌≡◌, ◌++◌, [], false, drop, map, IfOk, OnOk};
+ghost use Rattle.std.specs.Prelude.{◌≡◌, ◌++◌, ◌≤◌, [], false, drop, length, IfOk, OnOk};
 ghost use Rattle.std.specs.Option.{option_copied};
 ghost use Rattle.ned_types.specs.Flat.{class_in, class_of, named_or};
 ghost use Rattle.ned_types.specs.Types.{has_duplicate, is_simple_kind};
-ghost use Rattle.ned_inheritance.specs.Flats.{bare_derived_with, flat_behind, flat_by_base};
-ghost use Rattle.ned_inheritance.specs.Flats.{found_at, derived_alone, derived_by, derived_over};
-ghost use Rattle.ned_inheritance.specs.Flats.{own_lines, with_inherited, AddsFlat, FlatsAlong};
-ghost use Rattle.ned_inheritance.specs.Flats.{TakesFlat};
-ghost use Rattle.ned_inheritance.specs.Inheritance.{class_lines, flat_type, has_other_base};
-ghost use Rattle.ned_inheritance.specs.Inheritance.{types_in};
+ghost use Rattle.ned_inheritance.specs.Flats.{bare_derived_with, base_at, changed_at};
+ghost use Rattle.ned_inheritance.specs.Flats.{changed_behind, changed_by_base, derived_alone};
+ghost use Rattle.ned_inheritance.specs.Flats.{derived_by, derived_over, flat_at, own_lines};
+ghost use Rattle.ned_inheritance.specs.Flats.{with_changed, with_inherited, AddsChanged, AddsFlat};
+ghost use Rattle.ned_inheritance.specs.Flats.{AreChanged, FlatsAlong, TakesFlat};
+ghost use Rattle.ned_inheritance.specs.Inheritance.{class_lines, has_other_base, types_in};
 ghost use Rattle.ned_inheritance.specs.Named.{HaveLines};
 ghost use Rattle.ned_inheritance.specs.Order.{IsOrder};
 
 use crate::inheritance::{add_connections, flat_interface, no_connections, with_own};
 use crate::lines::Lines;
+use crate::named::NamedTypes;
 use crate::order::is_interface_kind;
 use indexmap::IndexMap;
-use ned_scopes::copies::{add_gates, add_lines, add_names, add_submodules, copy_base, copy_type};
+use ned_scopes::copies::{add_gates, add_lines, add_names, add_submodules, copy_base};
 use ned_trees::declarations::{SectionLine, TypeDeclaration, TypeKind};
 use ned_types::flat::{class_in, class_of};
 use sim_values::dropping::{after, pair_after};
@@ -25,7 +26,8 @@ use sim_values::text::Text;
 use sqlite_items::Items;
 use std::alloc::{AllocError, Global};
 
-/// At the name of each type its flat type.
+/// At the name of each type that extends another, and of each interface, its flat type. All others
+/// are flat as they are declared.
 type Flats<'a> = IndexMap<&'a [u8], TypeDeclaration>;
 
 fn is_simple_kind(kind: TypeKind) -> bool
@@ -181,51 +183,86 @@ fn derived_by(
     }
 }
 
-/// The flat type of a type that is no interface, where these are those of all that it extends.
-fn flat_by_base(
-    alloc: Global,
-    flats: &Flats<'_>,
-    declared: &TypeDeclaration,
-) -> Result<TypeDeclaration, AllocError>
-    ensures { IfOk result
-        (λ flat. flat ≡ flat_by_base flats.now.entries declared.now declared.now.base) }
+/// The flat type of the name that a type extends, where it is one of the types.
+fn base_at<'f, 'a>(
+    flats: &'f Flats<'a>,
+    named: &NamedTypes<'a>,
+    name: &[u8],
+) -> Option<&'f TypeDeclaration>
+    ensures { option_copied result ≡ base_at flats.now.entries named.now name.now }
 {
-    match &declared.base {
-        Some(name) => derived_by(alloc, flats.get(name.as_bytes()), declared),
-        None => copy_type(alloc, declared),
+    match flats.get(name) {
+        Some(flat) => Some(flat),
+        None => named.find(name),
     }
 }
 
-/// The flat type of a type, where these are those of all that it extends.
-fn flat_behind<'a>(
+/// The flat type of a type that extends another, where these are those of all that it extends.
+fn changed_by_base<'a>(
+    alloc: Global,
+    flats: &Flats<'a>,
+    named: &NamedTypes<'a>,
+    declared: &TypeDeclaration,
+) -> Result<Option<TypeDeclaration>, AllocError>
+    ensures { IfOk result (λ flat. flat
+        ≡ changed_by_base flats.now.entries named.now declared.now declared.now.base) }
+{
+    match &declared.base {
+        Some(name) => {
+            let base = base_at(flats, named, name.as_bytes());
+            Ok(Some(derived_by(alloc, base, declared)?))
+        }
+        None => Ok(None),
+    }
+}
+
+/// The flat type of a type where it isn't the type as it is declared, when those of all that it
+/// extends are there.
+fn changed_behind<'a>(
     alloc: Global,
     lines: &Lines<'a>,
     flats: &Flats<'a>,
+    named: &NamedTypes<'a>,
     declared: &'a TypeDeclaration,
-) -> Result<TypeDeclaration, AllocError>
-    ensures { IfOk result
-        (λ flat. flat ≡ flat_behind lines.now.entries flats.now.entries declared.now) }
+) -> Result<Option<TypeDeclaration>, AllocError>
+    ensures { IfOk result (λ flat. flat
+        ≡ changed_behind lines.now.entries flats.now.entries named.now declared.now) }
 {
     if is_interface_kind(declared.kind) {
-        flat_interface(alloc, lines, declared)
+        Ok(Some(flat_interface(alloc, lines, declared)?))
     } else {
-        flat_by_base(alloc, flats, declared)
+        changed_by_base(alloc, flats, named, declared)
     }
 }
 
-/// Adds the flat type of a type, where those of all that it extends are there.
+/// Adds a flat type at the name of a type.
+fn put<'a>(
+    flats: &mut Flats<'a>,
+    declared: &'a TypeDeclaration,
+    flat: TypeDeclaration,
+) -> Result<(), AllocError>
+    ensures { OnOk result (AddsFlat flats.old.entries flats.new.entries declared.now flat) }
+{
+    flats.insert(declared.name.as_bytes(), flat)?;
+    Ok(())
+}
+
+/// Adds the flat type of a type where it isn't the type as it is declared, when those of all that
+/// it extends are there.
 fn add_flat<'a>(
     alloc: Global,
     lines: &Lines<'a>,
     flats: &mut Flats<'a>,
+    named: &NamedTypes<'a>,
     declared: &'a TypeDeclaration,
 ) -> Result<(), AllocError>
-    ensures { OnOk result (AddsFlat flats.old.entries flats.new.entries declared.now
-        (flat_behind lines.now.entries flats.old.entries declared.now)) }
+    ensures { OnOk result (AddsChanged flats.old.entries flats.new.entries declared.now
+        (changed_behind lines.now.entries flats.old.entries named.now declared.now)) }
 {
-    let flat = flat_behind(alloc, lines, flats, declared)?;
-    flats.insert(declared.name.as_bytes(), flat)?;
-    Ok(())
+    match changed_behind(alloc, lines, flats, named, declared)? {
+        Some(flat) => put(flats, declared, flat),
+        None => Ok(()),
+    }
 }
 
 /// Adds the flat types of these types to none.
@@ -233,14 +270,16 @@ fn add_flats<'a>(
     alloc: Global,
     lines: &Lines<'a>,
     flats: &mut Flats<'a>,
+    named: &NamedTypes<'a>,
     order: &[&'a TypeDeclaration],
 ) -> Result<(), AllocError>
     requires { flats.old.entries ≡ [] }
-    ensures { OnOk result (FlatsAlong lines.now.entries flats.new.entries (types_in order.now)) }
+    ensures { OnOk result
+        (FlatsAlong lines.now.entries flats.new.entries named.now (types_in order.now)) }
 {
     let mut rest = order;
     while let [declared, after @ ..] = rest {
-        add_flat(alloc, lines, flats, declared)?;
+        add_flat(alloc, lines, flats, named, declared)?;
         rest = after;
     }
     Ok(())
@@ -250,79 +289,92 @@ fn add_flats<'a>(
 fn flats_of<'a>(
     alloc: Global,
     lines: &Lines<'a>,
+    named: &NamedTypes<'a>,
     order: &[&'a TypeDeclaration],
 ) -> Result<Flats<'a>, AllocError>
     ensures { IfOk result
-        (λ flats. FlatsAlong lines.now.entries flats.entries (types_in order.now)) }
+        (λ flats. FlatsAlong lines.now.entries flats.entries named.now (types_in order.now)) }
 {
     let mut flats = IndexMap::new(alloc);
-    let done = add_flats(alloc, lines, &mut flats, order);
+    let done = add_flats(alloc, lines, &mut flats, named, order);
     after(flats, done)
 }
 
-/// Takes the flat type of a type out of the table; an equal type where there is none.
-fn taken(
-    alloc: Global,
-    flats: &mut Flats<'_>,
-    declared: &TypeDeclaration,
-) -> Result<TypeDeclaration, AllocError>
-    ensures flat { IfOk result (λ flat. flat ≡ found_at flats.old.entries declared.now) }
+/// Takes the flat type of a type out of the table, where it has one.
+fn taken(flats: &mut Flats<'_>, declared: &TypeDeclaration) -> Option<TypeDeclaration>
+    ensures flat { result ≡ flat_at flats.old.entries declared.now.name }
     ensures left { TakesFlat flats.old.entries flats.new.entries declared.now }
 {
-    match flats.swap_remove(declared.name.as_bytes()) {
-        Some(flat) => Ok(flat),
-        None => copy_type(alloc, declared),
-    }
+    flats.swap_remove(declared.name.as_bytes())
 }
 
-/// Adds the flat type of each, which the table loses.
+/// Adds the flat type of each, where the table has it, which loses it.
 fn add_taken(
-    alloc: Global,
-    flat: &mut Items<TypeDeclaration>,
+    changed: &mut Items<Option<TypeDeclaration>>,
     flats: &mut Flats<'_>,
     types: &[TypeDeclaration],
 ) -> Result<(), AllocError>
     requires { has_duplicate types.now ≡ false }
-    ensures { OnOk result (flat.new ≡ flat.old ++ map (found_at flats.old.entries) types.now) }
+    ensures { OnOk result (changed.new ≡ changed.old ++ changed_at flats.old.entries types.now) }
 {
     let mut rest = types;
     while let [declared, after @ ..] = rest {
-        flat.push(taken(alloc, flats, declared)?)?;
+        changed.push(taken(flats, declared))?;
         rest = after;
     }
     Ok(())
 }
 
-/// The flat type of each.
+/// The flat type of each, where the table has it.
 fn all_taken(
     alloc: Global,
     flats: Flats<'_>,
     types: &[TypeDeclaration],
-) -> Result<Items<TypeDeclaration>, AllocError>
+) -> Result<Items<Option<TypeDeclaration>>, AllocError>
     requires { has_duplicate types.now ≡ false }
-    ensures { IfOk result (λ flat. flat ≡ map (found_at flats.entry.entries) types.now) }
+    ensures { IfOk result (λ changed. changed ≡ changed_at flats.entry.entries types.now) }
 {
     let mut flats = flats;
-    let mut flat = Items::new(alloc);
-    let done = add_taken(alloc, &mut flat, &mut flats, types);
-    after(flat, done)
+    let mut changed = Items::new(alloc);
+    let done = add_taken(&mut changed, &mut flats, types);
+    after(changed, done)
 }
 
-/// The flat type of each, where these are the lines of the interfaces among the types, and an order
-/// of the types. Each is made from that of its base, so the time is in proportion to what they
-/// have.
-pub(crate) fn flat_types<'a>(
+/// The flat type of each where it isn't the type as it is declared, when these are the lines of the
+/// interfaces among the types, the types by their names, and an order of them. Each is made from
+/// that of its base, so the time is in proportion to what they have.
+pub(crate) fn changed_types<'a>(
     alloc: Global,
     lines: &Lines<'a>,
+    named: &NamedTypes<'a>,
     order: &[&'a TypeDeclaration],
     types: &[TypeDeclaration],
-) -> Result<Items<TypeDeclaration>, AllocError>
+) -> Result<Items<Option<TypeDeclaration>>, AllocError>
+    requires names { named.now ≡ types.now }
     requires lines { HaveLines lines.now.entries types.now }
     requires order { IsOrder types.now (types_in order.now) }
     requires apart { has_duplicate types.now ≡ false }
     requires fit { has_other_base types.now ≡ false }
-    ensures { IfOk result (λ flat. flat ≡ map (flat_type types.now) types.now) }
+    ensures { IfOk result (AreChanged types.now) }
 {
-    let flats = flats_of(alloc, lines, order)?;
+    let flats = flats_of(alloc, lines, named, order)?;
     all_taken(alloc, flats, types)
+}
+
+/// The types, each with its flat type in its place where it isn't the type as it is declared.
+pub(crate) fn with_changed(
+    types: Items<TypeDeclaration>,
+    changed: Items<Option<TypeDeclaration>>,
+) -> Items<TypeDeclaration>
+    requires { length changed ≤ length types }
+    ensures { result ≡ with_changed types changed }
+{
+    let mut types = types;
+    let mut changed = changed;
+    while let Some(last) = changed.pop() {
+        if let Some(flat) = last {
+            types.set(changed.len(), flat);
+        }
+    }
+    types
 }

@@ -74,17 +74,17 @@ impl From<AllocError> for BuildError {
 }
 
 /// The flat type of each of these types, whose names are full ones, or the first reason why they
-/// make no model.
+/// make no model. A type that extends nothing and is no interface is moved.
 pub fn flat_types(
     alloc: Global,
-    types: &[TypeDeclaration],
+    types: Items<TypeDeclaration>,
 ) -> Result<Items<TypeDeclaration>, BuildError>
     // Each flat type, or the first fault with its place.
-    ensures built { Builds types.now result }
+    ensures built { Builds types result }
     // What is built keeps the rules of types.
     ensures rules { IfOk result IsWellFormed }
     // Types that keep the rules have no fault.
-    ensures complete { KeepRules types.now → AnswersTable (flat_types types.now) result }
+    ensures complete { KeepRules types → AnswersTable (flat_types types) result }
 {
     faults::flattened(alloc, types)
 }
@@ -100,7 +100,7 @@ pub fn build(alloc: Global, files: Vec<NedFile>) -> Result<TypeTable, BuildError
         → AnswersTable (flat_types (types_of files.items)) result }
 {
     let declared = types_of(alloc, files)?;
-    let types = flat_types(alloc, declared.as_slice())?;
+    let types = flat_types(alloc, declared)?;
     let table = TypeTable::of(alloc, types)?;
     Ok(table)
 }

@@ -4,14 +4,14 @@ use Rattle.ned_inheritance.specs.Inheritance.{types_in}
 use Rattle.ned_inheritance.specs.Named.{LinesAlong}
 use Rattle.ned_inheritance.proofs.FlatLaws.{no_other}
 use Rattle.ned_inheritance.proofs.LineLaws.{lines_fit}
-use Rattle.ned_inheritance.proofs.faults.flat_over.Goals as goal
+use Rattle.ned_inheritance.proofs.faults.changed_over.Goals as goal
 
-pub flat_types-requires-clause-lines : goal.flat_types-requires-clause-lines
-flat_types-requires-clause-lines c =
+pub changed_types-requires-clause-lines : goal.changed_types-requires-clause-lines
+changed_types-requires-clause-lines c =
     lines_fit c.in_ok-lines.lines.entries (types_in c.args.order.items) c.args.types.now
     (subst (λ (rs : List (Bor TypeDeclaration)). LinesAlong c.in_ok-lines.lines.entries (types_in rs)) c.deref.ensures.value c.in_ok-lines.ensures)
     c.requires.order
     c.requires.apart
 
-pub flat_types-requires-clause-fit : goal.flat_types-requires-clause-fit
-flat_types-requires-clause-fit c = no_other c.args.types.now c.requires.fit
+pub changed_types-requires-clause-fit : goal.changed_types-requires-clause-fit
+changed_types-requires-clause-fit c = no_other c.args.types.now c.requires.fit
