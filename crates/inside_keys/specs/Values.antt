@@ -1,7 +1,7 @@
 -- What each key asks.
 use Rattle.std.specs.Prelude.{ℕ, zero, suc, nat_lt, ℤ, pos, Bool, true, false, not, ◌&&◌, List, []}
 use Rattle.std.specs.Prelude.{◌∷◌, ◌++◌, codes, Option, Some, None, Result, Ok, Err, if◌then◌else◌}
-use Rattle.std.specs.Prelude.{length, slice_get, slice_index}
+use Rattle.std.specs.Prelude.{is_some, length, slice_get, slice_index}
 use Rattle.std.specs.List.{list_any}
 use Rattle.std.specs.Option.{option_and_then}
 use Rattle.param_following.specs.Asking.{Done, Ask}
@@ -189,6 +189,19 @@ module _ (s : ModuleRules) where
   type_meant t name = or_else (inner_along (length s.types) (Some t) (last_name name))
       (position_of (last_name name) (type_names s))
 
+  -- the last of a type and what it extends, and so on, so many of them, that has a submodule of that
+  -- name as well
+  abbrev pub last_with : ℕ → TypeDeclaration → Option TypeDeclaration → List ℕ → TypeDeclaration
+  last_with n t None sub = t
+  last_with zero t (Some u) sub = t
+  last_with (suc n) t (Some u) sub = if is_some (submodule_named sub u.submodules)
+      then last_with n u (option_and_then type_named u.base) sub else t
+
+  -- THE TYPE IN WHOSE TEXT A SUBMODULE STANDS, of a type that has it: no type declares again what it
+  -- extends, so the last of those that have it
+  abbrev pub text_with : TypeDeclaration → List ℕ → TypeDeclaration
+  text_with t sub = last_with (length s.types) t (option_and_then type_named t.base) sub
+
   -- whether the body of a submodule gives a value to a parameter that has a fixed one in these
   -- lines
   abbrev pub sets_fixed : List SectionLine → SubmoduleBody → Bool
@@ -213,7 +226,7 @@ module _ (s : ModuleRules) where
   type_found p body name None = Done (Err (no_type name))
   type_found p body name (Some n) = kept_type p body n (slice_get s.types n)
 
-  -- the type that a value names
+  -- the type that a value names, in the text of a type
   abbrev pub type_told : TypeDeclaration → ParametricType → SubmoduleBody → Value → KeyAsking
   type_told t p body (value.Text name) = type_found p body name (type_meant t name)
   type_told t p body _ = Done (Err (fault.Value Mismatch))
@@ -222,7 +235,7 @@ module _ (s : ModuleRules) where
   abbrev pub type_path : Module → List ℕ
   type_path m = m.path ++ codes ".typename"
 
-  -- an expression that stands in the type of the module around
+  -- an expression that names the type of a submodule which stands in the text of that type
   abbrev pub type_asking_by : Module → TypeDeclaration → ParametricType → SubmoduleBody
       → Option Written → KeyAsking
   type_asking_by around t p body None = Done (Err (fault.Value Unassigned))
@@ -239,14 +252,15 @@ module _ (s : ModuleRules) where
       → SubmoduleBody → KeyAsking
   type_chosen m around t p body = type_asking_by around t p body (type_written m p)
 
-  -- the type of a declared submodule, in a module of that type
+  -- the type of a submodule that stands in the text of that type
   abbrev pub type_by : Module → Module → TypeDeclaration → SubmoduleBody → SubmoduleType → KeyAsking
   type_by m around t body (Named name) = numbered (position_of name (type_names s))
   type_by m around t body (Like p) = type_chosen m around t p body
 
   abbrev pub type_in : Module → Module → TypeDeclaration → Option Submodule → KeyAsking
   type_in m around t None = Done (Err UnknownType)
-  type_in m around t (Some l) = type_by m around t l.body l.submodule_type
+  type_in m around t (Some l) =
+      type_by m around (text_with t l.name) l.body l.submodule_type
 
   -- with the type of a module, and its number
   abbrev pub typed_then : Module → (ℕ → TypeDeclaration → KeyAsking) → KeyAsking

@@ -1,9 +1,10 @@
 //! Types that values choose.
 
 ghost use Rattle.std.specs.Prelude.{◌≡◌, ◌+◌, ◌<◌, ◌^◌, ◌++◌, ◌∷◌, ◌&&◌, [], IfOk, IfSome, Some};
-ghost use Rattle.std.specs.Prelude.{codes, length, not, slice_get};
+ghost use Rattle.std.specs.Prelude.{codes, is_some, length, not, slice_get};
 ghost use Rattle.std.specs.List.{list_any};
 ghost use Rattle.inside_parts.specs.Names.{is_one};
+ghost use Rattle.ned_types.specs.Flat.{submodule_named};
 ghost use Rattle.ned_types.specs.Types.{gives_fixed, is_fixed_in, is_kind_of_modules, is_refixed};
 ghost use Rattle.std.specs.Option.{option_and_then, option_copied};
 ghost use Rattle.param_values.specs.Scenes.{maybe_written};
@@ -31,6 +32,7 @@ use inside_parts::fault::InsideError;
 use ned_trees::declarations::{
     ParametricType, SectionLine, Submodule, SubmoduleBody, SubmoduleType, TypeDeclaration, TypeKind,
 };
+use ned_types::flat::submodule_named;
 use ned_types::given::{fixes, name_in, value_in};
 use param_eval::evaluation::{Evaluation, EvaluationStep};
 use param_values::scene::{Section as WrittenSection, Written};
@@ -365,6 +367,38 @@ fn begin_chosen<'m, S: ModuleSource>(
     )
 }
 
+/// Whether a type declares a submodule of that name.
+fn has_submodule(declared: &TypeDeclaration, name: &Text) -> bool
+    ensures { result ≡ is_some (submodule_named name.now declared.now.submodules) }
+{
+    submodule_named(name.as_bytes(), declared.submodules.as_slice()).is_some()
+}
+
+/// The type in whose text a submodule stands, of a type that has it.
+fn text_with<'m, S: ModuleSource>(
+    scene: &'m S,
+    declared: &'m TypeDeclaration,
+    name: &Text,
+) -> &'m TypeDeclaration
+    ensures { result.now ≡ values.text_with (S.setting scene.now) declared.now name.now }
+{
+    let mut found = declared;
+    let mut next = base_of(scene, declared);
+    let mut left = scene.types().len();
+    while let Some(base) = next {
+        if left == 0 {
+            break;
+        }
+        if !has_submodule(base, name) {
+            break;
+        }
+        found = base;
+        next = base_of(scene, base);
+        left -= 1;
+    }
+    found
+}
+
 /// The type of a submodule of that type's, of the module around.
 fn type_by<'m, S: ModuleSource>(
     alloc: Global,
@@ -375,22 +409,16 @@ fn type_by<'m, S: ModuleSource>(
     submodule: &'m Submodule,
 ) -> Result<Moved<'m>, InsideError>
     ensures moves { Moves (S.setting scene.now) result (values.type_by (S.setting scene.now)
-        site.now around.now declared.now submodule.now.body submodule.now.submodule_type) }
+        site.now around.now (values.text_with (S.setting scene.now) declared.now submodule.now.name)
+        submodule.now.body submodule.now.submodule_type) }
     ensures costs { Costs (S.setting scene.now)
         (choice_weight (S.setting scene.now) site.now submodule.now.submodule_type) result }
 {
     match &submodule.submodule_type {
         SubmoduleType::Named(name) => numbered(scene.type_number(name)),
         SubmoduleType::Like(parametric) => {
-            begin_chosen(
-                alloc,
-                scene,
-                site,
-                around,
-                declared,
-                parametric,
-                &submodule.body,
-            )
+            let text = text_with(scene, declared, &submodule.name);
+            begin_chosen(alloc, scene, site, around, text, parametric, &submodule.body)
         }
     }
 }
