@@ -371,7 +371,7 @@ class Model:
     def chosen_type(self, module, line, made):
         if not line.choice:
             return self.types.flat(self.types.find(line.type, line.home))
-        name = self.type_name(module, line, made.path).rpartition(".")[2]
+        name = self.type_name(module, line, made).rpartition(".")[2]
         found = self.types.find(name, line.home)
         if not found:
             raise Fault("Interface" if name in BUILT_IN else "UnknownType")
@@ -381,14 +381,15 @@ class Model:
             raise Fault("Interface")
         return flat
 
-    def type_name(self, module, line, path):
+    def type_name(self, module, line, made):
+        """The text that names the type of a submodule: `index` is the submodule's own, all else is of the module around."""
         how, expression = line.choice
         value = None
         if how == "open":
-            entry = self.ini.first(path, "typename", "type")
+            entry = self.ini.first(made.path, "typename", "type")
             value = evaluate(entry.expression, None) if entry and entry.expression else None
         if value is None:
-            value = self.value(expression, own_scope(module, True)) if expression else self.unassigned()
+            value = self.value(expression, Scope(module, module, module.parent, made.index, True)) if expression else self.unassigned()
         if value[0] != "text":
             raise Fault("Mismatch")
         return value[1].decode()

@@ -10,6 +10,7 @@ use Rattle.inside_keys.specs.declared.key.ChannelAt.{ChannelAt}
 use Rattle.inside_keys.specs.declared.key.Module.{Module}
 use Rattle.inside_keys.specs.declared.place.ExpressionPlace.{ExpressionPlace}
 use Rattle.inside_keys.specs.declared.place.Section.{Section}
+use Rattle.inside_keys.specs.declared.place.Section.TheVariants as section_at
 use Rattle.inside_keys.specs.Places.{Scope}
 
 -- where a module stands: the module around it, none around the network; its name, and its index
@@ -60,6 +61,23 @@ place_in s m section = record {
   around_index = index_at s (s.stands m).around;
   channel = None;
 }
+
+-- the same place, where `index` is that
+abbrev pub with_index : ExpressionPlace → Option ℤ → ExpressionPlace
+with_index p index = record {
+  own = p.own;
+  around = p.around;
+  section = p.section;
+  index = index;
+  around_index = p.around_index;
+  channel = p.channel;
+}
+
+-- and one that names the type of a submodule of the module around: it has its value once for each
+-- element of a vector, so `index` is the submodule's own there; all else means what it means in the
+-- type of the module around
+abbrev pub choice_place : ModuleRules → Module → Module → ExpressionPlace
+choice_place s m around = with_index (place_in s around section_at.OfInside) (s.stands m).index
 
 -- and one that says something of a channel in a module
 abbrev pub channel_place : ModuleRules → Module → ChannelAt → Section → ExpressionPlace

@@ -51,8 +51,8 @@ use Rattle.inside_keys.specs.Given.{condition_posed, vector_size_posed, gate_siz
 use Rattle.inside_keys.specs.Inside.{conditioned, inside, is_vector, sized, submodule_names}
 use Rattle.inside_keys.specs.Keys.{child, key, same_key}
 use Rattle.inside_keys.specs.Places.{meant_under}
-use Rattle.inside_keys.specs.Settings.{ModuleRules, Whereabouts, Posed, declarer, place_in}
-use Rattle.inside_keys.specs.Settings.{type_gates, type_names}
+use Rattle.inside_keys.specs.Settings.{ModuleRules, Whereabouts, Posed, choice_place, declarer}
+use Rattle.inside_keys.specs.Settings.{place_in, type_gates, type_names}
 
 -- done with this value
 abbrev pub is : Value → KeyAsking
@@ -236,12 +236,11 @@ module _ (s : ModuleRules) where
   type_path m = m.path ++ codes ".typename"
 
   -- an expression that names the type of a submodule which stands in the text of that type
-  abbrev pub type_asking_by : Module → TypeDeclaration → ParametricType → SubmoduleBody
+  abbrev pub type_asking_by : Module → Module → TypeDeclaration → ParametricType → SubmoduleBody
       → Option Written → KeyAsking
-  type_asking_by around t p body None = Done (Err (fault.Value Unassigned))
-  type_asking_by around t p body (Some w) = valued_then
-      (meant_under [] (place_in s around section.OfInside)) (valued w.expression)
-      (type_told t p body)
+  type_asking_by m around t p body None = Done (Err (fault.Value Unassigned))
+  type_asking_by m around t p body (Some w) = valued_then
+      (meant_under [] (choice_place s m around)) (valued w.expression) (type_told t p body)
 
   -- WHAT CHOOSES THE TYPE OF A SUBMODULE: `<e>`; or the first entry of the ini text that matches
   -- its path and `typename`; or `<default(e)>`
@@ -250,7 +249,7 @@ module _ (s : ModuleRules) where
 
   abbrev pub type_chosen : Module → Module → TypeDeclaration → ParametricType
       → SubmoduleBody → KeyAsking
-  type_chosen m around t p body = type_asking_by around t p body (type_written m p)
+  type_chosen m around t p body = type_asking_by m around t p body (type_written m p)
 
   -- the type of a submodule that stands in the text of that type
   abbrev pub type_by : Module → Module → TypeDeclaration → SubmoduleBody → SubmoduleType → KeyAsking

@@ -11,6 +11,7 @@ ghost use Rattle.param_values.specs.Scenes.{maybe_written};
 ghost use Rattle.param_eval.specs.Evaluating as evaluating;
 ghost use Rattle.inside_keys.specs.Asked.{valued_then};
 ghost use Rattle.inside_keys.specs.Places.{meant_under};
+ghost use Rattle.inside_keys.specs.Settings as settings;
 ghost use Rattle.inside_keys.specs.Settings.{ModuleRules};
 ghost use Rattle.inside_keys.specs.Values as values;
 ghost use Rattle.inside_keys.specs.declared.found.Found.TheVariants as found_as;
@@ -342,6 +343,43 @@ fn written<'m, S: ModuleSource>(
     ))
 }
 
+/// The same place, where `index` is that.
+fn with_index(place: ExpressionPlace, index: Option<i64>) -> ExpressionPlace
+    ensures { result ≡ settings.with_index place index }
+{
+    let ExpressionPlace {
+        own,
+        around,
+        section,
+        around_index,
+        channel,
+        ..
+    } = place;
+    ExpressionPlace {
+        own,
+        around,
+        section,
+        index,
+        around_index,
+        channel,
+    }
+}
+
+/// Where an expression stands that names the type of a submodule of the module around.
+fn choice_place<S: ModuleSource>(
+    alloc: Global,
+    scene: &S,
+    site: &Module,
+    around: &Module,
+) -> Result<ExpressionPlace, NoMemory>
+    ensures { IfOk result
+        (λ place. place ≡ settings.choice_place (S.setting scene.now) site.now around.now) }
+{
+    let stands = scene.standing(alloc, site)?;
+    let place = place_in(alloc, scene, around, Section::OfInside)?;
+    Ok(with_index(place, stands.index))
+}
+
 /// Begins with what names the type of a submodule of the module around.
 fn begin_chosen<'m, S: ModuleSource>(
     alloc: Global,
@@ -360,7 +398,7 @@ fn begin_chosen<'m, S: ModuleSource>(
     let Some(written) = written(alloc, scene, site, parametric)? else {
         return Err(InsideError::Fault(ModelFault::Value(ValueFault::Unassigned)));
     };
-    let place = place_in(alloc, scene, around, Section::OfInside)?;
+    let place = choice_place(alloc, scene, site, around)?;
     let (evaluation, turn) = Evaluation::start(alloc, written.expression)?;
     choose(
         alloc, scene, place, declared, parametric, body, evaluation, turn,
