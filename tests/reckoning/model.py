@@ -165,8 +165,6 @@ class Types:
         if not found or found.kind != "channel":
             raise NotReckoned(f"the channel {kind}")
         flat = self.flat(found)
-        if flat.root not in BUILT_IN and flat.parameters.keys() & {it[0] for it in DELAY + RATE}:
-            raise NotReckoned(f"the channel {kind}")
         self.look_at_body(lines, flat, found)
         return flat
 
@@ -530,7 +528,9 @@ class Model:
         flat = self.types.look_at_channel(channel, home)
         made = Channel(path, flat, channel[1], module)
         made.loops = loops
-        values = {name: self.parameter(made, name) for name in flat.parameters}
+        found = {name: self.parameter(made, name) for name in flat.parameters}
+        # the built-in channel at the root says what it does; other parameters have values and no effect
+        values = {it[0]: found[it[0]] for it in BUILT_IN.get(flat.root, [])}
         if values.get("delay", (0, 0))[1] < 0 or values.get("datarate", (0, 0))[1] < 0 or any(values.get(it, (0, 0))[1] for it in ("ber", "per")):
             raise Fault("Mismatch")
         rate = values["datarate"][1] if "datarate" in values else None

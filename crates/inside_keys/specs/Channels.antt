@@ -1,24 +1,20 @@
 -- Channels of connections: their paths, their lines, and what they do (OMNeT++ Simulation Manual,
 -- "Channels").
-use Rattle.std.specs.Prelude.{ℕ, ℤ, pos, negsuc, ◌-◌, Bool, true, false, ◌&&◌, List, [], ◌∷◌, ◌++◌}
-use Rattle.std.specs.Prelude.{Option, Some, None, bytes_eq, codes, decimal, if◌then◌else◌}
-use Rattle.std.specs.Prelude.{slice_get}
+use Rattle.std.specs.Prelude.{ℕ, zero, suc, ℤ, pos, negsuc, ◌-◌, Bool, true, false, List, [], ◌∷◌}
+use Rattle.std.specs.Prelude.{◌++◌, Option, Some, None, bytes_eq, codes, decimal, if◌then◌else◌}
+use Rattle.std.specs.Prelude.{length, slice_get}
 use Rattle.std.specs.Option.{option_and_then}
-use Rattle.sim_values.specs.declared.value.Dimension.TheVariants.{Time, Rate}
 use Rattle.sim_values.specs.declared.value.Value.{Value}
 use Rattle.sim_values.specs.declared.value.Value.TheVariants as value
 use Rattle.ned_trees.specs.declared.connections.Channel.{Channel}
-use Rattle.ned_trees.specs.declared.declarations.Declaration.{Declaration}
 use Rattle.ned_trees.specs.declared.declarations.GateDirection.{GateDirection}
 use Rattle.ned_trees.specs.declared.declarations.GateDirection.TheVariants.{Input, Output, Inout}
 use Rattle.ned_trees.specs.declared.declarations.SectionLine.{SectionLine}
 use Rattle.ned_trees.specs.declared.declarations.TypeDeclaration.{TypeDeclaration}
 use Rattle.ned_types.specs.Channels.{built_in_lines}
 use Rattle.ned_types.specs.Clashes.{channel_name, lines_of_channel}
-use Rattle.ned_types.specs.Flat.{declaration_named}
 use Rattle.ned_types.specs.Types.{is_built_in}
 use Rattle.param_values.specs.declared.kind.Kind.{Kind}
-use Rattle.param_values.specs.declared.kind.Kind.TheVariants as kind
 use Rattle.inside_parts.specs.declared.gates.TypeGate.{TypeGate}
 use Rattle.inside_parts.specs.declared.gates.TypeGates.{TypeGates}
 use Rattle.inside_parts.specs.declared.parts.Part.{Part}
@@ -32,7 +28,6 @@ use Rattle.inside_keys.specs.declared.check.Check.{Check}
 use Rattle.inside_keys.specs.declared.check.Check.TheVariants as check
 use Rattle.inside_keys.specs.declared.key.Module.{Module}
 use Rattle.inside_keys.specs.Keys.{own_name}
-use Rattle.inside_keys.specs.Kinds.{kind_of}
 
 -- ---- paths
 
@@ -97,46 +92,33 @@ lines_of names types c = lines_named names types (channel_name c)
 
 -- ---- kinds
 
-abbrev pub is_time : Option Kind → Bool
-is_time (Some (kind.Double (Some Time))) = true
-is_time _ = false
+-- of which of the three kinds the built-in channel of that name is; ideal where there is none
+abbrev pub built_in_kind : List ℕ → ChannelKind
+built_in_kind name =
+    if bytes_eq name (codes "DelayChannel") then channel.Delay
+    else (if bytes_eq name (codes "DatarateChannel") then channel.Datarate else channel.Ideal)
 
-abbrev pub is_rate : Option Kind → Bool
-is_rate (Some (kind.Double (Some Rate))) = true
-is_rate _ = false
+abbrev pub base_in : Option TypeDeclaration → Option (List ℕ)
+base_in None = None
+base_in (Some t) = t.base
 
-abbrev pub is_flag : Option Kind → Bool
-is_flag (Some kind.Truth) = true
-is_flag _ = false
+-- where types have these names: the kind of the built-in channel that is come to from that name, so
+-- often from a type to what it extends; ideal where none is
+abbrev pub kind_along : List (List ℕ) → List TypeDeclaration → ℕ → Option (List ℕ) → ChannelKind
+kind_along names types n None = channel.Ideal
+kind_along names types zero (Some name) = built_in_kind name
+kind_along names types (suc n) (Some name) = if is_built_in name then built_in_kind name
+    else kind_along names types n (base_in (type_at names types name))
 
-abbrev pub is_count : Option Kind → Bool
-is_count (Some (kind.Int None)) = true
-is_count _ = false
+-- WHICH OF THE THREE KINDS a channel of that name is: that of the built-in one at its root, whatever
+-- parameters it declares itself. No line of types without a circle is longer than there are types
+abbrev pub kind_named : List (List ℕ) → List TypeDeclaration → List ℕ → ChannelKind
+kind_named names types name = if is_built_in name then built_in_kind name
+    else kind_along names types (length types) (base_in (type_at names types name))
 
-abbrev pub kind_in : Option Declaration → Option Kind
-kind_in None = None
-kind_in (Some d) = Some (kind_of d)
-
--- of what kind the values of the parameter of that name are, where lines declare it
-abbrev pub kind_named : List SectionLine → List ℕ → Option Kind
-kind_named lines name = kind_in (declaration_named name lines)
-
-abbrev pub has_delay : List SectionLine → Bool
-has_delay lines = is_time (kind_named lines (codes "delay"))
-    && is_flag (kind_named lines (codes "disabled"))
-
-abbrev pub has_rate : List SectionLine → Bool
-has_rate lines = is_rate (kind_named lines (codes "datarate"))
-    && (is_count (kind_named lines (codes "ber")) && is_count (kind_named lines (codes "per")))
-
--- WHICH OF THE THREE KINDS a channel is whose type has these lines: that whose parameters it has
-abbrev pub kind_by : Bool → Bool → ChannelKind
-kind_by false rate = channel.Ideal
-kind_by true false = channel.Delay
-kind_by true true = channel.Datarate
-
-abbrev pub channel_kind : List SectionLine → ChannelKind
-channel_kind lines = kind_by (has_delay lines) (has_rate lines)
+-- the kind of a connection's channel
+abbrev pub channel_kind : List (List ℕ) → List TypeDeclaration → Channel → ChannelKind
+channel_kind names types c = kind_named names types (channel_name c)
 
 -- ---- what a channel does
 

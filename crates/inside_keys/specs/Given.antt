@@ -31,6 +31,8 @@ use Rattle.param_values.specs.Values.{first_given}
 use Rattle.inside_parts.specs.declared.gates.TypeGate.{TypeGate}
 use Rattle.inside_parts.specs.declared.gates.TypeGates.{TypeGates}
 use Rattle.inside_parts.specs.Names.{position_of}
+use Rattle.inside_wiring.specs.declared.wiring.ChannelKind.{ChannelKind}
+use Rattle.inside_wiring.specs.declared.wiring.ChannelKind.TheVariants as channel_kinds
 use Rattle.inside_keys.specs.declared.check.Check.{Check}
 use Rattle.inside_keys.specs.declared.check.Check.TheVariants as check
 use Rattle.inside_keys.specs.declared.key.ChannelAt.{ChannelAt}
@@ -175,23 +177,24 @@ module _ (s : ModuleRules) (m : Module) (c : ChannelAt) where
     check = k;
   })
 
-  abbrev pub channel_posed_by : List SectionLine → List SectionLine → Scope → List ℕ
+  abbrev pub channel_posed_by : ChannelKind → List SectionLine → List SectionLine → Scope → List ℕ
       → Option Declaration → Option Posed
-  channel_posed_by lines block scope x None = None
-  channel_posed_by lines block scope x (Some d) =
-      channel_posed_as (channel_check (channel_kind lines) x (kind_of d)) scope
+  channel_posed_by k lines block scope x None = None
+  channel_posed_by k lines block scope x (Some d) =
+      channel_posed_as (channel_check k x (kind_of d)) scope
       (first_given (given_to_channel lines block x) (s.entry (channel_parameter_path c x)))
 
-  abbrev pub channel_posed_over : Option (List SectionLine) → List SectionLine → Scope → List ℕ
-      → Option Posed
-  channel_posed_over None block scope x = None
-  channel_posed_over (Some lines) block scope x =
-      channel_posed_by lines block scope x (declaration_named x lines)
+  abbrev pub channel_posed_over : ChannelKind → Option (List SectionLine) → List SectionLine → Scope
+      → List ℕ → Option Posed
+  channel_posed_over k None block scope x = None
+  channel_posed_over k (Some lines) block scope x =
+      channel_posed_by k lines block scope x (declaration_named x lines)
 
   abbrev pub channel_posed_in : Option Channel → Scope → List ℕ → Option Posed
   channel_posed_in None scope x = None
   channel_posed_in (Some channel) scope x =
-      channel_posed_over (lines_of (type_names s) s.types channel) channel.lines scope x
+      channel_posed_over (channel_kind (type_names s) s.types channel)
+      (lines_of (type_names s) s.types channel) channel.lines scope x
 
   abbrev pub channel_posed_at : Option FoundLine → List ℕ → Option Posed
   channel_posed_at None x = None
@@ -209,6 +212,18 @@ lines_at s (Some f) = option_and_then (lines_of (type_names s) s.types) f.connec
 
 abbrev pub channel_lines : ModuleRules → TypeDeclaration → ChannelAt → Option (List SectionLine)
 channel_lines s t c = lines_at s (connection_at c.written t.connections.items)
+
+-- the kind of that channel
+abbrev pub kind_in : ModuleRules → Option Channel → ChannelKind
+kind_in s None = channel_kinds.Ideal
+kind_in s (Some channel) = channel_kind (type_names s) s.types channel
+
+abbrev pub kind_at : ModuleRules → Option FoundLine → ChannelKind
+kind_at s None = channel_kinds.Ideal
+kind_at s (Some f) = kind_in s f.connection.channel
+
+abbrev pub kind_there : ModuleRules → TypeDeclaration → ChannelAt → ChannelKind
+kind_there s t c = kind_at s (connection_at c.written t.connections.items)
 
 -- ---- gates
 

@@ -32,6 +32,7 @@ use Rattle.sim_values.specs.declared.value_fault.ValueFault.TheVariants.{Circle,
 use Rattle.inside_parts.specs.Gates as type_gates
 use Rattle.inside_parts.specs.Names.{is_one, position_of}
 use Rattle.inside_wiring.specs.declared.wiring.Carrier.{Carrier}
+use Rattle.inside_wiring.specs.declared.wiring.ChannelKind.{ChannelKind}
 use Rattle.inside_wiring.specs.Ends.{part_named, gate_named, natural}
 use Rattle.inside_keys.specs.declared.found.Found.{Found}
 use Rattle.inside_keys.specs.declared.found.Found.TheVariants as found
@@ -44,9 +45,10 @@ use Rattle.inside_keys.specs.declared.key.What.TheVariants as what
 use Rattle.inside_keys.specs.declared.place.Section.TheVariants as section
 use Rattle.inside_keys.specs.Asked.{KeyAsking, ask_then, known_then, number_then, result_then}
 use Rattle.inside_keys.specs.Asked.{valued_then}
-use Rattle.inside_keys.specs.Channels.{carrier_begun, channel_kind, with_value}
+use Rattle.inside_keys.specs.Channels.{carrier_begun, with_value}
 use Rattle.inside_keys.specs.Checks.{checked}
-use Rattle.inside_keys.specs.Given.{channel_lines, channel_posed, given_in, parameter_posed}
+use Rattle.inside_keys.specs.Given.{channel_lines, channel_posed, given_in, kind_there}
+use Rattle.inside_keys.specs.Given.{parameter_posed}
 use Rattle.inside_keys.specs.Given.{condition_posed, vector_size_posed, gate_size_posed, has_vector}
 use Rattle.inside_keys.specs.Inside.{conditioned, inside, is_vector, sized, submodule_names}
 use Rattle.inside_keys.specs.Keys.{child, key, same_key}
@@ -139,8 +141,8 @@ carrier m c (line.Declaration d ∷ ls) k =
     ask_then (key m (what.Channel c d.name)) (λ v. carrier m c ls (with_value d.name v k k.kind))
 carrier m c (_ ∷ ls) k = carrier m c ls k
 
-abbrev pub carrier_by : Module → ChannelAt → List SectionLine → KeyAsking
-carrier_by m c lines = carrier m c lines (carrier_begun (channel_kind lines))
+abbrev pub carrier_by : Module → ChannelAt → ChannelKind → List SectionLine → KeyAsking
+carrier_by m c k lines = carrier m c lines (carrier_begun k)
 
 -- ---- sizes of gates
 
@@ -326,7 +328,8 @@ module _ (s : ModuleRules) where
   asking_in m (what.Member sub x) n t = member m x (submodule_named sub t.submodules)
   asking_in m (what.Element sub k x) n t = element_of m k x (submodule_named sub t.submodules)
   asking_in m (what.Channel c x) n t = posed_asking (channel_posed s m c t x)
-  asking_in m (what.Carrier c) n t = known_then (channel_lines s t c) (carrier_by m c)
+  asking_in m (what.Carrier c) n t =
+      known_then (channel_lines s t c) (carrier_by m c (kind_there s t c))
   asking_in m what.Joined n t = inside_of m false n t
   asking_in m what.Inside n t = inside_of m true n t
   asking_in m what.Type n t = numbered (Some n)

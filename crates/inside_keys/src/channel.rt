@@ -1,7 +1,7 @@
 //! Channels of connections: their paths, their lines, and what they do.
 //! See OMNeT++ Simulation Manual, "Channels".
 
-ghost use Rattle.std.specs.Prelude.{◌≡◌, ◌++◌, IfOk, OnOk, slice_get};
+ghost use Rattle.std.specs.Prelude.{◌≡◌, ◌++◌, IfOk, OnOk, length, slice_get};
 ghost use Rattle.std.specs.Option.{option_copied};
 ghost use Rattle.inside_keys.specs.Channels as channels;
 ghost use Rattle.inside_keys.specs.Kinds as kinds;
@@ -20,11 +20,10 @@ use ned_trees::connections::Channel;
 use ned_trees::declarations::{
     Declaration, GateDirection, ParameterWord, SectionLine, TypeDeclaration,
 };
-use ned_types::flat::declaration_named;
 use param_values::kind::Kind;
 use sim_values::NoMemory;
 use sim_values::text::{Text, spells};
-use sim_values::value::{Dimension, Value};
+use sim_values::value::Value;
 use std::alloc::{AllocError, Global};
 
 // ---- paths
@@ -222,70 +221,70 @@ pub fn kind_of(declaration: &Declaration) -> Kind
     }
 }
 
-/// Of what kind the values of the parameter of that name are, where lines declare it.
-fn kind_named(lines: &[SectionLine], name: &[u8]) -> Option<Kind>
-    ensures { result ≡ channels.kind_named lines.now name.now }
+// ---- kinds of channels
+
+/// Of which of the three kinds the built-in channel of that name is; ideal where there is none.
+fn built_in_kind(name: &[u8]) -> ChannelKind
+    ensures { result ≡ channels.built_in_kind name.now }
 {
-    match declaration_named(name, lines) {
-        Some(declaration) => Some(kind_of(declaration)),
+    if spells(name, b"DelayChannel") {
+        return ChannelKind::Delay;
+    }
+    if spells(name, b"DatarateChannel") {
+        return ChannelKind::Datarate;
+    }
+    ChannelKind::Ideal
+}
+
+/// What a type extends.
+fn base_in(declared: Option<&TypeDeclaration>) -> Option<&Text>
+    ensures { option_copied result ≡ channels.base_in (option_copied declared.entry) }
+{
+    match declared {
+        Some(declared) => declared.base.as_ref(),
         None => None,
     }
 }
 
-fn is_time(lines: &[SectionLine], name: &[u8]) -> bool
-    ensures { result ≡ channels.is_time (channels.kind_named lines.now name.now) }
+/// The kind of the built-in channel at the root of a type, where types have these names.
+fn root_kind(
+    names: &Names,
+    types: &[TypeDeclaration],
+    declared: Option<&TypeDeclaration>,
+) -> ChannelKind
+    ensures { result ≡ channels.kind_along names.now types.now (length types.now)
+        (channels.base_in (option_copied declared.entry)) }
 {
-    matches!(
-        kind_named(lines, name),
-        Some(Kind::Double(Some(Dimension::Time)))
-    )
-}
-
-fn is_rate(lines: &[SectionLine], name: &[u8]) -> bool
-    ensures { result ≡ channels.is_rate (channels.kind_named lines.now name.now) }
-{
-    matches!(
-        kind_named(lines, name),
-        Some(Kind::Double(Some(Dimension::Rate)))
-    )
-}
-
-fn is_flag(lines: &[SectionLine], name: &[u8]) -> bool
-    ensures { result ≡ channels.is_flag (channels.kind_named lines.now name.now) }
-{
-    matches!(kind_named(lines, name), Some(Kind::Truth))
-}
-
-fn is_count(lines: &[SectionLine], name: &[u8]) -> bool
-    ensures { result ≡ channels.is_count (channels.kind_named lines.now name.now) }
-{
-    matches!(kind_named(lines, name), Some(Kind::Int(None)))
-}
-
-/// Whether lines declare what a channel with a delay has.
-fn has_delay(lines: &[SectionLine]) -> bool
-    ensures { result ≡ channels.has_delay lines.now }
-{
-    is_time(lines, b"delay") && is_flag(lines, b"disabled")
-}
-
-/// Whether lines declare what a channel with a rate has besides.
-fn has_rate(lines: &[SectionLine]) -> bool
-    ensures { result ≡ channels.has_rate lines.now }
-{
-    is_rate(lines, b"datarate") && (is_count(lines, b"ber") && is_count(lines, b"per"))
-}
-
-/// Which of the three kinds a channel is whose type has these lines.
-pub fn channel_kind(lines: &[SectionLine]) -> ChannelKind
-    ensures { result ≡ channels.channel_kind lines.now }
-{
-    let (delays, rates) = (has_delay(lines), has_rate(lines));
-    match (delays, rates) {
-        (false, _) => ChannelKind::Ideal,
-        (true, false) => ChannelKind::Delay,
-        (true, true) => ChannelKind::Datarate,
+    let mut next = base_in(declared);
+    let mut left = types.len();
+    while let Some(name) = next {
+        if left == 0 {
+            return built_in_kind(name.as_bytes());
+        }
+        if is_built_in(name.as_bytes()) {
+            return built_in_kind(name.as_bytes());
+        }
+        next = base_in(type_at(names, types, name));
+        left -= 1;
     }
+    ChannelKind::Ideal
+}
+
+/// Of which of the three kinds a connection's channel is, where types have these names.
+pub fn channel_kind(
+    alloc: Global,
+    names: &Names,
+    types: &[TypeDeclaration],
+    channel: &Channel,
+) -> Result<ChannelKind, NoMemory>
+    ensures { IfOk result (λ kind. kind ≡ channels.channel_kind names.now types.now channel.now) }
+{
+    let name = channel_name(channel);
+    if is_built_in(name) {
+        return Ok(built_in_kind(name));
+    }
+    let name = Text::from_bytes(alloc, name)?;
+    Ok(root_kind(names, types, type_at(names, types, &name)))
 }
 
 // ---- what a channel does

@@ -7,7 +7,7 @@ ghost use Rattle.param_values.specs.Scenes.{given_by, maybe_written};
 ghost use Rattle.param_values.specs.Values.{first_given};
 ghost use Rattle.ned_trees.specs.declared.connections.Clause.{Clause as clause_type};
 ghost use Rattle.inside_keys.specs.Asked.{known_then};
-ghost use Rattle.inside_keys.specs.Channels.{lines_of};
+ghost use Rattle.inside_keys.specs.Channels.{channel_kind, lines_of};
 ghost use Rattle.inside_keys.specs.Given as given;
 ghost use Rattle.inside_keys.specs.Settings.{ModuleRules, channel_place, type_names};
 ghost use Rattle.inside_keys.specs.Values as values;
@@ -30,7 +30,7 @@ use inside_keys::place::{Binding, ExpressionPlace, Section};
 use inside_keys::turn::LoopTurn;
 use inside_parts::fault::InsideError;
 use inside_parts::stack::Stack;
-use inside_wiring::wiring::Carrier;
+use inside_wiring::wiring::{Carrier, ChannelKind};
 use ned_trees::connections::{
     Channel, Clause, Connection, ConnectionGroup, ConnectionItem, ConnectionLine,
 };
@@ -302,13 +302,15 @@ fn parameter_declared<'m, S: ModuleSource>(
     site: &Module,
     channel: &ChannelAt,
     name: &Text,
+    kind: ChannelKind,
     lines: &'m [SectionLine],
     block: &'m [SectionLine],
     scope: Stack<Binding>,
     declaration: &Declaration,
 ) -> Result<Option<Posable<'m>>, NoMemory>
-    ensures { IfOk result (λ posed. maybe_posed posed ≡ given.channel_posed_by (S.setting scene.now)
-        site.now channel.now lines.now block.now scope name.now (Some declaration.now)) }
+    ensures { IfOk result (λ posed. maybe_posed posed
+        ≡ given.channel_posed_by (S.setting scene.now) site.now channel.now kind lines.now block.now
+        scope name.now (Some declaration.now)) }
 {
     let Some(written) = written(alloc, scene, channel, name, lines, block)? else {
         return Ok(None);
@@ -319,7 +321,7 @@ fn parameter_declared<'m, S: ModuleSource>(
         expression: written.expression,
         place,
         variables: variables_in(alloc, section, scope),
-        check: channel_check(channel_kind(lines), name.as_bytes(), kind_of(declaration)),
+        check: channel_check(kind, name.as_bytes(), kind_of(declaration)),
     }))
 }
 
@@ -330,12 +332,14 @@ fn parameter_over<'m, S: ModuleSource>(
     site: &Module,
     channel: &ChannelAt,
     name: &Text,
+    kind: ChannelKind,
     lines: Option<&'m [SectionLine]>,
     block: &'m [SectionLine],
     scope: Stack<Binding>,
 ) -> Result<Option<Posable<'m>>, NoMemory>
-    ensures { IfOk result (λ posed. maybe_posed posed ≡ given.channel_posed_over (S.setting
-        scene.now) site.now channel.now (option_copied lines.entry) block.now scope name.now) }
+    ensures { IfOk result (λ posed. maybe_posed posed
+        ≡ given.channel_posed_over (S.setting scene.now) site.now channel.now kind
+        (option_copied lines.entry) block.now scope name.now) }
 {
     let Some(lines) = lines else {
         return Ok(None);
@@ -349,6 +353,7 @@ fn parameter_over<'m, S: ModuleSource>(
         site,
         channel,
         name,
+        kind,
         lines,
         block,
         scope,
@@ -374,6 +379,18 @@ fn type_lines<'m, S: ModuleSource>(
     )
 }
 
+/// Of which of the three kinds a connection's channel is.
+fn type_kind<'m, S: ModuleSource>(
+    alloc: Global,
+    scene: &'m S,
+    channel: &Channel,
+) -> Result<ChannelKind, NoMemory>
+    ensures { IfOk result (λ kind. kind
+        ≡ channel_kind (type_names (S.setting scene.now)) (S.setting scene.now).types channel.now) }
+{
+    channel_kind(alloc, scene.type_names(), scene.types(), channel)
+}
+
 /// What gives a parameter of the channel of a connection its value.
 fn parameter_of<'m, S: ModuleSource>(
     alloc: Global,
@@ -387,9 +404,10 @@ fn parameter_of<'m, S: ModuleSource>(
     ensures { IfOk result (λ posed. maybe_posed posed ≡ given.channel_posed_in (S.setting scene.now)
         site.now channel.now (Some declared.now) scope name.now) }
 {
+    let kind = type_kind(alloc, scene, declared)?;
     let lines = type_lines(alloc, scene, declared)?;
     let block = declared.lines.as_slice();
-    parameter_over(alloc, scene, site, channel, name, lines, block, scope)
+    parameter_over(alloc, scene, site, channel, name, kind, lines, block, scope)
 }
 
 /// What gives a parameter of the channel of a connection its value that was found.
@@ -518,6 +536,23 @@ fn lines_at<'m, S: ModuleSource>(
     }
 }
 
+/// The kind of the channel that is written there.
+fn kind_there<S: ModuleSource>(
+    alloc: Global,
+    scene: &S,
+    channel: &ChannelAt,
+    declared: &TypeDeclaration,
+) -> Result<ChannelKind, NoMemory>
+    ensures { IfOk result
+        (λ kind. kind ≡ given.kind_there (S.setting scene.now) declared.now channel.now) }
+{
+    let found = connection_at(channel.written, declared.connections.items.as_slice());
+    match channel_of(found) {
+        Some(declared) => type_kind(alloc, scene, declared),
+        None => Ok(ChannelKind::Ideal),
+    }
+}
+
 /// Begins with what a channel in a module of that type does.
 pub fn begin_carrier<'m, S: ModuleSource>(
     alloc: Global,
@@ -527,13 +562,14 @@ pub fn begin_carrier<'m, S: ModuleSource>(
     declared: &'m TypeDeclaration,
 ) -> Result<Moved<'m>, InsideError>
     ensures moves { Moves (S.setting scene.now) result (known_then (given.channel_lines
-        (S.setting scene.now) declared.now channel) (values.carrier_by site channel)) }
+        (S.setting scene.now) declared.now channel) (values.carrier_by site channel
+        (given.kind_there (S.setting scene.now) declared.now channel))) }
     ensures costs { Costs (S.setting scene.now)
         (lines_weight (given.channel_lines (S.setting scene.now) declared.now channel)) result }
 {
     let Some(lines) = lines_at(alloc, scene, &channel, declared)? else {
         return Err(InsideError::Fault(ModelFault::UnknownType));
     };
-    let carrier = carrier_begun(channel_kind(lines));
-    carry(alloc, site, channel, lines, carrier)
+    let kind = kind_there(alloc, scene, &channel, declared)?;
+    carry(alloc, site, channel, lines, carrier_begun(kind))
 }

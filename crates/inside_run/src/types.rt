@@ -456,7 +456,15 @@ fn type_by<'m, S: ModuleSource>(
         SubmoduleType::Named(name) => numbered(scene.type_number(name)),
         SubmoduleType::Like(parametric) => {
             let text = text_with(scene, declared, &submodule.name);
-            begin_chosen(alloc, scene, site, around, text, parametric, &submodule.body)
+            begin_chosen(
+                alloc,
+                scene,
+                site,
+                around,
+                text,
+                parametric,
+                &submodule.body,
+            )
         }
     }
 }
