@@ -111,7 +111,7 @@ class Types:
                     self.refuse(made, f"the gate {name} twice")
                 flat.gates[name] = Gate(direction, vector)
             gate = flat.gates.get(name)
-            if vector and not (gate and gate.vector):
+            if not gate or vector and not gate.vector:
                 flat.odd = True
             if not gate or vector and not gate.vector:
                 continue
@@ -417,7 +417,7 @@ class Model:
     def look_at_gates(self, module):
         """The sizes of the gates of a module, as they are declared."""
         its = module.type.gates
-        if module.type.odd or any(it[0] or it[2] and not (it[1] in its and its[it[1]].vector) for it in (module.line.gates if module.line else [])):
+        if module.type.odd or any(it[0] or it[1] not in its or it[2] and not its[it[1]].vector for it in (module.line.gates if module.line else [])):
             raise Fault("NoGate")
         return {name: self.declared_size(module, name) for name in its}
 

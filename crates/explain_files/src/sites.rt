@@ -178,8 +178,8 @@ fn tell_unconnected(
     Ok(true)
 }
 
-/// The name in the first of these lines that gives a size to what is no gate vector of a type with
-/// these gates.
+/// The name in the first of these lines that speaks of no gate of the type, or gives a size to what
+/// is no gate vector of it.
 fn misplaced_in<'a>(
     alloc: Global,
     of: &TypeDeclaration,
@@ -189,9 +189,29 @@ fn misplaced_in<'a>(
     Ok(misplaced(&gates, lines))
 }
 
-/// Says that a size is given to what is no gate vector of a type.
+/// Whether a type declares a gate of that name.
+fn declares_gate(of: &TypeDeclaration, name: &[u8]) -> bool {
+    for line in of.gates.as_slice() {
+        if let GateLine::Declaration(declared) = line {
+            if declared.name.is(name) {
+                return true;
+            }
+        }
+    }
+    false
+}
+
+/// Says that a line speaks of no gate of a type, or gives a size to what is no gate vector of it.
 fn say_misplaced(told: &mut Explanation, path: &str, of: &TypeDeclaration, name: &[u8]) {
     told.say_front(path.as_bytes());
+    if !declares_gate(of, name) {
+        told.say(": the type ");
+        told.say_name(of.name.as_bytes());
+        told.say(" declares no gate ");
+        told.say_name(name);
+        told.say(": declare it, with 'input', 'output' or 'inout' before its name");
+        return;
+    }
     told.say(": a size is given to ");
     told.say_name(name);
     told.say(", which is no gate vector of the type ");
@@ -199,8 +219,8 @@ fn say_misplaced(told: &mut Explanation, path: &str, of: &TypeDeclaration, name:
     told.say(": leave the size out, or declare the gate with '[]'");
 }
 
-/// Says where the body of a submodule of that type gives a size to what is no gate vector, and
-/// whether it does.
+/// Says where the body of a submodule of that type speaks of no gate of it, or gives a size to what
+/// is no gate vector, and whether it does.
 fn tell_misplaced_in_body(
     told: &mut Explanation,
     it: Case<'_>,
@@ -219,8 +239,8 @@ fn tell_misplaced_in_body(
     Ok(true)
 }
 
-/// Says where a size is given to what is no gate vector of the module of that type, and whether one
-/// is.
+/// Says where a line speaks of no gate of the module of that type, or a size is given to what is no
+/// gate vector, and whether that is so.
 fn tell_misplaced_of(
     told: &mut Explanation,
     it: Case<'_>,
@@ -290,8 +310,8 @@ fn tell_case(
     }
 }
 
-/// Says where a size is given to what is no gate vector of the module of a fault's path, which has
-/// that type, and whether one is.
+/// Says where a line speaks of no gate of the module of a fault's path, which has that type, or a
+/// size is given to what is no gate vector, and whether that is so.
 pub fn tell_misplaced(
     told: &mut Explanation,
     sources: &Sources<'_>,

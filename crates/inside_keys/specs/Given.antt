@@ -258,16 +258,23 @@ abbrev pub has_vector : TypeGates → List ℕ → Bool
 has_vector gates g =
     is_vector_at (option_and_then (slice_get gates.gates) (position_of g gates.names))
 
+-- whether one of these gates has that name
+abbrev pub has_gate : TypeGates → List ℕ → Bool
+has_gate gates g = is_some (position_of g gates.names)
+
+-- whether a line without a direction speaks of none of these gates, or gives a size to one that is
+-- no vector
 abbrev pub is_misplaced : TypeGates → GateLine → Bool
 is_misplaced gates (gate.Declaration d) = false
-is_misplaced gates (gate.Refinement r) = is_some r.size && not (has_vector gates r.name)
+is_misplaced gates (gate.Refinement r) =
+    not (if is_some r.size then has_vector gates r.name else has_gate gates r.name)
 
 abbrev pub named_in : GateLine → List ℕ
 named_in (gate.Declaration d) = d.name
 named_in (gate.Refinement r) = r.name
 
--- A SIZE FOR WHAT IS NO GATE VECTOR: the name in the first of these lines that gives one, where
--- these are the gates
+-- A LINE FOR WHAT IS NO GATE, or a size for what is no gate vector: the name in the first of these
+-- lines that is so, where these are the gates
 abbrev pub misplaced : TypeGates → List GateLine → Option (List ℕ)
 misplaced gates [] = None
 misplaced gates (l ∷ ls) = if is_misplaced gates l then Some (named_in l) else misplaced gates ls

@@ -232,8 +232,8 @@ gates m size (g ∷ gs) s rest =
     (λ v. size_then v (λ n. gates m size gs (grown s n) rest))
     else gates m size gs (grown s 1) rest
 
--- THE DECLARED SIZES OF A SUBMODULE'S GATES. One that is given to what is no gate vector of that
--- name is asked for first, and refused
+-- THE DECLARED SIZES OF A SUBMODULE'S GATES. That of what a line names and is no gate, or sizes and
+-- is no gate vector, is asked for first, and refused
 abbrev pub sizes : Module → Option (List ℕ) → List TypeGate → State → Rest → KeyAsking
 sizes m None gs s rest = gates m what.Declared gs s rest
 sizes m (Some name) gs s rest = ask_then (key m (what.Declared name)) (λ v. rest s)
@@ -273,7 +273,8 @@ module _ (m : Module) (types : List TypeDeclaration) (type_gates : List TypeGate
   abbrev pub asked_lines : TypeDeclaration → List SectionLine
   asked_lines t = if is_whole then t.lines else []
 
-  -- a size that is given to what is no gate vector of a submodule of the type of that number
+  -- what a line names and is no gate of a submodule of the type of that number, or sizes and is no
+  -- gate vector
   abbrev pub misplaced_of : Submodule → ℕ → TypeDeclaration → Option (List ℕ)
   misplaced_of l n t = misplaced_in (slice_get type_gates n) t l.body
 

@@ -1,4 +1,4 @@
-//! Sizes that are given to what is no gate vector.
+//! Lines for what is no gate, and sizes for what is no gate vector.
 
 ghost use Rattle.std.specs.Prelude.{◌≡◌};
 ghost use Rattle.std.specs.Option.{option_copied};
@@ -21,14 +21,26 @@ pub fn has_vector(gates: &TypeGates, name: &Text) -> bool
     }
 }
 
-/// Whether a line gives a size to what is no vector among these gates.
+/// Whether one of these gates has that name.
+fn has_gate(gates: &TypeGates, name: &Text) -> bool
+    ensures { result ≡ given.has_gate gates.now name.now }
+{
+    gates.names.position(name).is_some()
+}
+
+/// Whether a line without a direction speaks of none of these gates, or gives a size to one that is
+/// no vector.
 fn is_misplaced(gates: &TypeGates, line: &GateLine) -> bool
     ensures { result ≡ given.is_misplaced gates.now line.now }
 {
     match line {
         GateLine::Declaration(_) => false,
         GateLine::Refinement(refined) => {
-            refined.size.is_some() && !has_vector(gates, &refined.name)
+            if refined.size.is_some() {
+                !has_vector(gates, &refined.name)
+            } else {
+                !has_gate(gates, &refined.name)
+            }
         }
     }
 }
@@ -43,7 +55,8 @@ fn named_in(line: &GateLine) -> &Text
     }
 }
 
-/// The name in the first of these lines that gives a size to what is no vector among these gates.
+/// The name in the first of these lines, without a direction, that speaks of none of these gates, or
+/// gives a size to one that is no vector.
 pub fn misplaced<'m>(gates: &TypeGates, lines: &'m [GateLine]) -> Option<&'m Text>
     ensures { option_copied result ≡ given.misplaced gates.now lines.now }
 {

@@ -68,8 +68,8 @@ abbrev pub size_by : Sort → List ℕ → What
 size_by sort.Own x = what.GateSize x
 size_by sort.Declared x = what.Declared x
 
--- what asks for the declared sizes of the gates of a submodule, where one may be given to what is
--- no gate vector
+-- what asks for the declared sizes of the gates of a submodule, where a line may speak of what is no
+-- gate, or give a size to what is no gate vector
 abbrev pub sizes_task : Module → Option (Bor (List ℕ)) → Bor (List TypeGate) → Task
 sizes_task m None gs = task.Gates m sort.Declared gs
 sizes_task m (Some x) gs = task.Misplaced m x

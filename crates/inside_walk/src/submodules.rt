@@ -231,8 +231,8 @@ fn asked_lines(is_whole: bool, declared: &TypeDeclaration) -> &[SectionLine]
     }
 }
 
-/// A size that is given to what is no gate vector of a submodule of that type, which has that
-/// number.
+/// What a line names and is no gate of a submodule of that type, which has that number, or sizes and
+/// is no gate vector.
 fn misplaced_of<'m>(
     ground: &Ground<'m>,
     submodule: &'m Submodule,
@@ -245,8 +245,8 @@ fn misplaced_of<'m>(
     misplaced_in(gates_at(ground.gates, number), declared, &submodule.body)
 }
 
-/// What asks for the declared sizes of a submodule's gates, where one may be given to what is no
-/// gate vector.
+/// What asks for the declared sizes of a submodule's gates, where a line may speak of what is no
+/// gate, or give a size to what is no gate vector.
 fn sizes_task<'m>(holder: Module, misplaced: Option<&'m Text>, gates: &'m [TypeGate]) -> Task<'m>
     ensures { result ≡ sizes_task holder misplaced.entry gates.entry }
 {
@@ -256,7 +256,7 @@ fn sizes_task<'m>(holder: Module, misplaced: Option<&'m Text>, gates: &'m [TypeG
     }
 }
 
-/// Asks for a size that is given to what is no gate vector of that name.
+/// Asks for the size of what is no gate, or no gate vector, of that name.
 pub fn misplaced<'m>(
     alloc: Global,
     _ground: &Ground<'m>,

@@ -60,8 +60,8 @@ pub enum Task<'m> {
     Parameters(Module, &'m [SectionLine]),
     /// The sizes of these gates of the module or of a submodule are asked for.
     Gates(Module, Sort, &'m [TypeGate]),
-    /// A size is given to what is no gate vector of that name, of a submodule: it is asked for, and
-    /// refused.
+    /// A line of a submodule speaks of that name, and it is no gate, or is given a size and is no
+    /// gate vector: its size is asked for, and refused.
     Misplaced(Module, &'m Text),
     /// So many elements of a vector are left, of so many.
     Elements(&'m Submodule, u32, u32),

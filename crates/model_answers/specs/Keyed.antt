@@ -139,7 +139,7 @@ abbrev pub fault_of_sizes : ModuleRules → List ℕ → List TypeGate → Optio
 fault_of_sizes s path [] = None
 fault_of_sizes s path (g ∷ gs) = or_else (fault_of_size s path g) (fault_of_sizes s path gs)
 
--- the fault of a size that is given to what is no gate vector
+-- the fault of a line for what is no gate, or of a size for what is no gate vector
 abbrev pub fault_of_misplaced : ModuleRules → List ℕ → Option (List ℕ) → Option ModelFault
 fault_of_misplaced s path None = None
 fault_of_misplaced s path (Some name) = fault_in (value_of s path (what.Declared name))

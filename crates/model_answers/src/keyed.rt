@@ -385,7 +385,7 @@ fn fault_of_sizes(
     Ok(None)
 }
 
-/// The fault of a size that is given to what is no gate vector.
+/// The fault of a line for what is no gate, or of a size for what is no gate vector.
 fn fault_of_misplaced(
     alloc: Global,
     from: Sources<'_>,
