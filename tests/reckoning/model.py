@@ -1,7 +1,10 @@
 """A model: its types, the values of its parameters, what is inside of each module, and where gates lead."""
-from ned import NotReckoned, Type
+import re
+
+from ned import WORDS, NotReckoned, Type
 from values import Fault, evaluate, truth, whole
 
+NAME = re.compile(r"[A-Za-z_][A-Za-z0-9_]*")
 MOST = 65536
 DEEPEST = 32
 DELAY = [("delay", "double", "time", ("time", 0)), ("disabled", "bool", None, ("truth", False))]
@@ -369,7 +372,10 @@ class Model:
     def chosen_type(self, module, line, made):
         if not line.choice:
             return self.types.flat(self.types.find(line.type, line.home))
-        name = self.type_name(module, line, made).rpartition(".")[2]
+        told = self.type_name(module, line, made)
+        if not all(NAME.fullmatch(it) and it not in WORDS for it in told.split(".")):
+            raise Fault("UnknownType")
+        name = told.rpartition(".")[2]
         found = self.types.find(name, line.home)
         if not found:
             raise Fault("Interface" if name in BUILT_IN else "UnknownType")

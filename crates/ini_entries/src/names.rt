@@ -45,7 +45,7 @@ fn is_name(bytes: &[u8]) -> bool
 }
 
 /// Whether the bytes are names separated by dots.
-pub(crate) fn is_dotted_name(bytes: &[u8]) -> bool
+pub fn is_dotted_name(bytes: &[u8]) -> bool
     ensures { result ≡ names.is_dotted_name bytes.now }
 {
     bytes.split(|b| *b == b'.').all(|name| is_name(name))

@@ -14,6 +14,7 @@ use Rattle.ned_trees.specs.declared.declarations.SubmoduleBody.{SubmoduleBody}
 use Rattle.ned_trees.specs.declared.declarations.SubmoduleType.{SubmoduleType}
 use Rattle.ned_trees.specs.declared.declarations.SubmoduleType.TheVariants.{Named, Like}
 use Rattle.ned_trees.specs.declared.declarations.TypeDeclaration.{TypeDeclaration}
+use Rattle.ini_entries.specs.Names.{is_dotted_name}
 use Rattle.ini_trees.specs.Entries.{last_name}
 use Rattle.ned_types.specs.Flat.{or_else, submodule_named}
 use Rattle.ned_types.specs.Types.{is_built_in, is_kind_of_modules, is_refixed}
@@ -228,9 +229,10 @@ module _ (s : ModuleRules) where
   type_found p body name None = Done (Err (no_type name))
   type_found p body name (Some n) = kept_type p body n (slice_get s.types n)
 
-  -- the type that a value names, in the text of a type
+  -- the type that a value names, in the text of a type: by its name, which packages may stand before
   abbrev pub type_told : TypeDeclaration → ParametricType → SubmoduleBody → Value → KeyAsking
-  type_told t p body (value.Text name) = type_found p body name (type_meant t name)
+  type_told t p body (value.Text name) = if is_dotted_name name
+      then type_found p body name (type_meant t name) else Done (Err UnknownType)
   type_told t p body _ = Done (Err (fault.Value Mismatch))
 
   -- the full path of an entry that names a submodule's type

@@ -25,6 +25,7 @@ use crate::progress::{Choosing, KeyProgress, Moved};
 use crate::reach::{Reached, reach};
 use crate::scene::ModuleSource;
 use crate::variables::NoVariables;
+use ini_entries::names::is_dotted_name;
 use ini_trees::speaks::last_name;
 use inside_keys::channel::is_built_in;
 use inside_keys::key::Module;
@@ -251,7 +252,13 @@ fn told<'m, S: ModuleSource>(
     ensures costs { Costs (S.setting scene.now) 0 result }
 {
     match value {
-        Value::Text(name) => named_type(alloc, scene, declared, parametric, body, &name),
+        Value::Text(name) => {
+            if is_dotted_name(name.as_bytes()) {
+                named_type(alloc, scene, declared, parametric, body, &name)
+            } else {
+                Err(InsideError::Fault(ModelFault::UnknownType))
+            }
+        }
         _ => Err(InsideError::Fault(ModelFault::Value(ValueFault::Mismatch))),
     }
 }
