@@ -1,20 +1,16 @@
 -- What the model says of types.
-use Rattle.std.specs.Prelude.{ℕ, ◌==◌, List, Option, Some, None, if◌then◌else◌}
+use Rattle.std.specs.Prelude.{ℕ, List, Option, Some, None}
 use Rattle.std.specs.Option.{option_and_then}
 use Rattle.ini_trees.specs.declared.lines.IniEntry.{IniEntry}
 use Rattle.ini_trees.specs.Entries.{last_name, network_entry, time_limit_entry}
 use Rattle.ini_trees.specs.Sections.{entries_along}
-use Rattle.ned_trees.specs.declared.declarations.Submodule.{Submodule}
 use Rattle.ned_trees.specs.declared.declarations.TypeDeclaration.{TypeDeclaration}
 use Rattle.ned_trees.specs.declared.declarations.TypeKind.{TypeKind}
 use Rattle.ned_trees.specs.declared.declarations.TypeKind.TheVariants.{Simple, Module, Network}
 use Rattle.ned_trees.specs.declared.declarations.TypeKind.TheVariants.{Channel, ModuleInterface}
 use Rattle.ned_trees.specs.declared.declarations.TypeKind.TheVariants.{ChannelInterface}
-use Rattle.ned_types.specs.Types.{type_name, type_named}
-use Rattle.ned_types.specs.Flat.{submodule_named}
+use Rattle.ned_types.specs.Types.{type_named}
 use Rattle.model_data.specs.declared.model.Model.{Model}
-use Rattle.model_questions.specs.declared.record.Record.{Record}
-use Rattle.model_questions.specs.Records.{record_at}
 
 -- the entries that count, in their order: those of the sections of the configuration's chain
 abbrev pub entries_in : Model → List IniEntry
@@ -47,20 +43,3 @@ network_of m = option_and_then as_network
 -- `sim-time-limit`
 unfoldable pub time_limit_of : Model → Option ℕ
 time_limit_of m = time_limit_entry (entries_in m)
-
-abbrev pub submodule_type : Model → Option Submodule → Option TypeDeclaration
-submodule_type m None = None
-submodule_type m (Some s) = named_type m (type_name s)
-
--- the type of the submodule of that name in a module of that type
-abbrev pub inner_type : Model → Option TypeDeclaration → List ℕ → Option TypeDeclaration
-inner_type m None name = None
-inner_type m (Some t) name = submodule_type m (submodule_named name t.submodules)
-
--- the type of a module by its record: the network, or what the enclosing module declares
-abbrev pub type_of_record : Model → Record → Option TypeDeclaration
-type_of_record m r = if r.parent == 0 then network_of m else inner_type m (network_of m) r.name
-
--- the type of the module of that id
-abbrev pub type_at : Model → List Record → ℕ → Option TypeDeclaration
-type_at m records id = option_and_then (type_of_record m) (record_at records id)

@@ -1,29 +1,21 @@
 //! The model of a run.
 
-ghost use Rattle.std.specs.Prelude.{◌≡◌, IfOk, Some};
+ghost use Rattle.std.specs.Prelude.{◌≡◌, IfOk};
 ghost use Rattle.std.specs.Option.{option_copied};
-ghost use Rattle.model_data.specs.Models.{network_of, type_at, inner_type, as_network};
-ghost use Rattle.model_data.specs.Models.{time_limit_of};
-ghost use Rattle.model_questions.specs.Records.{record_at};
-ghost use Rattle.ned_types.specs.Flat.{submodule_named};
+ghost use Rattle.model_data.specs.Models.{as_network, network_of, time_limit_of};
 
 use ini_trees::copies::copy_names;
 use ini_trees::entries::{network_entry, time_limit_entry};
 use ini_trees::lines::IniText;
 use ini_trees::speaks::last_name;
 use model_injections::injection::Injection;
-use model_questions::record::{Record, record_at};
 use ned_files::shared::{SharedFile, copy_files};
-use ned_trees::declarations::{Submodule, TypeDeclaration, TypeKind};
-use ned_types::flat::type_name;
+use ned_trees::declarations::{TypeDeclaration, TypeKind};
 use ned_types::table::TypeTable;
 use sim_values::NoMemory;
 use sim_values::text::Text;
 use sqlite_items::Items;
 use std::alloc::Global;
-
-/// The id of the network's first submodule: the others follow it in the order of their declaration.
-const FIRST_SUBMODULE: usize = 2;
 
 /// What a run is made of: the NED files and the types that they declare, the ini text, the selected
 /// configuration, and the injections.
@@ -89,40 +81,6 @@ impl Model {
         ensures { result ≡ time_limit_of self.now }
     {
         time_limit_entry(self.ini.lines(), self.chain.as_slice())
-    }
-
-    /// The type of the module of that id.
-    pub fn type_at(&self, records: &[Record], id: u32) -> Option<&TypeDeclaration>
-        ensures { option_copied result ≡ type_at self.now records.now id }
-    {
-        let record = record_at(records, id)?;
-        if record.parent == 0 {
-            return self.network();
-        }
-        self.inner_type(record.name.as_bytes(), id)
-    }
-
-    /// The type of the network's submodule of that name, which has that id.
-    fn inner_type(&self, name: &[u8], id: u32) -> Option<&TypeDeclaration>
-        ensures { option_copied result ≡ inner_type self.now (network_of self.now) name.now }
-    {
-        let network = self.network()?;
-        let submodule = self.submodule_of(network, name, id)?;
-        self.types.find(type_name(submodule))
-    }
-
-    /// The network's submodule of that name. It is looked for first where one of that id stands.
-    pub fn submodule_of<'m>(
-        &'m self,
-        network: &'m TypeDeclaration,
-        name: &[u8],
-        id: u32,
-    ) -> Option<&'m Submodule>
-        requires { network_of self.now ≡ Some network.now }
-        ensures { option_copied result ≡ submodule_named name.now network.now.submodules }
-    {
-        let place = (id as usize).saturating_sub(FIRST_SUBMODULE);
-        self.types.submodule_near(network, place, name)
     }
 }
 

@@ -1,32 +1,9 @@
--- Where names differ, the submodule or type that stands at a place is the first of its name.
+-- Where names differ, the type that stands at a place is the first of its name.
 use Rattle.std.proofs.Common.{◌≡◌, ◌≢◌, ℕ, zero, suc, Bool, true, false, List, [], ◌∷◌, Some, refl, sym, ap, ◌∙◌, slice_get, bytes_eq, inl, inr, if◌then◌else◌}
 use Rattle.std.proofs.lemmas.Slice.Eq.{bytes_eq-Decides}
-use Rattle.ned_trees.specs.declared.declarations.Submodule.{Submodule}
 use Rattle.ned_trees.specs.declared.declarations.TypeDeclaration.{TypeDeclaration}
-use Rattle.ned_types.specs.Flat.{submodule_named}
 use Rattle.ned_types.specs.Types.{type_named}
-use Rattle.ned_types.specs.WellFormed.{HaveOwnNames, IsAmong, StandsBefore}
-
-among_at : (ss : List Submodule) (k : ℕ) (s : Submodule) → slice_get ss k ≡ Some s → IsAmong s ss
-among_at [] k s e = cc
-among_at (t ∷ ts) zero s e = let same : s ≡ t = cc in inl same
-among_at (t ∷ ts) (suc k) s e = inr (among_at ts k s e)
-
-own_later : (t : Submodule) (ts : List Submodule) → HaveOwnNames (t ∷ ts) → HaveOwnNames ts
-own_later t ts own = λ s r before. own s r (inr before)
-
-pub near : (ss : List Submodule) (k : ℕ) (s : Submodule) (name : List ℕ) → HaveOwnNames ss → slice_get ss k ≡ Some s → bytes_eq s.name name ≡ true → Some s ≡ submodule_named name ss
-near [] k s name own at e = cc
-near (t ∷ ts) zero s name own at e =
-    let same : s ≡ t = cc in
-    rw (ap (λ (u : Submodule). bytes_eq u.name name) (sym same) ∙ e) (ap Some same)
-near (t ∷ ts) (suc k) s name own at e = by (bytes_eq t.name name) refl (near ts k s name (own_later t ts own) at e)
-  where
-    by : (b : Bool) → bytes_eq t.name name ≡ b → Some s ≡ submodule_named name ts → Some s ≡ (if b then Some t else submodule_named name ts)
-    by true b later = absurd (own t s (inl (refl, among_at ts k s at)) ((bytes_eq-Decides t.name name).0 b ∙ sym ((bytes_eq-Decides s.name name).0 e)))
-    by false b later = later
-
--- ---- types
+use Rattle.ned_types.specs.WellFormed.{IsAmong, StandsBefore}
 
 pub type_among : (ts : List TypeDeclaration) (k : ℕ) (t : TypeDeclaration) → slice_get ts k ≡ Some t → IsAmong t ts
 type_among [] k t e = cc

@@ -3,11 +3,9 @@
 ghost use Rattle.std.specs.Prelude.{◌≡◌, IfOk, slice_get};
 ghost use Rattle.std.specs.Option.{option_copied};
 ghost use Rattle.ned_types.specs.Types.{type_named};
-ghost use Rattle.ned_types.specs.Flat.{submodule_named};
-ghost use Rattle.ned_types.specs.WellFormed.{HaveOwnNames, IsAmong, IsWellFormed};
+ghost use Rattle.ned_types.specs.WellFormed.{IsWellFormed};
 
-use crate::flat::submodule_named;
-use ned_trees::declarations::{Submodule, TypeDeclaration};
+use ned_trees::declarations::TypeDeclaration;
 use sim_values::dropping::{after, pair_after};
 use sqlite_items::Items;
 use std::alloc::{AllocError, Global};
@@ -97,20 +95,6 @@ impl TypeTable {
             None => 0,
         }
     }
-
-    /// The submodule of that name of one of the types. It is looked for at that place first.
-    pub fn submodule_near<'a>(
-        &'a self,
-        declared: &'a TypeDeclaration,
-        place: usize,
-        name: &[u8],
-    ) -> Option<&'a Submodule>
-        requires { IsAmong declared.now self.now }
-        ensures { option_copied result ≡ submodule_named name.now declared.now.submodules }
-    {
-        let _types = self.types();
-        found_near(declared.submodules.as_slice(), place, name)
-    }
 }
 
 /// A value that can be shared.
@@ -162,17 +146,6 @@ fn type_near<'a>(
     }
 }
 
-/// The submodule of that name, looked for at that place first.
-fn found_near<'a>(submodules: &'a [Submodule], place: usize, name: &[u8]) -> Option<&'a Submodule>
-    requires { HaveOwnNames submodules.now }
-    ensures { option_copied result ≡ submodule_named name.now submodules.now }
-{
-    match submodule_at(submodules, place) {
-        Some(found) if found.name.is(name) => Some(found),
-        _ => submodule_named(name, submodules),
-    }
-}
-
 /// The first type of that name.
 pub fn find_type<'a>(types: &'a [TypeDeclaration], name: &[u8]) -> Option<&'a TypeDeclaration>
     ensures { option_copied result ≡ type_named name.now types.now }
@@ -190,11 +163,4 @@ fn type_at(types: &[TypeDeclaration], place: usize) -> Option<&TypeDeclaration>
     ensures { option_copied result ≡ slice_get types.now place }
 {
     types.get(place)
-}
-
-/// The submodule at that place.
-fn submodule_at(submodules: &[Submodule], place: usize) -> Option<&Submodule>
-    ensures { option_copied result ≡ slice_get submodules.now place }
-{
-    submodules.get(place)
 }
