@@ -1,3 +1,2 @@
 pub mod Example
 pub mod Numbers
-pub mod Scenes

@@ -1,7 +1,6 @@
 //! What becomes of a row, by its first word.
 
 use crate::number_rows::tell_numbers;
-use crate::scene_rows::tell_scene;
 use crate::telling::Telling;
 use crate::text_rows::tell_text;
 use sim_values::NoMemory;
@@ -25,7 +24,6 @@ fn tell_row(alloc: Global, told: &mut Telling, row: &str) -> Result<(), NoMemory
     let (word, rest) = first_part(row);
     match word {
         "numbers" => tell_numbers(alloc, told, rest),
-        "scene" | "chain" => tell_scene(alloc, told, word, rest),
         "text" | "cycle" | "lines" | "long_lines" => {
             tell_text(alloc, told, word, rest);
             Ok(())

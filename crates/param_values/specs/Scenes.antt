@@ -1,10 +1,9 @@
--- What a scene tells, as the setting has it.
+-- What gives a parameter its value, as the code has it.
 use Rattle.std.specs.Prelude.{Option, Some, None}
 use Rattle.param_values.specs.declared.scene.Given as given_type
 use Rattle.param_values.specs.declared.scene.Given.TheVariants as given
-use Rattle.param_values.specs.declared.scene.DeclaredParameter.{DeclaredParameter}
 use Rattle.param_values.specs.declared.scene.Written as written_type
-use Rattle.param_values.specs.Settings.{Written, Given, Fixed, Default, Declared}
+use Rattle.param_values.specs.Settings.{Written, Given, Fixed, Default}
 
 abbrev pub written_by : written_type.Written → Written
 written_by w = record { section = w.section; expression = w.expression.now }
@@ -17,10 +16,3 @@ abbrev pub given_by : Option given_type.Given → Option Given
 given_by None = None
 given_by (Some (given.Fixed w)) = Some (Fixed (written_by w))
 given_by (Some (given.Default w)) = Some (Default (written_by w))
-
-abbrev pub declared_as : DeclaredParameter → Declared
-declared_as p = record { kind = p.kind; parent = p.parent; given = given_by p.given }
-
-abbrev pub declared_by : Option DeclaredParameter → Option Declared
-declared_by None = None
-declared_by (Some p) = Some (declared_as p)

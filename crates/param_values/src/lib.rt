@@ -1,10 +1,5 @@
-//! Values of parameters whose expressions refer to other parameters.
+//! What gives a parameter its value, and of what kind its values are.
 #![tactic(auto)]
 
-pub mod key;
 pub mod kind;
-pub mod laws;
-pub mod parameters;
-pub mod place;
 pub mod scene;
-pub mod values;

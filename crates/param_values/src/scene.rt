@@ -1,16 +1,6 @@
-//! What a model tells of its parameters.
+//! What gives a parameter its value.
 
-ghost use Rattle.std.specs.Prelude.{◌≡◌, IfOk};
-ghost use Rattle.std.specs.Option.{option_copied};
-ghost use Rattle.param_values.specs.Settings.{ParameterRules};
-ghost use Rattle.param_values.specs.Scenes.{declared_by};
-
-use crate::key::Key;
-use crate::kind::Kind;
-use ini_trees::entry::EntryValue;
 use ned_trees::expressions::Expression;
-use sim_values::NoMemory;
-use std::alloc::Global;
 
 /// The section in which an expression stands.
 #[derive(Clone, Copy, PartialEq, Eq)]
@@ -35,27 +25,4 @@ pub enum Given<'m> {
     Fixed(Written<'m>),
     /// `= default(e)`: it counts where the ini text gives none.
     Default(Written<'m>),
-}
-
-/// A parameter of a module, as it is declared.
-#[derive(Clone, Copy)]
-pub struct DeclaredParameter<'m> {
-    pub kind: Kind,
-    /// The id of the enclosing module.
-    pub parent: u32,
-    pub given: Option<Given<'m>>,
-}
-
-/// What a model tells of its parameters.
-pub trait ParameterSource {
-    /// All that values of parameters rest on.
-    ghost setting: { Self → ParameterRules };
-
-    /// How a parameter is declared, if it is there.
-    fn parameter(&self, key: &Key) -> Option<DeclaredParameter<'_>>
-        ensures { declared_by result ≡ (setting self.now).declared key.now };
-
-    /// What the first entry of the ini text says that matches the full path of the parameter.
-    fn entry(&self, alloc: Global, key: &Key) -> Result<Option<&EntryValue>, NoMemory>
-        ensures { IfOk result (λ found. option_copied found ≡ (setting self.now).entry key.now) };
 }
