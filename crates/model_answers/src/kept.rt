@@ -23,10 +23,10 @@ use std::alloc::Global;
 /// How many insides are kept at most: as many as a run has modules.
 const MOST_INSIDES: u32 = 1_000_000;
 
-/// Whether a part is a compound module.
+/// Whether a part is a compound module. A network may stand within another.
 fn is_compound(types: &[TypeDeclaration], part: Part) -> bool {
     match types.get(part.of_type) {
-        Some(declared) => matches!(declared.kind, TypeKind::Module),
+        Some(declared) => matches!(declared.kind, TypeKind::Module | TypeKind::Network),
         None => false,
     }
 }
