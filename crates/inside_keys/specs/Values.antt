@@ -1,7 +1,8 @@
 -- What each key asks.
-use Rattle.std.specs.Prelude.{ℕ, zero, suc, nat_lt, ℤ, pos, Bool, true, false, not, ◌&&◌, List, []}
-use Rattle.std.specs.Prelude.{◌∷◌, ◌++◌, codes, Option, Some, None, Result, Ok, Err, if◌then◌else◌}
-use Rattle.std.specs.Prelude.{is_some, length, slice_get, slice_index}
+use Rattle.std.specs.Prelude.{ℕ, zero, suc, nat_lt, ℤ, pos, negsuc, Bool, true, false, not, ◌&&◌}
+use Rattle.std.specs.Prelude.{List, [], ◌∷◌, ◌++◌, codes, Option, Some, None, Result, Ok, Err}
+use Rattle.std.specs.Prelude.{if◌then◌else◌}
+use Rattle.std.specs.Prelude.{is_none, is_some, length, slice_get, slice_index}
 use Rattle.std.specs.List.{list_any}
 use Rattle.std.specs.Option.{option_and_then}
 use Rattle.param_following.specs.Asking.{Done, Ask}
@@ -260,10 +261,33 @@ module _ (s : ModuleRules) where
   type_by m around t body (Named name) = numbered (position_of name (type_names s))
   type_by m around t body (Like p) = type_chosen m around t p body
 
+  abbrev pub type_of_submodule : Module → Module → TypeDeclaration → Submodule → KeyAsking
+  type_of_submodule m around t l =
+      type_by m around (text_with t l.name) l.body l.submodule_type
+
+  -- whether one of that index is among so many
+  abbrev pub is_among : ℕ → Option ℤ → Bool
+  is_among n None = false
+  is_among n (Some (pos k)) = nat_lt k n
+  is_among n (Some (negsuc k)) = false
+
+  -- the type of an element of a vector of so many
+  abbrev pub element_type : Module → Module → TypeDeclaration → Submodule → ℕ → KeyAsking
+  element_type m around t l n = if is_among n (s.stands m).index
+      then type_of_submodule m around t l else Done (Err UnknownType)
+
+  -- the type of an element, where it is one of a vector, or of a submodule that is none
+  abbrev pub indexed_type : Module → Module → TypeDeclaration → Submodule → KeyAsking
+  indexed_type m around t l = if is_vector l then sized around l (element_type m around t l)
+      else (if is_none (s.stands m).index then type_of_submodule m around t l
+      else Done (Err UnknownType))
+
+  -- the type of a submodule in a module of that type: one that isn't there, since its condition
+  -- doesn't hold or no element has its index, has none
   abbrev pub type_in : Module → Module → TypeDeclaration → Option Submodule → KeyAsking
   type_in m around t None = Done (Err UnknownType)
   type_in m around t (Some l) =
-      type_by m around (text_with t l.name) l.body l.submodule_type
+      conditioned around l (indexed_type m around t l) (Done (Err UnknownType))
 
   -- with the type of a module, and its number
   abbrev pub typed_then : Module → (ℕ → TypeDeclaration → KeyAsking) → KeyAsking

@@ -1,4 +1,5 @@
 pub mod Alike
+pub mod Asked
 pub mod Exact
 pub mod Insides
 pub mod Loads

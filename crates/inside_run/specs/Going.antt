@@ -11,7 +11,7 @@ use Rattle.param_eval.specs.Evaluating.{resumed}
 use Rattle.sim_values.specs.declared.value.Value.{Value}
 use Rattle.sim_values.specs.declared.value.Value.TheVariants as value
 use Rattle.sim_values.specs.declared.model_fault.ModelFault.TheVariants as fault
-use Rattle.sim_values.specs.declared.model_fault.ModelFault.TheVariants.{NoGate}
+use Rattle.sim_values.specs.declared.model_fault.ModelFault.TheVariants.{NoGate, UnknownType}
 use Rattle.sim_values.specs.declared.value_fault.ValueFault.TheVariants.{Unassigned}
 use Rattle.inside_parts.specs.declared.fault.InsideError.{InsideError}
 use Rattle.inside_parts.specs.declared.fault.InsideError.TheVariants as stop
@@ -31,7 +31,7 @@ use Rattle.inside_keys.specs.Places.{meant_under}
 use Rattle.inside_keys.specs.Settings.{ModuleRules, Whereabouts}
 use Rattle.inside_keys.specs.Values.{among, asking_in, at_index, body_by, declared_asking, is}
 use Rattle.inside_keys.specs.Values.{is_there, kept, of_child, carrier, posed_asking, size_of_gate}
-use Rattle.inside_keys.specs.Values.{size_read, type_in, type_told}
+use Rattle.inside_keys.specs.Values.{element_type, indexed_type, size_read, type_in, type_told}
 use Rattle.inside_keys.specs.Channels.{with_value}
 use Rattle.inside_run.specs.declared.progress.Moved.{Moved}
 use Rattle.inside_run.specs.declared.progress.Moved.TheVariants as moved
@@ -133,6 +133,10 @@ module _ (s : ModuleRules) where
   goes_on (progress.OwnType m w) = typed (asking_in s m w)
   goes_on (progress.TypeAround m around name) =
       typed (λ n u. type_in s m around u (submodule_named name u.submodules))
+  goes_on (progress.TypeCondition m around t l) = value_then (λ v. truth_then v
+      (indexed_type s m around t.now l.now) (Done (Err UnknownType)))
+  goes_on (progress.TypeSize m around t l) =
+      value_then (λ v. size_then v (element_type s m around t.now l.now))
   goes_on (progress.BodyAround m w t name) = typed (body_in m w t.now name)
   goes_on (progress.InsideAround m t g) =
       typed (λ n u. Ask (key m what.Joined) (size_read s u (standing_by t) g))

@@ -5,3 +5,4 @@ pub mod Found
 pub mod Going
 pub mod Weights
 pub mod Same
+pub mod PlaceExamples

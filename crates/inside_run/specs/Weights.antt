@@ -59,14 +59,14 @@ module _ (s : ModuleRules) where
   around_weight m w t name =
       most (λ u. body_weight m w t (body_by (submodule_named name u.submodules))) s.types
 
-  -- what names the type of a submodule of that module
+  -- what names the type of a submodule that is that module
   abbrev pub choice_weight : Module → SubmoduleType → ℕ
   choice_weight m (Named name) = 0
   choice_weight m (Like p) = written_weight (type_written s m p)
 
   abbrev pub chosen_weight : Module → Option Submodule → ℕ
   chosen_weight m None = 0
-  chosen_weight m (Some l) = choice_weight m l.submodule_type
+  chosen_weight m (Some l) = 2 + choice_weight m l.submodule_type
 
   abbrev pub type_weight : Module → List ℕ → ℕ
   type_weight m name = most (λ u. chosen_weight m (submodule_named name u.submodules)) s.types
@@ -96,6 +96,8 @@ module _ (s : ModuleRules) where
   abbrev pub weight : KeyProgress → ℕ
   weight (progress.OwnType m w) = most (typed_weight m w) s.types
   weight (progress.TypeAround m around name) = type_weight m name
+  weight (progress.TypeCondition m around t l) = 1 + choice_weight m l.now.submodule_type
+  weight (progress.TypeSize m around t l) = choice_weight m l.now.submodule_type
   weight (progress.BodyAround m w t name) = around_weight m w t.now name
   weight (progress.InsideAround m t g) = 1
   weight (progress.Joined names t g) = 0

@@ -21,7 +21,7 @@ use crate::posed::go_on_posed;
 use crate::progress::{KeyProgress, Moved};
 use crate::reading::{held, sized};
 use crate::scene::{ModuleSource, Stands, submodule_in};
-use crate::types::{go_on_chosen, type_in};
+use crate::types::{go_on_chosen, type_counted, type_held, type_in};
 use inside_keys::found::{Found, Inside};
 use inside_keys::key::{Key, Module, What};
 use inside_parts::fault::InsideError;
@@ -182,6 +182,12 @@ fn on_value<'m, S: ModuleSource>(
         KeyProgress::OwnType(site, what) => own_type(alloc, scene, site, what, value),
         KeyProgress::TypeAround(site, around, name) => {
             type_around(alloc, scene, &site, &around, &name, value)
+        }
+        KeyProgress::TypeCondition(site, around, declared, submodule) => {
+            type_held(alloc, scene, &site, &around, declared, submodule, value)
+        }
+        KeyProgress::TypeSize(site, around, declared, submodule) => {
+            type_counted(alloc, scene, &site, &around, declared, submodule, value)
         }
         KeyProgress::BodyAround(site, what, declared, name) => {
             body_around(alloc, scene, &site, &what, declared, &name, value)

@@ -9,6 +9,7 @@ ghost use Rattle.inside_keys.specs.Settings.{ModuleRules};
 ghost use Rattle.inside_keys.specs.Values.{rules_of};
 ghost use Rattle.inside_keys.specs.declared.found.Found.{Found};
 ghost use Rattle.inside_keys.specs.declared.key.Key.{Key};
+ghost use Rattle.inside_run.specs.PlaceExamples.{ArePlaced};
 
 /// An answer rests on the keys that it asked for, and on nothing else: in a table that may be kept
 /// each value is what its asking comes to by the values of the table, and each key stands after
@@ -26,4 +27,9 @@ pub fn rests_on_what_was_asked()
 pub fn after_edit()
     ensures { (before after : ModuleRules) (es : Entries Key Found) → IsKept (rules_of before) es
         → AfterEdit (rules_of before) (rules_of after) es }
+{}
+
+/// Modules that are there and that are not, worked out by hand.
+pub fn worked_places()
+    ensures { ArePlaced }
 {}

@@ -9,7 +9,9 @@ use inside_parts::names::Names;
 use inside_parts::stack::Stack;
 use inside_walk::task::{Doing, Ground, Task};
 use inside_wiring::wiring::Carrier;
-use ned_trees::declarations::{ParametricType, SectionLine, SubmoduleBody, TypeDeclaration};
+use ned_trees::declarations::{
+    ParametricType, SectionLine, Submodule, SubmoduleBody, TypeDeclaration,
+};
 use param_eval::evaluation::Evaluation;
 use sim_values::text::Text;
 use sqlite_items::Boxed;
@@ -84,7 +86,13 @@ pub enum KeyProgress<'m> {
     /// The type of the second module, which is around the first and declares it under that name.
     /// The first one's type is wanted.
     TypeAround(Module, Module, Text),
-    /// The same, for what it says in the body of the module, which is of that type.
+    /// Whether the condition of the submodule holds that the first module is, in the second one, which
+    /// is of that type. The first one's type is wanted.
+    TypeCondition(Module, Module, &'m TypeDeclaration, &'m Submodule),
+    /// How many elements the vector has of which the first module is one, for the same.
+    TypeSize(Module, Module, &'m TypeDeclaration, &'m Submodule),
+    /// The type of the module around, for what it says in the body of the module, which is of that
+    /// type.
     BodyAround(Module, What, &'m TypeDeclaration, Text),
     /// The type of the module around, which is this, for the finished size of a gate.
     InsideAround(Module, Stands, Text),

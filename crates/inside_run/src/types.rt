@@ -1,7 +1,8 @@
 //! Types that values choose.
 
 ghost use Rattle.std.specs.Prelude.{◌≡◌, ◌+◌, ◌<◌, ◌^◌, ◌++◌, ◌∷◌, ◌&&◌, [], IfOk, IfSome, Some};
-ghost use Rattle.std.specs.Prelude.{codes, is_some, length, not, slice_get};
+ghost use Rattle.std.specs.Prelude.{Err, codes, if◌then◌else◌, is_none, is_some, length, not, slice_get};
+ghost use Rattle.sim_values.specs.declared.model_fault.ModelFault.TheVariants.{UnknownType};
 ghost use Rattle.std.specs.List.{list_any};
 ghost use Rattle.inside_parts.specs.Names.{is_one};
 ghost use Rattle.ned_types.specs.Flat.{submodule_named};
@@ -9,13 +10,17 @@ ghost use Rattle.ned_types.specs.Types.{gives_fixed, is_fixed_in, is_kind_of_mod
 ghost use Rattle.std.specs.Option.{option_and_then, option_copied};
 ghost use Rattle.param_values.specs.Scenes.{maybe_written};
 ghost use Rattle.param_eval.specs.Evaluating as evaluating;
-ghost use Rattle.inside_keys.specs.Asked.{valued_then};
+ghost use Rattle.param_following.specs.Asking.{Done};
+ghost use Rattle.inside_keys.specs.Asked.{ask_then, truth_then, valued_then};
+ghost use Rattle.inside_keys.specs.Keys.{key};
+ghost use Rattle.inside_keys.specs.declared.key.What.TheVariants as what_as;
 ghost use Rattle.inside_keys.specs.Places.{meant_under};
 ghost use Rattle.inside_keys.specs.Settings as settings;
 ghost use Rattle.inside_keys.specs.Settings.{ModuleRules};
 ghost use Rattle.inside_keys.specs.Values as values;
 ghost use Rattle.inside_keys.specs.declared.found.Found.TheVariants as found_as;
 ghost use Rattle.inside_run.specs.Going.{Moves, goes_on};
+ghost use Rattle.inside_run.specs.Scenes.{standing_by};
 ghost use Rattle.inside_run.specs.Weights.{Costs, choice_weight, chosen_weight, written_weight};
 ghost use Rattle.inside_run.specs.declared.progress.KeyProgress.TheVariants as waits;
 
@@ -23,14 +28,15 @@ use crate::keys::numbered;
 use crate::posed::{chosen, given_in, place_in};
 use crate::progress::{Choosing, KeyProgress, Moved};
 use crate::reach::{Reached, reach};
-use crate::scene::ModuleSource;
+use crate::scene::{ModuleSource, Stands};
 use crate::variables::NoVariables;
 use ini_entries::names::is_dotted_name;
 use ini_trees::speaks::last_name;
 use inside_keys::channel::is_built_in;
-use inside_keys::key::Module;
+use inside_keys::key::{Module, What};
 use inside_keys::place::{ExpressionPlace, Section};
 use inside_parts::fault::InsideError;
+use inside_walk::submodules::size;
 use ned_trees::declarations::{
     ParametricType, SectionLine, Submodule, SubmoduleBody, SubmoduleType, TypeDeclaration, TypeKind,
 };
@@ -444,7 +450,7 @@ fn text_with<'m, S: ModuleSource>(
     found
 }
 
-/// The type of a submodule of that type's, of the module around.
+/// The type of a submodule that is there, of the module around, which is of that type.
 fn type_by<'m, S: ModuleSource>(
     alloc: Global,
     scene: &'m S,
@@ -453,9 +459,9 @@ fn type_by<'m, S: ModuleSource>(
     declared: &'m TypeDeclaration,
     submodule: &'m Submodule,
 ) -> Result<Moved<'m>, InsideError>
-    ensures moves { Moves (S.setting scene.now) result (values.type_by (S.setting scene.now)
-        site.now around.now (values.text_with (S.setting scene.now) declared.now submodule.now.name)
-        submodule.now.body submodule.now.submodule_type) }
+    ensures moves { Moves (S.setting scene.now) result
+        (values.type_of_submodule (S.setting scene.now) site.now around.now declared.now
+        submodule.now) }
     ensures costs { Costs (S.setting scene.now)
         (choice_weight (S.setting scene.now) site.now submodule.now.submodule_type) result }
 {
@@ -476,7 +482,223 @@ fn type_by<'m, S: ModuleSource>(
     }
 }
 
-/// The type of a submodule of the module around, if it is declared.
+// ---- whether it is there
+
+/// Whether what stands there is one of so many elements.
+fn is_among(count: u32, stands: &Stands) -> bool
+    ensures { (s : ModuleRules)
+        → result ≡ values.is_among s count (standing_by stands.now).index }
+{
+    let Some(index) = stands.index else {
+        return false;
+    };
+    if index < 0 {
+        return false;
+    }
+    (index as u64) < u64::from(count)
+}
+
+/// The type of a submodule, where it is there.
+fn there_type<'m, S: ModuleSource>(
+    alloc: Global,
+    scene: &'m S,
+    site: &Module,
+    around: &Module,
+    declared: &'m TypeDeclaration,
+    submodule: &'m Submodule,
+    is_there: bool,
+) -> Result<Moved<'m>, InsideError>
+    ensures moves { Moves (S.setting scene.now) result
+        (if is_there then values.type_of_submodule (S.setting scene.now) site.now around.now
+        declared.now submodule.now else Done (Err UnknownType)) }
+    ensures costs { Costs (S.setting scene.now)
+        (choice_weight (S.setting scene.now) site.now submodule.now.submodule_type) result }
+{
+    if is_there {
+        type_by(alloc, scene, site, around, declared, submodule)
+    } else {
+        Err(InsideError::Fault(ModelFault::UnknownType))
+    }
+}
+
+/// Whether a module is one of so many elements.
+fn is_element<S: ModuleSource>(
+    alloc: Global,
+    scene: &S,
+    site: &Module,
+    count: u32,
+) -> Result<bool, NoMemory>
+    ensures { IfOk result (λ is_there. is_there ≡ values.is_among (S.setting scene.now) count
+        ((S.setting scene.now).stands site.now).index) }
+{
+    let stands = scene.standing(alloc, site)?;
+    Ok(is_among(count, &stands))
+}
+
+/// Whether a module is no element of a vector.
+fn is_alone<S: ModuleSource>(alloc: Global, scene: &S, site: &Module) -> Result<bool, NoMemory>
+    ensures { IfOk result
+        (λ is_there. is_there ≡ is_none ((S.setting scene.now).stands site.now).index) }
+{
+    let stands = scene.standing(alloc, site)?;
+    Ok(stands.index.is_none())
+}
+
+/// The type of an element of a vector of so many.
+fn element_type<'m, S: ModuleSource>(
+    alloc: Global,
+    scene: &'m S,
+    site: &Module,
+    around: &Module,
+    declared: &'m TypeDeclaration,
+    submodule: &'m Submodule,
+    count: u32,
+) -> Result<Moved<'m>, InsideError>
+    ensures moves { Moves (S.setting scene.now) result (values.element_type (S.setting scene.now)
+        site.now around.now declared.now submodule.now count) }
+    ensures costs { Costs (S.setting scene.now)
+        (choice_weight (S.setting scene.now) site.now submodule.now.submodule_type) result }
+{
+    let is_there = is_element(alloc, scene, site, count)?;
+    there_type(alloc, scene, site, around, declared, submodule, is_there)
+}
+
+/// The type of a submodule that is no vector.
+fn single_type<'m, S: ModuleSource>(
+    alloc: Global,
+    scene: &'m S,
+    site: &Module,
+    around: &Module,
+    declared: &'m TypeDeclaration,
+    submodule: &'m Submodule,
+) -> Result<Moved<'m>, InsideError>
+    ensures moves { Moves (S.setting scene.now) result
+        (if is_none ((S.setting scene.now).stands site.now).index
+        then values.type_of_submodule (S.setting scene.now) site.now around.now declared.now
+        submodule.now else Done (Err UnknownType)) }
+    ensures costs { Costs (S.setting scene.now)
+        (choice_weight (S.setting scene.now) site.now submodule.now.submodule_type) result }
+{
+    let is_there = is_alone(alloc, scene, site)?;
+    there_type(alloc, scene, site, around, declared, submodule, is_there)
+}
+
+/// The type of an element, where it is one of a vector, or of a submodule that is none.
+fn indexed_type<'m, S: ModuleSource>(
+    alloc: Global,
+    scene: &'m S,
+    site: &Module,
+    around: &Module,
+    declared: &'m TypeDeclaration,
+    submodule: &'m Submodule,
+) -> Result<Moved<'m>, InsideError>
+    ensures moves { Moves (S.setting scene.now) result (values.indexed_type (S.setting scene.now)
+        site.now around.now declared.now submodule.now) }
+    ensures costs { Costs (S.setting scene.now)
+        (1 + choice_weight (S.setting scene.now) site.now submodule.now.submodule_type) result }
+{
+    if submodule.size.is_some() {
+        let key = around.key(alloc, What::VectorSize(submodule.name.copy(alloc)?))?;
+        let (site, around) = (site.copy(alloc)?, around.copy(alloc)?);
+        return Ok(Moved::Asks(
+            key,
+            KeyProgress::TypeSize(site, around, declared, submodule),
+        ));
+    }
+    single_type(alloc, scene, site, around, declared, submodule)
+}
+
+/// Goes on with the value of the condition.
+pub fn type_held<'m, S: ModuleSource>(
+    alloc: Global,
+    scene: &'m S,
+    site: &Module,
+    around: &Module,
+    declared: &'m TypeDeclaration,
+    submodule: &'m Submodule,
+    value: &Value,
+) -> Result<Moved<'m>, InsideError>
+    ensures moves { Moves (S.setting scene.now) result (goes_on (S.setting scene.now)
+        (waits.TypeCondition site.now around.now declared.entry submodule.entry)
+        (found_as.Value value.now)) }
+    ensures costs { Costs (S.setting scene.now)
+        (1 + choice_weight (S.setting scene.now) site.now submodule.now.submodule_type) result }
+{
+    match value {
+        Value::Truth(true) => indexed_type(alloc, scene, site, around, declared, submodule),
+        Value::Truth(false) => Err(InsideError::Fault(ModelFault::UnknownType)),
+        _ => Err(InsideError::Fault(ModelFault::Value(ValueFault::Mismatch))),
+    }
+}
+
+/// Goes on with the number of elements.
+pub fn type_counted<'m, S: ModuleSource>(
+    alloc: Global,
+    scene: &'m S,
+    site: &Module,
+    around: &Module,
+    declared: &'m TypeDeclaration,
+    submodule: &'m Submodule,
+    value: &Value,
+) -> Result<Moved<'m>, InsideError>
+    ensures moves { Moves (S.setting scene.now) result (goes_on (S.setting scene.now)
+        (waits.TypeSize site.now around.now declared.entry submodule.entry)
+        (found_as.Value value.now)) }
+    ensures costs { Costs (S.setting scene.now)
+        (choice_weight (S.setting scene.now) site.now submodule.now.submodule_type) result }
+{
+    let count = size(value)?;
+    element_type(alloc, scene, site, around, declared, submodule, count)
+}
+
+/// Asks whether the condition of a submodule holds.
+fn ask_condition<'m, S: ModuleSource>(
+    alloc: Global,
+    _scene: &'m S,
+    site: &Module,
+    around: &Module,
+    declared: &'m TypeDeclaration,
+    submodule: &'m Submodule,
+) -> Result<Moved<'m>, InsideError>
+    ensures moves { Moves (S.setting _scene.now)
+        result (ask_then (key around.now (what_as.Condition submodule.now.name)) (λ v. truth_then v
+        (values.indexed_type (S.setting _scene.now) site.now around.now declared.now submodule.now)
+        (Done (Err UnknownType)))) }
+    ensures costs { Costs (S.setting _scene.now)
+        (2 + choice_weight (S.setting _scene.now) site.now submodule.now.submodule_type) result }
+{
+    let name = submodule.name.copy(alloc)?;
+    let asked = around.key(alloc, What::Condition(name))?;
+    let child = site.copy(alloc)?;
+    let parent = around.copy(alloc)?;
+    Ok(Moved::Asks(
+        asked,
+        KeyProgress::TypeCondition(child, parent, declared, submodule),
+    ))
+}
+
+/// The type of a submodule that is declared so: its condition comes first.
+fn conditioned_type<'m, S: ModuleSource>(
+    alloc: Global,
+    scene: &'m S,
+    site: &Module,
+    around: &Module,
+    declared: &'m TypeDeclaration,
+    submodule: &'m Submodule,
+) -> Result<Moved<'m>, InsideError>
+    ensures moves { Moves (S.setting scene.now) result (values.type_in (S.setting scene.now)
+        site.now around.now declared.now (Some submodule.now)) }
+    ensures costs { Costs (S.setting scene.now)
+        (2 + choice_weight (S.setting scene.now) site.now submodule.now.submodule_type) result }
+{
+    if submodule.condition.is_some() {
+        ask_condition(alloc, scene, site, around, declared, submodule)
+    } else {
+        indexed_type(alloc, scene, site, around, declared, submodule)
+    }
+}
+
+/// The type of a submodule of the module around, if it is declared and there.
 pub fn type_in<'m, S: ModuleSource>(
     alloc: Global,
     scene: &'m S,
@@ -491,7 +713,7 @@ pub fn type_in<'m, S: ModuleSource>(
         (chosen_weight (S.setting scene.now) site.now (option_copied submodule.entry)) result }
 {
     match submodule {
-        Some(submodule) => type_by(alloc, scene, site, around, declared, submodule),
+        Some(submodule) => conditioned_type(alloc, scene, site, around, declared, submodule),
         None => Err(InsideError::Fault(ModelFault::UnknownType)),
     }
 }
