@@ -67,6 +67,15 @@ pub struct Appointment {
     pub kind: i16,
 }
 
+/// The channel of a connection that is made while a run goes on.
+#[derive(Clone, Copy, Drop)]
+pub struct Link {
+    /// In picoseconds.
+    pub delay: SimTime,
+    /// In bits per second; 0: a transmission takes no time.
+    pub datarate: u64,
+}
+
 /// What a module does.
 #[derive(Drop)]
 pub enum Action {
@@ -86,6 +95,12 @@ pub enum Action {
     ScheduleAfter(Schedule),
     /// Takes back the timer of that number, if it is pending.
     Cancel(u32),
+    /// Joins an output gate to an input gate, both of which are free, over a channel or none.
+    Connect(GatePlace, GatePlace, Option<Link>),
+    /// Frees an output gate.
+    Disconnect(GatePlace),
+    /// Ends the run after this event, the rest of which is discarded.
+    End,
     /// Ends the run with the fault ModuleFailed and this text.
     Fail(Text),
 }

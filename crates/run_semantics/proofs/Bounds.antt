@@ -1,16 +1,21 @@
 -- At most so many modules live in a run, and at most so many were created.
-use Rattle.std.proofs.Common.{◌≡◌, ℕ, zero, suc, ◌+◌, ◌-◌, ◌≤◌, min, Bool, true, false, List, [], ◌∷◌, Option, Some, None, refl, ap, ◌∙◌, arith, length, slice_get, if◌then◌else◌}
+use Rattle.std.proofs.Common.{◌≡◌, ℕ, zero, suc, ◌+◌, ◌-◌, ◌≤◌, min, cond, not, ◌||◌, ◌&&◌, Bool, true, false, List, [], ◌∷◌, ◌++◌, None, refl, sym, ap, ◌∙◌, arith, subst, length, length-append, map, slice_get}
+use Rattle.std.proofs.lemmas.List.{length-map}
+use Rattle.std.specs.List.{filter}
+use Rattle.event_set.proofs.Order.{each_map}
 use Rattle.module_api.specs.Behaviour.{Behaviour}
 use Rattle.model_questions.specs.Answers.{Answers}
-use Rattle.run_semantics.specs.World.{World}
-use Rattle.run_semantics.specs.Perform.{Flow, On, Stopped, Broken, ◌>>=◌}
-use Rattle.run_semantics.specs.Run.{Part, room_in, prepared, needs, first_unknown, unless_unknown, place_parts, ready, initialize_all, world_at, settled, after}
-use Rattle.run_semantics.specs.Laws.{IsBounded}
-use Rattle.run_semantics.proofs.Flows.{in_flow}
-use Rattle.run_semantics.proofs.Living.{all_live, length-ids}
-use Rattle.run_semantics.proofs.Placing.{OnlyOn, IsReady, ready_ready}
-use Rattle.run_semantics.proofs.Setting.{IsLasting, stays_in, prepared_stays, length_created}
-use Rattle.run_semantics.proofs.Orderly.{initialize_all_leads, orderly_none, ready_none, after_follows}
+use Rattle.model_questions.specs.declared.record.Record.{Record}
+use Rattle.run_semantics.specs.World.{World, live_of}
+use Rattle.run_semantics.specs.Event.{begun}
+use Rattle.run_semantics.specs.Run.{record_under, room_in, with_submodules, world_at, after}
+use Rattle.run_semantics.specs.Laws.{Each, IsBounded}
+use Rattle.run_semantics.specs.Subtree.{among, ids_from}
+use Rattle.run_semantics.proofs.Alive.{above_none, among_append, among_filter, each_among}
+use Rattle.run_semantics.proofs.Always.{LastsAlways, always}
+use Rattle.run_semantics.proofs.Lasting.{Lasts, LastsAtFirst}
+use Rattle.run_semantics.proofs.Living.{all_kept}
+use Rattle.run_semantics.proofs.Placing.{filter_append, filter_alike, filter_filter}
 
 -- a list that has nothing at a place is no longer
 none_there : {X : Type 0} (xs : List X) (k : ℕ) → slice_get xs k ≡ None → length xs ≤ k
@@ -18,70 +23,88 @@ none_there [] k e = omega arith
 none_there (x ∷ xs) zero e = cc
 none_there (x ∷ xs) (suc k) e = let l = none_there xs k e in omega (arith, l)
 
-within : (n created dead : ℕ) → n ≤ min (65536 - (created - dead)) (1000000 - created) → dead ≡ 0 → created ≤ 65536 → created + n ≤ 65536
-within n created dead h z l = omega (arith, h, z, l)
+-- ---- how many live
 
--- nobody is dead, and so few were created
-pub record IsFew (w : World) : Type 0 where
-  pub dead : w.dead ≡ []
-  pub few : length w.records ≤ 65536
+ids_append : (k : ℕ) (rs more : List Record) → ids_from k (rs ++ more) ≡ ids_from k rs ++ ids_from (k + length rs) more
+ids_append k [] more = let same : k ≡ k + 0 = omega arith in ap (λ n. ids_from n more) same
+ids_append k (r ∷ rs) more = let same : suc k + length rs ≡ k + suc (length rs) = omega arith in ap (λ ids. k ∷ ids) (ids_append (suc k) rs more ∙ ap (λ n. ids_from (suc k) rs ++ ids_from n more) same)
 
-pub few_last : IsLasting IsFew
-few_last = record {
-  asked = λ id w f l. record { dead = f.dead; few = f.few };
-  created = λ parent bs w f l e.
-      let room = none_there bs (room_in w) e in
-      let none = ap (λ (ids : List ℕ). length ids) f.dead in
-      let most = within (length bs) (length w.records) (length w.dead) room none f.few in
-      record { dead = f.dead; few = omega (arith, most, length_created parent bs w) };
+length_ids : (k : ℕ) (rs : List Record) → length (ids_from k rs) ≡ length rs
+length_ids k [] = refl
+length_ids k (r ∷ rs) = ap suc (length_ids (suc k) rs)
+
+ids_above : (k : ℕ) (rs : List Record) → Each (λ id. k ≤ id) (ids_from k rs)
+ids_above k [] = tt
+ids_above k (r ∷ rs) = (omega arith, each_map (λ id. suc k ≤ id) (λ id. k ≤ id) (ids_from (suc k) rs) (λ id l. omega (arith, l)) (ids_above (suc k) rs))
+
+not_false : (a : Bool) → a ≡ false → not a ≡ true
+not_false false e = refl
+not_false true e = cc
+
+-- all that are created live
+more_live : (w v : World) (more : List Record) → Each (λ k. k ≤ length w.records) w.dead → v.records ≡ w.records ++ more → v.dead ≡ w.dead → length (live_of v) ≡ length (live_of w) + length more
+more_live w v more within records dead =
+    let f : ℕ → Bool = λ id. not (among id w.dead) in
+    let next : List ℕ = ids_from (1 + length w.records) more in
+    let kept : filter f next ≡ next = all_kept f next (each_map (λ id. 1 + length w.records ≤ id) (λ id. f id ≡ true) next (λ id l. not_false (among id w.dead) (above_none id (length w.records) w.dead (omega (arith, l)) within)) (ids_above (1 + length w.records) more)) in
+    let whole : live_of v ≡ live_of w ++ next =
+    ap (λ ids. filter (λ id. not (among id ids)) (ids_from 1 v.records)) dead
+    ∙ (ap (filter f) (ap (λ (rs : List Record). ids_from 1 rs) records ∙ ids_append 1 w.records more)
+    ∙ (filter_append f (ids_from 1 w.records) next ∙ ap (λ ids. live_of w ++ ids) kept)) in
+    omega (arith, ap (λ (ids : List ℕ). length ids) whole, length-append (live_of w) next, length_ids (1 + length w.records) more)
+
+-- ---- what is so in every world
+
+-- so few live, so few were created, and all of these live or are dead
+record IsFew (w : World) : Type 0 where
+  live : length (live_of w) ≤ 65536
+  created : length w.records ≤ 1000000
+  all : length (live_of w) + length w.dead ≡ length w.records
+
+room_for : (n created dead live : ℕ) → n ≤ min (65536 - (created - dead)) (1000000 - created) → live + dead ≡ created → live ≤ 65536 → created ≤ 1000000 → (live + n ≤ 65536) × (created + n ≤ 1000000)
+room_for n created dead live h e l c = (omega (arith, h, e, l), omega (arith, h, c))
+
+few_more : (w v : World) (more : List Record) (n : ℕ) → Each (λ k. k ≤ length w.records) w.dead → v.records ≡ w.records ++ more → v.dead ≡ w.dead → n ≤ room_in w → length more ≡ n → IsFew w → IsFew v
+few_more w v more n within records dead room long h =
+    let most = room_for n (length w.records) (length w.dead) (length (live_of w)) room h.all h.live h.created in
+    let one = most.0 in
+    let two = most.1 in
+    let lives = more_live w v more within records dead in
+    let count : length v.records ≡ length w.records + length more = ap (λ (rs : List Record). length rs) records ∙ length-append w.records more in
+    let all = h.all in
+    record {
+      live = omega (arith, one, lives, long);
+      created = omega (arith, two, count, long);
+      all = omega (arith, lives, count, all, ap (λ (ids : List ℕ). length ids) dead);
+    }
+
+few_last : (b : Behaviour) → Lasts b IsFew
+few_last b = record {
+  asked = λ q w n f g p. record { live = p.live; created = p.created; all = p.all };
+  emitted = λ e w n t f g p. record { live = p.live; created = p.created; all = p.all };
+  recorded = λ s w f g p. record { live = p.live; created = p.created; all = p.all };
+  inserted = λ e w n t live short f g p. record { live = p.live; created = p.created; all = p.all };
+  cancelled = λ id timer w f g p. record { live = p.live; created = p.created; all = p.all };
+  transmitted = λ ts w f g p. record { live = p.live; created = p.created; all = p.all };
+  joined = λ gate to w f g p. record { live = p.live; created = p.created; all = p.all };
+  ended = λ w f g p. record { live = p.live; created = p.created; all = p.all };
+  called = λ m id reason i w e f g p. record { live = p.live; created = p.created; all = p.all };
 }
 
--- boxes create nothing
-then_few : (fl : Flow) (k : World → Flow) → IsFew (in_flow fl) → ((w : World) → IsFew w → IsFew (in_flow (k w))) → IsFew (in_flow (fl >>= k))
-then_few (On w) k f h = h w f
-then_few (Stopped w) k f h = f
-then_few (Broken w path e) k f h = f
+few_first : (b : Behaviour) → LastsAtFirst b IsFew
+few_first b = record {
+  built = λ parent bs w n few f g p. few_more w (with_submodules parent bs w) (map (record_under parent) bs) (length bs) f.dead refl refl (none_there bs (room_in w) few) (length-map bs (record_under parent)) p;
+  started = λ ids w e live fresh f g p. record { live = p.live; created = p.created; all = p.all };
+}
 
-place_parts_few : (b : Behaviour) (w : World) → IsFew w → IsFew (in_flow (place_parts b w))
-place_parts_few b w f = by (first_unknown b (needs w))
-  where
-    by : (o : Option Part) → IsFew (in_flow (unless_unknown b (needs w) w o))
-    by None = record { dead = f.dead; few = f.few }
-    by (Some p) = f
-
-ready_few : (b : Behaviour) (m : Answers) → IsFew (in_flow (ready b m))
-ready_few b m =
-    then_few (prepared m) (place_parts b)
-    (stays_in IsFew (prepared m) (prepared_stays IsFew m few_last (record { dead = refl; few = omega arith }) (λ name. record { dead = refl; few = omega arith })))
-    (place_parts_few b)
-
--- nor does an initialization
-begun_few : (b : Behaviour) (m : Answers) (fl : Flow) → IsFew (in_flow fl) → (in_flow fl).pending ≡ [] → OnlyOn IsReady fl → IsFew (in_flow (fl >>= initialize_all b m))
-begun_few b m (On w) f e r =
-    let g = initialize_all_leads b m w (orderly_none w e) r.parts in
-    record { dead = g.dead ∙ f.dead; few = omega (arith, f.few, ap length g.records) }
-begun_few b m (Stopped w) f e r = f
-begun_few b m (Broken w path fault) f e r = f
-
-settled_few : (fl : Flow) → IsFew (in_flow fl) → IsFew (world_at (settled fl))
-settled_few (On w) f = f
-settled_few (Stopped w) f = f
-settled_few (Broken w path e) f = f
-
--- so it is in each world of a run
-few_after : (b : Behaviour) (m : Answers) (n : ℕ) → IsFew (world_at (after b m n))
-few_after b m zero = settled_few (ready b m >>= initialize_all b m) (begun_few b m (ready b m) (ready_few b m) (ready_none b m).0 (ready_ready b m))
-few_after b m (suc n) =
-    let f = few_after b m n in
-    let g = after_follows b m n in
-    record { dead = g.dead ∙ f.dead; few = omega (arith, f.few, ap length g.records) }
-
--- nobody is dead in any world of a run: no action deletes a module
-pub nobody_after : (b : Behaviour) (m : Answers) (n : ℕ) → (world_at (after b m n)).dead ≡ []
-nobody_after b m n = (few_after b m n).dead
+few_always : (b : Behaviour) (m : Answers) → LastsAlways b m IsFew
+few_always b m = record {
+  lasts = few_last b;
+  first = few_first b;
+  at_first = record { live = omega arith; created = omega arith; all = refl };
+  network = λ name. record { live = omega arith; created = omega arith; all = refl };
+  begins = λ w u p rest e looked f h. subst (λ v. IsFew (begun p rest v)) looked.same (record { live = h.live; created = h.created; all = h.all });
+}
 
 pub bounded_after : (b : Behaviour) (m : Answers) (n : ℕ) → IsBounded (world_at (after b m n))
-bounded_after b m n =
-    let w : World = world_at (after b m n) in
-    let f = few_after b m n in
-    record { live = omega (arith, f.few, ap (λ (ids : List ℕ). length ids) (all_live w f.dead), length-ids 1 w.records); created = omega (arith, f.few) }
+bounded_after b m n = let f = always b m IsFew (few_always b m) n in record { live = f.live; created = f.created }

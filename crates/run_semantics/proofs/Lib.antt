@@ -1,12 +1,19 @@
+pub mod Alive
+pub mod Always
 pub mod Ahead
+pub mod Alike
 pub mod Agreeing
 pub mod Bounds
+pub mod Changes
 pub mod Closing
 pub mod Counts
 pub mod Ends
+pub mod Fitting
 pub mod Flows
 pub mod Grown
+pub mod Grows
 pub mod Growth
+pub mod Lasting
 pub mod Living
 pub mod Looking
 pub mod Looks
@@ -20,3 +27,4 @@ pub mod Setting
 pub mod Setup
 pub mod Sound
 pub mod States
+pub mod Staying

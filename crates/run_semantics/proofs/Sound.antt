@@ -1,30 +1,52 @@
 -- The worlds of a run have room for more: an action inserts one event at most.
 pub use Rattle.run_semantics.proofs.Flows.{in_flow, in_flow-of}
-use Rattle.std.proofs.Common.{◌≡◌, ℕ, suc, ◌+◌, ◌≤◌, Bool, true, false, List, [], ◌∷◌, Option, Some, None, refl, sym, ◌∙◌, ap, arith, subst, length, nat_lt, if◌then◌else◌, ℤ}
+use Rattle.std.proofs.Common.{◌≡◌, ℕ, suc, zero, ◌+◌, ◌≤◌, ◌==◌, Bool, true, false, List, [], ◌∷◌, Option, Some, None, Result, Ok, Err, refl, sym, ◌∙◌, ap, arith, subst, length, length-append, nat_lt, if◌then◌else◌, ℤ}
 use Rattle.std.proofs.lemmas.Bool.Decides.{nat_tests}
 use Rattle.sim_time.specs.Time.{time_sum}
+use Rattle.channels.specs.declared.travels.ChannelFault.{ChannelFault}
+use Rattle.channels.specs.declared.travels.Travel.{Travel}
+use Rattle.channels.specs.declared.travels.Travel.TheVariants.{Arrival, Lost}
+use Rattle.channels.specs.Travel.{travel}
 use Rattle.module_api.specs.Behaviour.{Behaviour, Replied}
 use Rattle.module_api.specs.declared.call.CallReason.{CallReason}
+use Rattle.module_api.specs.declared.call.CallReason.TheVariants as prompt
 use Rattle.module_api.specs.declared.reply.Action.{Action}
 use Rattle.module_api.specs.Names.{is_scalar_name}
-use Rattle.module_api.specs.declared.reply.Action.TheVariants.{Emit, RecordScalar, Send, SendDelayed, SendDirect, ScheduleAt, ScheduleAfter, Cancel, Fail}
+use Rattle.module_api.specs.declared.reply.Action.TheVariants.{Emit, RecordScalar, Send, SendDelayed, SendDirect, ScheduleAt, ScheduleAfter, Cancel, Connect, Disconnect, End, Fail}
 use Rattle.module_api.specs.declared.message.Outgoing.{Outgoing}
 use Rattle.module_api.specs.Actions.{has_large_payload}
+use Rattle.module_api.specs.declared.reply.Flight.{Flight}
+use Rattle.module_api.specs.declared.reply.GatePlace.{GatePlace}
+use Rattle.module_api.specs.declared.reply.Link.{Link}
+use Rattle.module_api.specs.declared.reply.OwnGate.{OwnGate}
 use Rattle.module_api.specs.declared.reply.Read.{Read}
 use Rattle.module_api.specs.declared.reply.Reply.{Reply}
-use Rattle.module_api.specs.declared.reply.Appointment.{Appointment}
 use Rattle.module_api.specs.declared.reply.Schedule.{Schedule}
-use Rattle.model_questions.specs.Answers.{Answers}
+use Rattle.model_questions.specs.declared.answer.Answer.{Answer}
+use Rattle.model_questions.specs.declared.answer.Answer.TheVariants as answer
+use Rattle.model_questions.specs.declared.answer.Question.{Question}
+use Rattle.model_questions.specs.declared.answer.Question.TheVariants.{GateSize, Hop, HopBack}
+use Rattle.model_questions.specs.Answers.{Answers, answer_of}
 use Rattle.run_semantics.specs.declared.occasions.Occasion.{Occasion}
 use Rattle.run_semantics.specs.declared.occasions.Occasion.TheVariants as occasion
 use Rattle.run_semantics.specs.declared.outcome.RunFault.{RunFault}
+use Rattle.run_semantics.specs.declared.outcome.RunFault.TheVariants as fault
 use Rattle.run_semantics.specs.declared.outcome.EventFlow.{EventFlow}
+use Rattle.run_semantics.specs.declared.routes.GateChange.{GateChange}
+use Rattle.run_semantics.specs.declared.routes.NextHop.{NextHop}
+use Rattle.run_semantics.specs.declared.routes.PassedHop.{PassedHop}
+use Rattle.run_semantics.specs.declared.routes.PlacedGate.{PlacedGate}
 use Rattle.run_semantics.specs.declared.traces.Instance.{Instance}
 use Rattle.run_semantics.specs.World.{World, asked}
 use Rattle.event_set.specs.Timers.{has_timer}
-use Rattle.run_semantics.specs.Perform.{Flow, flow_of, On, Stopped, Broken, ◌>>=◌, for_each, scheduled_at, scheduled, appointed, deed, is_allowed, perform, act, act_all, ask_all, ask_noted, question_of, acted, read_fault, unless_fault, answered}
-use Rattle.run_semantics.specs.Event.{call_of, instance_in, changed, called, call_at, call_module}
-use Rattle.run_semantics.proofs.Sending.{LastsSending, sends, sends_delayed, sends_direct}
+use Rattle.run_semantics.specs.Routes.{arriving, busy_of, change_of, channels_of, hop_by, if_live, is_in_gate, is_out_gate, is_simple, is_taken, module_at, transmission_gate, transmitting, with_change}
+use Rattle.run_semantics.specs.Perform.{Flow, flow_of, On, Stopped, Broken, ◌>>=◌, asking, broken, for_each, scheduled_at, scheduled, deed, hop_after, next_hop, past_last, with_hop, after_hop, chain, most_hops, travelled, sent_over, sent_through, sent, entering, flight_end, entered, sent_into, sent_to, is_allowed, is_last_action, perform, act, act_all, ask_all, ask_noted, question_of, acted, read_fault, unless_fault, answered_by, answered, call_module}
+use Rattle.run_semantics.specs.Calls.{call_of, instance_in, changed, called}
+use Rattle.run_semantics.specs.Finishing.{call_last, marked, finish, finish_all}
+use Rattle.run_semantics.specs.Joining.{gate_at, channel_by, joined, joined_free, joined_into, joined_from, joined_to, joined_at, freed, freed_from, freed_at}
+use Rattle.run_semantics.specs.Run.{room_in, set_up, most_nested}
+use Rattle.run_semantics.specs.Subtree.{among}
+use Rattle.run_semantics.proofs.Setting.{IsLasting, stays_in, set_up_stays}
 
 -- from the first world to the second: so many insertions at most, and no event more
 pub record Keeps (n : ℕ) (old new : World) : Type 0 where
@@ -50,7 +72,22 @@ pub either_keeps : (n : ℕ) (c : Bool) (f g : Flow) (w : World) → Keeps n w (
 either_keeps n true f g w h k = h
 either_keeps n false f g w h k = k refl
 
--- ---- actions: one line for each
+-- one part that inserts so many, and then another
+pub part_then : (n m : ℕ) (w : World) (fl : Flow) (k : World → Flow) → Keeps n w (in_flow fl) → ((v : World) → Keeps m v (in_flow (k v))) → Keeps (n + m) w (in_flow (fl >>= k))
+part_then n m w fl k f h = keeps_on n m w (in_flow fl) (in_flow (fl >>= k)) f (then_keeps m fl k h)
+
+-- what leaves the count and the next number
+pub keeps_beside : (n : ℕ) (u v : World) → v.count ≡ u.count → v.next ≡ u.next → Keeps n u v
+keeps_beside n u v count next = record { count = count; next = omega (arith, next) }
+
+-- after what inserts nothing
+pub keeps_after : (n : ℕ) (u v w : World) → Keeps 0 u v → Keeps n v w → Keeps n u w
+keeps_after n u v w f g = record { count = g.count ∙ f.count; next = omega (arith, f.next, g.next) }
+
+asked_keeps : (n : ℕ) (q : Question) (next : Answer → World → Flow) (m : Answers) (w : World) → ((a : Answer) (v : World) → Keeps n v (in_flow (next a v))) → Keeps n w (in_flow (asking m q next w))
+asked_keeps n q next m w h = keeps_after n w (asked q w) (in_flow (asking m q next w)) (keeps_beside 0 w (asked q w) refl refl) (h (answer_of m w.records q) (asked q w))
+
+-- ---- deeds: one line for each
 
 timer_keeps : (id timer : ℕ) (priority kind : ℤ) (w : World) (time : ℕ) → Keeps 1 w (in_flow (scheduled_at id timer priority kind w time))
 timer_keeps id timer priority kind w time =
@@ -60,62 +97,55 @@ scheduled_keeps : (id : ℕ) (s : Schedule) (w : World) (time : Option ℕ) → 
 scheduled_keeps id s w None = keeps_same 1 w
 scheduled_keeps id s w (Some time) = timer_keeps id s.timer s.priority s.kind w time
 
-appointed_keeps : (id : ℕ) (a : Appointment) (w : World) → Keeps 1 w (in_flow (appointed id a w))
-appointed_keeps id a w = either_keeps 1 (nat_lt a.at w.clock) _ _ w (keeps_same 1 w) (λ e. timer_keeps id a.timer a.priority a.kind w a.at)
-
 pub deed_keeps : (id : ℕ) (action : Action) (w : World) → Keeps 1 w (in_flow (deed id action w))
-deed_keeps id (Emit signal value) w = record { count = refl; next = omega arith }
-deed_keeps id (RecordScalar name value) w = either_keeps 1 (is_scalar_name name) _ _ w (record { count = refl; next = omega arith }) (λ e. keeps_same 1 w)
-deed_keeps id (ScheduleAt a) w = appointed_keeps id a w
+deed_keeps id (Emit signal value) w = keeps_beside 1 w _ refl refl
+deed_keeps id (RecordScalar name value) w = either_keeps 1 (is_scalar_name name) _ _ w (keeps_beside 1 w _ refl refl) (λ e. keeps_same 1 w)
+deed_keeps id (ScheduleAt a) w = either_keeps 1 (nat_lt a.at w.clock) _ _ w (keeps_same 1 w) (λ e. timer_keeps id a.timer a.priority a.kind w a.at)
 deed_keeps id (ScheduleAfter s) w = scheduled_keeps id s w (time_sum w.clock s.delay)
-deed_keeps id (Cancel timer) w = record { count = refl; next = omega arith }
+deed_keeps id (Cancel timer) w = keeps_beside 1 w _ refl refl
+deed_keeps id (Connect from to link) w = keeps_same 1 w
+deed_keeps id (Disconnect place) w = keeps_same 1 w
+deed_keeps id End w = keeps_beside 1 w _ refl refl
 deed_keeps id (Fail text) w = keeps_same 1 w
 deed_keeps id (Send gate message) w = keeps_same 1 w
 deed_keeps id (SendDelayed gate message delay) w = keeps_same 1 w
 deed_keeps id (SendDirect place message flight) w = keeps_same 1 w
 
--- a sending inserts one event at most, at its end
-keeps_last : (message : Outgoing) (u : World) → LastsSending message (λ id rs. Unit {0}) (Keeps 0 u) (Keeps 1 u)
-keeps_last message u = record {
-  weaker = λ w p. let l = p.next in record { count = p.count; next = omega (arith, l) };
-  created = λ w id p e. tt;
-  next = λ w id k n p e f. tt;
-  asked = λ q w p e. record { count = p.count; next = p.next };
-  transmitted = λ ts w p. record { count = p.count; next = p.next };
-  arrived = λ g time w p c e. let l = p.next in record { count = p.count; next = omega (arith, l) };
-}
+-- what is for the end inserts nothing
+pub last_keeps : (id : ℕ) (action : Action) (w : World) → Keeps 0 w (in_flow (if is_last_action action then deed id action w else broken id fault.NotInFinish w))
+last_keeps id (Emit signal value) w = keeps_beside 0 w _ refl refl
+last_keeps id (RecordScalar name value) w = either_keeps 0 (is_scalar_name name) _ _ w (keeps_beside 0 w _ refl refl) (λ e. keeps_same 0 w)
+last_keeps id (ScheduleAt a) w = keeps_same 0 w
+last_keeps id (ScheduleAfter s) w = keeps_same 0 w
+last_keeps id (Cancel timer) w = keeps_beside 0 w _ refl refl
+last_keeps id (Connect from to link) w = keeps_same 0 w
+last_keeps id (Disconnect place) w = keeps_same 0 w
+last_keeps id End w = keeps_same 0 w
+last_keeps id (Fail text) w = keeps_same 0 w
+last_keeps id (Send gate message) w = keeps_same 0 w
+last_keeps id (SendDelayed gate message delay) w = keeps_same 0 w
+last_keeps id (SendDirect place message flight) w = keeps_same 0 w
 
-pub perform_keeps : (b : Behaviour) (m : Answers) (id : ℕ) (action : Action) (w : World) → Keeps 1 w (in_flow (perform b m id action w))
-perform_keeps b m id (Emit signal value) w = deed_keeps id (Emit signal value) w
-perform_keeps b m id (RecordScalar name value) w = deed_keeps id (RecordScalar name value) w
-perform_keeps b m id (Send gate message) w = sends message _ (Keeps 0 w) (Keeps 1 w) (keeps_last message w) m id gate w (keeps_same 0 w) tt
-perform_keeps b m id (SendDelayed gate message delay) w = sends_delayed message _ (Keeps 0 w) (Keeps 1 w) (keeps_last message w) m id gate delay w (keeps_same 0 w) tt
-perform_keeps b m id (SendDirect place message flight) w = sends_direct message _ (Keeps 0 w) (Keeps 1 w) (keeps_last message w) m id place flight w (keeps_same 0 w)
-perform_keeps b m id (ScheduleAt a) w = deed_keeps id (ScheduleAt a) w
-perform_keeps b m id (ScheduleAfter s) w = deed_keeps id (ScheduleAfter s) w
-perform_keeps b m id (Cancel timer) w = deed_keeps id (Cancel timer) w
-perform_keeps b m id (Fail text) w = deed_keeps id (Fail text) w
+-- ---- replies: where each action that is allowed inserts so many at most
 
-pub act_keeps : (b : Behaviour) (m : Answers) (o : Occasion) (id : ℕ) (action : Action) (w : World) → Keeps 1 w (in_flow (act b m o id action w))
-act_keeps b m o id action w =
-    either_keeps 1 (has_large_payload action) _ _ w (keeps_same 1 w)
-    (λ e. either_keeps 1 (is_allowed o action) _ _ w (perform_keeps b m id action w) (λ f. keeps_same 1 w))
+abbrev pub EachKeeps : ℕ → Occasion → ℕ → (Action → World → Flow) → Type 0
+EachKeeps n o id does = (action : Action) (w : World) → Keeps n w (in_flow (if is_allowed o action then does action w else broken id fault.NotInFinish w))
 
-act_all_keeps : (b : Behaviour) (m : Answers) (o : Occasion) (id : ℕ) (actions : List Action) (w : World) → Keeps (length actions) w (in_flow (act_all b m o id actions w))
-act_all_keeps b m o id [] w = keeps_same 0 w
-act_all_keeps b m o id (action ∷ actions) w =
-    keeps_more (1 + length actions) (suc (length actions)) w _ (omega arith)
-    (keeps_on 1 (length actions) w (in_flow (act b m o id action w)) _ (act_keeps b m o id action w) (then_keeps (length actions) (act b m o id action w) (for_each (act b m o id) actions) (act_all_keeps b m o id actions)))
+pub act_keeps : (n : ℕ) (o : Occasion) (id : ℕ) (does : Action → World → Flow) → EachKeeps n o id does → (action : Action) (w : World) → Keeps n w (in_flow (act does o id action w))
+act_keeps n o id does h action w = either_keeps n (has_large_payload action) _ _ w (keeps_same n w) (λ e. h action w)
+
+act_all_keeps : (n : ℕ) (o : Occasion) (id : ℕ) (does : Action → World → Flow) → EachKeeps n o id does → (n ≤ 1) → (actions : List Action) (w : World) → Keeps (length actions) w (in_flow (act_all does o id actions w))
+act_all_keeps n o id does h l [] w = keeps_same 0 w
+act_all_keeps n o id does h l (action ∷ actions) w =
+    keeps_more (n + length actions) (suc (length actions)) w _ (omega (arith, l))
+    (part_then n (length actions) w (act does o id action w) (for_each (act does o id) actions) (act_keeps n o id does h action w) (act_all_keeps n o id does h l actions))
+
+none_keep : (o : Occasion) (id : ℕ) (does : Action → World → Flow) → EachKeeps 0 o id does → (actions : List Action) (w : World) → Keeps 0 w (in_flow (act_all does o id actions w))
+none_keep o id does h [] w = keeps_same 0 w
+none_keep o id does h (action ∷ actions) w = part_then 0 0 w (act does o id action w) (for_each (act does o id) actions) (act_keeps 0 o id does h action w) (none_keep o id does h actions)
 
 few : (n m : ℕ) → nat_lt n m ≡ false → m ≤ n
 few n m e = grind (arith, nat_tests)
-
-acted_keeps : (b : Behaviour) (m : Answers) (o : Occasion) (id : ℕ) (actions : List Action) (w : World) → Keeps 1000 w (in_flow (acted b m o id actions w))
-acted_keeps b m o id actions w =
-    either_keeps 1000 (nat_lt 1000 (length actions)) _ _ w (keeps_same 1000 w)
-    (λ e. keeps_more (length actions) 1000 w _ (few 1000 (length actions) e) (act_all_keeps b m o id actions w))
-
--- ---- replies and calls
 
 ask_all-next : (id : ℕ) (reads : List Read) (w : World) → (ask_all id reads w).next ≡ w.next
 ask_all-next id [] w = refl
@@ -137,10 +167,11 @@ ask_noted_keeps : (o : Occasion) (id : ℕ) (reads : List Read) (w : World) → 
 ask_noted_keeps occasion.Event id reads w = ask_all_keeps id reads w
 ask_noted_keeps occasion.End id reads w = keeps_same 0 w
 
-pub answered_keeps : (b : Behaviour) (m : Answers) (o : Occasion) (id : ℕ) (reply : Reply) (w : World) → Keeps 1000 w (in_flow (answered b m o id reply w))
-answered_keeps b m o id reply w =
+followed_keeps : (n : ℕ) (m : Answers) (o : Occasion) (id : ℕ) (does : Action → World → Flow) (reply : Reply) (w : World) → ((v : World) → nat_lt 1000 (length reply.actions) ≡ false → Keeps n v (in_flow (act_all does o id reply.actions v))) → Keeps n w (in_flow (answered_by m does o id reply w))
+followed_keeps n m o id does reply w h =
     let v : World = ask_noted o id reply.reads w in
-    keeps_on 0 1000 w v _ (ask_noted_keeps o id reply.reads w) (unless_keeps 1000 id (read_fault m w.records id reply.reads) (acted b m o id reply.actions) v (acted_keeps b m o id reply.actions v))
+    keeps_after n w v _ (ask_noted_keeps o id reply.reads w)
+    (unless_keeps n id (read_fault m w.records id reply.reads) (acted does o id reply.actions) v (either_keeps n (nat_lt 1000 (length reply.actions)) _ _ v (keeps_same n v) (λ e. h v e)))
 
 -- so many insertions follow a call as follow a reply
 called_keeps : (n : ℕ) (b : Behaviour) (m : Answers) (follow : Reply → World → Flow) (id : ℕ) (p : CallReason) (w : World) (i : Option Instance) → ((reply : Reply) (v : World) → Keeps n v (in_flow (follow reply v))) → Keeps n w (in_flow (called b m follow id p w i))
@@ -150,14 +181,147 @@ called_keeps n b m follow id p w (Some i) h =
     let f = h r.reply (changed id r.state w) in
     record { count = f.count; next = f.next }
 
-pub call_at_keeps : (b : Behaviour) (m : Answers) (o : Occasion) (id : ℕ) (p : CallReason) (w : World) → Keeps 1000 w (in_flow (call_at b m o id p w))
-call_at_keeps b m o id p w = called_keeps 1000 b m (answered b m o id) id p w (instance_in id w.modules) (answered_keeps b m o id)
+-- ---- the end of modules inserts nothing
+
+pub call_last_keeps : (b : Behaviour) (m : Answers) (o : Occasion) (id : ℕ) (w : World) → EachKeeps 0 o id (deed id) → Keeps 0 w (in_flow (call_last b m o id w))
+call_last_keeps b m o id w each =
+    called_keeps 0 b m (answered_by m (deed id) o id) id prompt.Finish w (instance_in id w.modules) (λ reply v. followed_keeps 0 m o id (deed id) reply v (λ u e. none_keep o id (deed id) each reply.actions u))
+
+pub finish_keeps : (b : Behaviour) (m : Answers) (o : Occasion) (id : ℕ) (w : World) → EachKeeps 0 o id (deed id) → Keeps 0 w (in_flow (finish b m o id w))
+finish_keeps b m o id w each = part_then 0 0 w (call_last b m o id w) (marked id) (call_last_keeps b m o id w each) (λ v. keeps_beside 0 v _ refl refl)
+
+-- ---- sending inserts one event at most, at its end
+
+next_keeps : (n : ℕ) (m : Answers) (g : PlacedGate) (k : Option NextHop → World → Flow) (w : World) → ((o : Option NextHop) (v : World) → Keeps n v (in_flow (k o v))) → Keeps n w (in_flow (next_hop m g k w))
+next_keeps n m g k w h = by (change_of g w.changes)
+  where
+    q : Question
+    q = Hop g.id g.name g.index
+
+    by : (c : Option GateChange) → Keeps n w (in_flow (hop_after m g k w c))
+    by (Some c) = h (if_live w c.to) w
+    by None = asked_keeps n q (λ a v. k (if_live v (hop_by v.records g.id a)) v) m w (λ a v. h (if_live v (hop_by v.records g.id a)) v)
+
+abbrev ReachKeeps : (List PassedHop → PlacedGate → World → Flow) → Type 0
+ReachKeeps r = (hops : List PassedHop) (end : PlacedGate) (v : World) → Keeps 1 v (in_flow (r hops end v))
+
+chain_keeps : (m : Answers) (id : ℕ) (r : List PassedHop → PlacedGate → World → Flow) → ReachKeeps r → (left : ℕ) (g : PlacedGate) (passed : List PassedHop) (w : World) → Keeps 1 w (in_flow (chain m id r left g passed w))
+chain_keeps m id r h zero g passed w = next_keeps 1 m g (past_last id) w past
+  where
+    past : (o : Option NextHop) (v : World) → Keeps 1 v (in_flow (past_last id o v))
+    past None v = keeps_same 1 v
+    past (Some x) v = keeps_same 1 v
+chain_keeps m id r h (suc left) g passed w = next_keeps 1 m g (after_hop id (chain m id r left) r g passed) w (goes (chain_keeps m id r h left))
+  where
+    goes : ((g : PlacedGate) (passed : List PassedHop) (v : World) → Keeps 1 v (in_flow (chain m id r left g passed v))) → (o : Option NextHop) (v : World) → Keeps 1 v (in_flow (after_hop id (chain m id r left) r g passed o v))
+    goes further None v = keeps_same 1 v
+    goes further (Some x) v = either_keeps 1 (is_simple v.records x.to.id) _ _ v (h (with_hop passed g x) x.to v) (λ e. further x.to (with_hop passed g x) v)
+
+transmitting_keeps : (g : Option PlacedGate) (until : Option ℕ) (w : World) → Keeps 0 w (transmitting g until w)
+transmitting_keeps (Some g) (Some until) w = keeps_beside 0 w _ refl refl
+transmitting_keeps (Some g) None w = keeps_same 0 w
+transmitting_keeps None until w = keeps_same 0 w
+
+arriving_keeps : (message : Outgoing) (end : PlacedGate) (time : ℕ) (w : World) → Keeps 1 w (arriving end message time w)
+arriving_keeps message end time w = record { count = refl; next = omega arith }
+
+travelled_keeps : (id : ℕ) (message : Outgoing) (from : Option PlacedGate) (end : PlacedGate) (w : World) (t : Result Travel ChannelFault) → Keeps 1 w (in_flow (travelled id message from end w t))
+travelled_keeps id message from end w (Err f) = keeps_same 1 w
+travelled_keeps id message from end w (Ok (Lost until)) = keeps_more 0 1 w _ (omega arith) (transmitting_keeps from until w)
+travelled_keeps id message from end w (Ok (Arrival time until)) = keeps_after 1 w (transmitting from until w) _ (transmitting_keeps from until w) (arriving_keeps message end time (transmitting from until w))
+
+sent_over_keeps : (id : ℕ) (message : Outgoing) (departure : Option ℕ) → ReachKeeps (sent_over id message departure)
+sent_over_keeps id message None hops end v = keeps_same 1 v
+sent_over_keeps id message (Some d) hops end v = travelled_keeps id message (transmission_gate hops) end v (travel (channels_of hops) d message.bits (busy_of (transmission_gate hops) v.transmissions))
+
+sent_keeps : (m : Answers) (id : ℕ) (gate : OwnGate) (message : Outgoing) (departure : Option ℕ) (w : World) → Keeps 1 w (in_flow (sent m id gate message departure w))
+sent_keeps m id gate message departure w =
+    let g : PlacedGate = record { id = id; name = gate.name; index = gate.index } in
+    asked_keeps 1 (GateSize id gate.name) (sent_through m id g message departure) m w
+    (λ a v. either_keeps 1 (is_out_gate a gate.index) (chain m id (sent_over id message departure) most_hops g [] v) (broken id fault.NoGate v) v (chain_keeps m id (sent_over id message departure) (sent_over_keeps id message departure) most_hops g [] v) (λ e. keeps_same 1 v))
+
+entering_keeps : (m : Answers) (id : ℕ) (message : Outgoing) (g : PlacedGate) (arrival : Option ℕ) (w : World) → Keeps 1 w (in_flow (entering m id message g arrival w))
+entering_keeps m id message g None w = keeps_same 1 w
+entering_keeps m id message g (Some time) w =
+    either_keeps 1 (is_simple w.records g.id) (On (arriving g message time w)) (chain m id (sent_over id message (Some time)) most_hops g [] w) w (arriving_keeps message g time w) (λ e. chain_keeps m id (sent_over id message (Some time)) (sent_over_keeps id message (Some time)) most_hops g [] w)
+
+direct_keeps : (m : Answers) (id : ℕ) (place : GatePlace) (message : Outgoing) (flight : Flight) (w : World) (found : Option ℕ) → Keeps 1 w (in_flow (sent_to m id place message flight w found))
+direct_keeps m id place message flight w None = keeps_same 1 w
+direct_keeps m id place message flight w (Some target) =
+    let g : PlacedGate = record { id = target; name = place.name; index = place.index } in
+    let q : Question = HopBack g.id g.name g.index in
+    let next : Answer → World → Flow = entered m id g message flight in
+    asked_keeps 1 (GateSize target place.name) (sent_into m id g message flight) m w
+    (λ a v. either_keeps 1 (is_in_gate a g.index) (asking m q next v) (broken id fault.NoGate v) v
+    (asked_keeps 1 q next m v (λ c u. either_keeps 1 (is_taken g c u) (broken id fault.AlreadyConnected u) (entering m id message g (flight_end u.clock flight) u) u (keeps_same 1 u) (λ e. entering_keeps m id message g (flight_end u.clock flight) u)))
+    (λ e. keeps_same 1 v))
+
+-- ---- gates that are joined and freed insert nothing
+
+free_keeps : (m : Answers) (id : ℕ) (g t : PlacedGate) (link : Option Link) (o : Option NextHop) (w : World) → Keeps 0 w (in_flow (joined_free m id g t link o w))
+free_keeps m id g t link (Some hop) w = keeps_same 0 w
+free_keeps m id g t link None w = asked_keeps 0 (HopBack t.id t.name t.index) (joined id g t link) m w
+    (λ a v. let u : World = with_change g (Some (record { to = t; channel = channel_by link })) v in either_keeps 0 (is_taken t a v) (broken id fault.AlreadyConnected v) (On u) v (keeps_same 0 v) (λ e. keeps_beside 0 v u refl refl))
+
+join_keeps : (m : Answers) (id : ℕ) (from to : GatePlace) (link : Option Link) (source : ℕ) (w : World) (found : Option ℕ) → Keeps 0 w (in_flow (joined_to m id from to link source w found))
+join_keeps m id from to link source w None = keeps_same 0 w
+join_keeps m id from to link source w (Some target) =
+    let g : PlacedGate = gate_at source from in
+    let t : PlacedGate = gate_at target to in
+    asked_keeps 0 (GateSize source from.name) (joined_from m id g t link) m w
+    (λ a v. either_keeps 0 (is_out_gate a g.index) (asking m (GateSize t.id t.name) (joined_into m id g t link) v) (broken id fault.NoGate v) v
+    (asked_keeps 0 (GateSize t.id t.name) (joined_into m id g t link) m v
+    (λ c u. either_keeps 0 (is_in_gate c t.index) (next_hop m g (joined_free m id g t link) u) (broken id fault.NoGate u) u (next_keeps 0 m g (joined_free m id g t link) u (free_keeps m id g t link)) (λ e. keeps_same 0 u)))
+    (λ e. keeps_same 0 v))
+
+joined_keeps : (m : Answers) (id : ℕ) (from to : GatePlace) (link : Option Link) (w : World) (found : Option ℕ) → Keeps 0 w (in_flow (joined_at m id from to link w found))
+joined_keeps m id from to link w None = keeps_same 0 w
+joined_keeps m id from to link w (Some source) = join_keeps m id from to link source w (module_at to.path w)
+
+freed_keeps : (m : Answers) (id : ℕ) (place : GatePlace) (w : World) (found : Option ℕ) → Keeps 0 w (in_flow (freed_at m id place w found))
+freed_keeps m id place w None = keeps_same 0 w
+freed_keeps m id place w (Some source) =
+    let g : PlacedGate = gate_at source place in
+    asked_keeps 0 (GateSize source place.name) (freed_from m id g) m w (λ a v. either_keeps 0 (is_out_gate a g.index) (next_hop m g (freed id g) v) (broken id fault.NoGate v) v (next_keeps 0 m g (freed id g) v free) (λ e. keeps_same 0 v))
+  where
+    free : (o : Option NextHop) (v : World) → Keeps 0 v (in_flow (freed id (gate_at source place) o v))
+    free None v = keeps_same 0 v
+    free (Some hop) v = keeps_beside 0 v _ refl refl
+
+-- ---- a setup inserts nothing
+
+setup_keeps : (u : World) → IsLasting (Keeps 0 u)
+setup_keeps u = record { asked = λ id w p l. record { count = p.count; next = p.next }; created = λ parent bs w p l few. record { count = p.count; next = p.next } }
+
+pub set_up_keeps : (m : Answers) (depth id : ℕ) (w : World) → id ≤ length w.records → Keeps 0 w (in_flow (set_up depth m id w))
+set_up_keeps m depth id w l = (stays_in _ (set_up depth m id w) (set_up_stays (Keeps 0 w) (setup_keeps w) depth m 0 id w (keeps_same 0 w) (omega arith) l)).0
+
+-- ---- actions: one line for each
+
+pub perform_keeps : (b : Behaviour) (m : Answers) (id : ℕ) (action : Action) (w : World) → Keeps 1 w (in_flow (perform b m id action w))
+perform_keeps b m id (Emit signal value) w = deed_keeps id (Emit signal value) w
+perform_keeps b m id (RecordScalar name value) w = deed_keeps id (RecordScalar name value) w
+perform_keeps b m id (Send gate message) w = sent_keeps m id gate message (Some w.clock) w
+perform_keeps b m id (SendDelayed gate message delay) w = sent_keeps m id gate message (time_sum w.clock delay) w
+perform_keeps b m id (SendDirect place message flight) w = direct_keeps m id place message flight w (module_at place.path w)
+perform_keeps b m id (ScheduleAt a) w = deed_keeps id (ScheduleAt a) w
+perform_keeps b m id (ScheduleAfter s) w = deed_keeps id (ScheduleAfter s) w
+perform_keeps b m id (Cancel timer) w = deed_keeps id (Cancel timer) w
+perform_keeps b m id (Connect from to link) w = keeps_more 0 1 w _ (omega arith) (joined_keeps m id from to link w (module_at from.path w))
+perform_keeps b m id (Disconnect place) w = keeps_more 0 1 w _ (omega arith) (freed_keeps m id place w (module_at place.path w))
+perform_keeps b m id End w = deed_keeps id End w
+perform_keeps b m id (Fail text) w = deed_keeps id (Fail text) w
+
+pub answered_keeps : (b : Behaviour) (m : Answers) (id : ℕ) (reply : Reply) (w : World) → Keeps 1000 w (in_flow (answered b m id reply w))
+answered_keeps b m id reply w =
+    followed_keeps 1000 m occasion.Event id (perform b m id) reply w
+    (λ v e. keeps_more (length reply.actions) 1000 v _ (few 1000 (length reply.actions) e) (act_all_keeps 1 occasion.Event id (perform b m id) (perform_keeps b m id) (omega arith) reply.actions v))
 
 pub call_keeps : (b : Behaviour) (m : Answers) (id : ℕ) (p : CallReason) (w : World) → Keeps 1000 w (in_flow (call_module b m id p w))
-call_keeps b m id p w = call_at_keeps b m occasion.Event id p w
+call_keeps b m id p w = called_keeps 1000 b m (answered b m id) id p w (instance_in id w.modules) (answered_keeps b m id)
 
 -- what a call leaves, by what the code says of it
-pub call_leaves : (b : Behaviour) (m : Answers) (o : Occasion) (id : ℕ) (p : CallReason) (turn : EventFlow) (w v : World) → flow_of turn v ≡ call_at b m o id p w → Keeps 1000 w v
-call_leaves b m o id p turn w v e =
-    let same : in_flow (call_at b m o id p w) ≡ v = ap in_flow (sym e) ∙ in_flow-of turn v in
-    subst (λ (u : World). Keeps 1000 w u) same (call_at_keeps b m o id p w)
+pub call_leaves : (b : Behaviour) (m : Answers) (id : ℕ) (p : CallReason) (turn : EventFlow) (w v : World) → flow_of turn v ≡ call_module b m id p w → Keeps 1000 w v
+call_leaves b m id p turn w v e =
+    let same : in_flow (call_module b m id p w) ≡ v = ap in_flow (sym e) ∙ in_flow-of turn v in
+    subst (λ (u : World). Keeps 1000 w u) same (call_keeps b m id p w)

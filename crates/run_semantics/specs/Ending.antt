@@ -1,34 +1,15 @@
 -- The end of a run: the modules that were started are finished.
-use Rattle.std.specs.Prelude.{ℕ, List, [], ◌∷◌, ◌++◌, if◌then◌else◌}
-use Rattle.module_api.specs.declared.call.CallReason.TheVariants as prompt
+pub use Rattle.run_semantics.specs.Finishing.{call_last, with_finished, marked, finish, finish_all}
+use Rattle.std.specs.Prelude.{ℕ, List, if◌then◌else◌}
 use Rattle.module_api.specs.Behaviour.{Behaviour}
 use Rattle.model_questions.specs.Answers.{Answers}
 use Rattle.run_semantics.specs.declared.occasions.Occasion.TheVariants as occasion
 use Rattle.run_semantics.specs.declared.outcome.Outcome.{Outcome}
 use Rattle.run_semantics.specs.declared.outcome.Outcome.TheVariants.{Fault}
 use Rattle.run_semantics.specs.World.{World, live_of}
-use Rattle.run_semantics.specs.Perform.{Flow, On, Stopped, Broken, ◌>>=◌, for_each}
-use Rattle.run_semantics.specs.Event.{call_at}
+use Rattle.run_semantics.specs.Perform.{Flow, On, Stopped, Broken}
 use Rattle.run_semantics.specs.Run.{Ran, is_fault}
 use Rattle.run_semantics.specs.Subtree.{common, inner_first}
-
--- ONE CALL for the end
-abbrev pub call_last : Behaviour → Answers → ℕ → World → Flow
-call_last b m id w = call_at b m occasion.End id prompt.Finish w
-
--- a module counts as finished at its turn, a simple one when its reply is done without a fault
-abbrev pub with_finished : ℕ → World → World
-with_finished id w = record w { finished = w.finished ++ id ∷ [] }
-
-abbrev pub marked : ℕ → World → Flow
-marked id w = On (with_finished id w)
-
-abbrev pub finish : Behaviour → Answers → ℕ → World → Flow
-finish b m id w = call_last b m id w >>= marked id
-
--- these modules, in this order
-abbrev pub finish_all : Behaviour → Answers → List ℕ → World → Flow
-finish_all b m ids w = for_each (finish b m) ids w
 
 -- all modules that live and were started, submodules before the enclosing module
 abbrev pub to_finish : World → List ℕ
@@ -44,4 +25,4 @@ concluded outcome (Broken w path f) = record { world = w; outcome = Fault w.coun
 abbrev pub ending : Behaviour → Answers → Ran → Ran
 ending b m ran =
     if is_fault ran.outcome then ran
-    else concluded ran.outcome (finish_all b m (to_finish ran.world) ran.world)
+    else concluded ran.outcome (finish_all b m occasion.End (to_finish ran.world) ran.world)

@@ -1,6 +1,6 @@
 -- Words for what holds of the worlds that a run reaches.
 pub use Rattle.event_set.specs.Order.{Each, AreInOrder, HaveOwnNumbers}
-use Rattle.std.specs.Prelude.{◌≡◌, ◌⊎◌, ℕ, zero, suc, ◌≤◌, ◌&&◌, List, [], ◌∷◌, ◌++◌, None, IsSome}
+use Rattle.std.specs.Prelude.{◌≡◌, ◌⊎◌, ℕ, zero, suc, ◌≤◌, ◌&&◌, List, [], ◌∷◌, ◌++◌, None}
 use Rattle.std.specs.Prelude.{IsTrue, length, map}
 use Rattle.std.specs.List.{filter}
 use Rattle.module_api.specs.Behaviour.{Behaviour}
@@ -11,7 +11,6 @@ use Rattle.event_set.specs.declared.pending.Pending.{Pending}
 use Rattle.run_semantics.specs.declared.traces.Emission.{Emission}
 use Rattle.run_semantics.specs.declared.traces.Instance.{Instance}
 use Rattle.run_semantics.specs.World.{World, live_of, noted}
-use Rattle.run_semantics.specs.Event.{instance_in}
 use Rattle.run_semantics.specs.Run.{Part, Stage, next_stage, parts_of}
 use Rattle.run_semantics.specs.Subtree.{among}
 
@@ -29,12 +28,6 @@ IsAmong n (x ∷ xs) = (x ≡ n) ⊎ IsAmong n xs
 abbrev pub ids_of : List Instance → List ℕ
 ids_of modules = map (λ i. i.id) modules
 
--- a call of that module finds it, and it was started and lives
-pub record CanBeCalled (w : World) (id : ℕ) : Type 0 where
-  pub found : IsSome (instance_in id w.modules)
-  pub started : IsAmong id w.started
-  pub live : IsAmong id (live_of w)
-
 -- the simple modules that were started and live, by rising id
 abbrev pub parts_standing : World → List Part
 parts_standing w = filter (λ p. among p.id w.started && among p.id (live_of w)) (parts_of w)
@@ -44,14 +37,18 @@ abbrev pub GoesOn : {X : Type 0} → List X → List X → Type 0
 GoesOn {X} xs ys = (more : List X) × (xs ++ more ≡ ys)
 
 -- Nothing that happened is undone: from the first world to the second the clock, the count of
--- events and the next insertion number do not fall, and of records, the dead, emissions, scalars
--- and questions all stay as they are, in their places.
+-- events and the next insertion number do not fall, and of records, the dead, those that were started
+-- and that were finished, changes of gates, emissions, scalars and questions all stay as they are, in
+-- their places.
 pub record HasGrown (old new : World) : Type 0 where
   pub clock : old.clock ≤ new.clock
   pub count : old.count ≤ new.count
   pub next : old.next ≤ new.next
   pub records : GoesOn old.records new.records
   pub dead : GoesOn old.dead new.dead
+  pub started : GoesOn old.started new.started
+  pub finished : GoesOn old.finished new.finished
+  pub changes : GoesOn old.changes new.changes
   pub emissions : GoesOn old.emissions new.emissions
   pub scalars : GoesOn old.scalars new.scalars
   pub questions : GoesOn old.questions new.questions

@@ -1,7 +1,15 @@
 pub mod Faults
 pub mod World
 pub mod Routes
+pub mod Deeds
+pub mod Sending
+pub mod Replies
+pub mod Calls
+pub mod Finishing
+pub mod Joining
+pub mod Building
 pub mod Perform
+pub mod Starting
 pub mod Event
 pub mod Subtree
 pub mod Upcoming
@@ -11,3 +19,4 @@ pub mod Agreement
 pub mod Laws
 pub mod Example
 pub mod Sends
+pub mod Wires

@@ -1,7 +1,8 @@
 -- Ways of messages through gates (OMNeT++ Simulation Manual, "Gates" and "Connections").
-use Rattle.std.specs.Prelude.{ℕ, ◌+◌, suc, ◌==◌, nat_lt, Bool, true, false, not, ◌&&◌, bytes_eq}
+use Rattle.std.specs.Prelude.{ℕ, ◌+◌, suc, ◌==◌, nat_lt, Bool, true, false, not, ◌&&◌, ◌||◌, bytes_eq}
 use Rattle.std.specs.Prelude.{is_some, List, [], ◌∷◌, ◌++◌, Option, Some, None, map, slice_set}
 use Rattle.std.specs.Prelude.{if◌then◌else◌}
+use Rattle.std.specs.List.{filter, list_any}
 use Rattle.channels.specs.Travel.{is_transmission}
 use Rattle.module_api.specs.declared.call.Direction.{Direction}
 use Rattle.module_api.specs.declared.call.Direction.TheVariants.{Input, Output, Inout}
@@ -17,12 +18,13 @@ use Rattle.model_questions.specs.declared.answer.NextGate.{NextGate}
 use Rattle.model_questions.specs.declared.record.Record.{Record}
 use Rattle.model_questions.specs.Hops.{neighbour_id}
 use Rattle.model_questions.specs.Records.{path_of, record_at}
+use Rattle.run_semantics.specs.declared.routes.GateChange.{GateChange}
 use Rattle.run_semantics.specs.declared.routes.NextHop.{NextHop}
 use Rattle.run_semantics.specs.declared.routes.PassedHop.{PassedHop}
 use Rattle.run_semantics.specs.declared.routes.PlacedGate.{PlacedGate}
 use Rattle.run_semantics.specs.declared.routes.Transmission.{Transmission}
 use Rattle.run_semantics.specs.Subtree.{among}
-use Rattle.run_semantics.specs.World.{World}
+use Rattle.run_semantics.specs.World.{World, is_live}
 
 -- ---- gates
 
@@ -60,18 +62,6 @@ is_in_gate (answer.Fault path f) index = false
 is_in_gate (answer.Beyond beyond) index = false
 is_in_gate (answer.Injection i) index = false
 is_in_gate answer.Absent index = false
-
--- whether the answer is that something is connected
-abbrev pub is_connected : Answer → Bool
-is_connected (answer.Next next) = is_some next
-is_connected (answer.Root name) = false
-is_connected (answer.Inside bs) = false
-is_connected (answer.Value v) = false
-is_connected (answer.Gate g) = false
-is_connected (answer.Fault path f) = false
-is_connected (answer.Beyond beyond) = false
-is_connected (answer.Injection i) = false
-is_connected answer.Absent = false
 
 -- whether the module of that id, which was created, lives, and has that path
 abbrev pub is_at : List ℕ → World → ℕ → Bool
@@ -123,6 +113,11 @@ hop_by records id (answer.Beyond beyond) = None
 hop_by records id (answer.Injection i) = None
 hop_by records id answer.Absent = None
 
+-- a hop to a module that is dead is none
+abbrev pub if_live : World → Option NextHop → Option NextHop
+if_live w None = None
+if_live w (Some h) = if is_live w h.to.id then Some h else None
+
 -- the channels on the way
 abbrev pub channels_of : List PassedHop → List Channel
 channels_of hops = map (λ (h : PassedHop). h.channel) hops
@@ -168,6 +163,53 @@ transmitting (Some g) (Some end) w =
     record w { transmissions = with_transmission (record { gate = g; end = end }) w.transmissions }
 transmitting (Some g) None w = w
 transmitting None end w = w
+
+-- without the transmission that began at a gate, where there was one
+abbrev pub without_transmission : PlacedGate → List Transmission → List Transmission
+without_transmission g ts = filter (λ (t : Transmission). not (is_gate t.gate g)) ts
+
+-- ---- changes of gates
+
+abbrev pub or_this : Option GateChange → PlacedGate → GateChange → Option GateChange
+or_this (Some later) g c = Some later
+or_this None g c = if is_gate c.gate g then Some c else None
+
+-- the last change of a gate
+abbrev pub change_of : PlacedGate → List GateChange → Option GateChange
+change_of g [] = None
+change_of g (c ∷ cs) = or_this (change_of g cs) g c
+
+-- an output gate now leads there, or nowhere; a transmission that began at it is over
+abbrev pub with_change : PlacedGate → Option NextHop → World → World
+with_change g to w = record w {
+  changes = w.changes ++ record { gate = g; to = to } ∷ [];
+  transmissions = without_transmission g w.transmissions;
+}
+
+-- whether a hop leads to that gate
+abbrev pub leads_to : PlacedGate → Option NextHop → Bool
+leads_to g None = false
+leads_to g (Some h) = is_gate h.to g
+
+-- whether a gate was joined to that one, by its last change
+abbrev pub joins : PlacedGate → Option GateChange → Bool
+joins g None = false
+joins g (Some c) = leads_to g c.to
+
+-- whether a gate of a module that lives was joined to that one, and leads there still
+abbrev pub is_joined : PlacedGate → World → Bool
+is_joined g w = list_any (λ (c : GateChange). leads_to g c.to
+    && (is_live w c.gate.id && joins g (change_of c.gate w.changes))) w.changes
+
+-- whether a connection of the model counts still, by the gate that it comes from: the module of that
+-- gate lives, and the gate was not changed
+abbrev pub still_leads : World → Option NextHop → Bool
+still_leads w None = false
+still_leads w (Some h) = is_live w h.to.id && not (is_some (change_of h.to w.changes))
+
+-- WHETHER SOMETHING IS CONNECTED to an input gate from outside, by what was answered of it
+abbrev pub is_taken : PlacedGate → Answer → World → Bool
+is_taken g a w = is_joined g w || still_leads w (hop_by w.records g.id a)
 
 -- ---- arrivals
 

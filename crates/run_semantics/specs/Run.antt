@@ -1,30 +1,34 @@
 -- Whole runs.
-use Rattle.std.specs.Prelude.{◌≡◌, ℕ, suc, zero, ◌-◌, nat_lt, max, min, ◌&&◌, not, Bool, true}
-use Rattle.std.specs.Prelude.{false, List, [], ◌∷◌, ◌++◌, Option, Some, None, map, length}
-use Rattle.std.specs.Prelude.{slice_get, if◌then◌else◌}
-use Rattle.std.specs.List.{filter}
-use Rattle.module_api.specs.declared.call.CallReason.TheVariants as prompt
+pub use Rattle.run_semantics.specs.Building.{record_under, with_submodules, room_in, unless_many}
+pub use Rattle.run_semantics.specs.Building.{created, inside_of, if_compound, compounds_from, built}
+pub use Rattle.run_semantics.specs.Building.{set_up}
+unfoldable pub use Rattle.run_semantics.specs.Building.{most_nested}
+pub use Rattle.run_semantics.specs.Starting.{Part, with_class, parts_from, parts_of, needs_of, fresh}
+pub use Rattle.run_semantics.specs.Starting.{with_instance, with_instances, placed, first_unknown}
+pub use Rattle.run_semantics.specs.Starting.{unless_unknown, part_of, standing, stages_in}
+pub use Rattle.run_semantics.specs.Starting.{most_stages, initialize, one_stage, stages_from}
+pub use Rattle.run_semantics.specs.Starting.{with_started, started, place_parts, start_modules}
+pub use Rattle.run_semantics.specs.Starting.{unstarted}
+use Rattle.std.specs.Prelude.{◌≡◌, ℕ, suc, zero, Bool, true, false, List, [], ◌∷◌, Option, Some}
+use Rattle.std.specs.Prelude.{None, if◌then◌else◌}
 use Rattle.module_api.specs.Behaviour.{Behaviour}
 use Rattle.model_questions.specs.declared.answer.Answer.{Answer}
 use Rattle.model_questions.specs.declared.answer.Answer.TheVariants as answer
-use Rattle.model_questions.specs.declared.answer.Built.{Built}
-use Rattle.model_questions.specs.declared.answer.Question.TheVariants.{Root, Build, BeyondLimit}
+use Rattle.model_questions.specs.declared.answer.Question.TheVariants.{Root, BeyondLimit}
 use Rattle.model_questions.specs.Answers.{Answers, answer_of}
 use Rattle.model_questions.specs.declared.record.Origin.TheVariants as origin
 use Rattle.model_questions.specs.declared.record.Record.{Record}
-use Rattle.model_questions.specs.Records.{path_of, path_under, own_name}
-use Rattle.sim_values.specs.declared.model_fault.ModelFault.TheVariants.{TooManyModules}
 use Rattle.sim_values.specs.declared.model_fault.ModelFault.TheVariants.{UnknownType}
 use Rattle.run_semantics.specs.declared.outcome.RunFault.TheVariants as fault
 use Rattle.run_semantics.specs.declared.outcome.Outcome.{Outcome}
 use Rattle.run_semantics.specs.declared.outcome.Outcome.TheVariants.{Ended, EventLimit}
 use Rattle.run_semantics.specs.declared.outcome.Outcome.TheVariants.{NoMoreEvents, TimeLimit, Fault}
+use Rattle.event_set.specs.declared.pending.Happening.{Happening}
+use Rattle.event_set.specs.declared.pending.Happening.TheVariants as happening
 use Rattle.event_set.specs.declared.pending.Pending.{Pending}
-use Rattle.run_semantics.specs.declared.traces.Instance.{Instance}
-use Rattle.run_semantics.specs.World.{World, empty, live_count, live_of}
-use Rattle.run_semantics.specs.Perform.{Flow, On, Stopped, Broken, ◌>>=◌, asking, broken, for_each}
-use Rattle.run_semantics.specs.Event.{call_module, event, instance_in}
-use Rattle.run_semantics.specs.Subtree.{among, outer_first}
+use Rattle.run_semantics.specs.World.{World, empty}
+use Rattle.run_semantics.specs.Perform.{Flow, On, Stopped, Broken, ◌>>=◌, asking}
+use Rattle.run_semantics.specs.Event.{event}
 use Rattle.run_semantics.specs.Upcoming.{Upcoming, Comes, Nothing, upcoming}
 
 -- ---- setup
@@ -49,177 +53,12 @@ rooted (answer.Beyond beyond) w = Broken w [] (fault.Model UnknownType)
 rooted (answer.Injection i) w = Broken w [] (fault.Model UnknownType)
 rooted answer.Absent w = Broken w [] (fault.Model UnknownType)
 
-abbrev pub record_under : ℕ → Built → Record
-record_under parent b = record {
-  parent = parent;
-  name = b.name;
-  index = b.index;
-  class = b.class;
-  origin = origin.Built;
-}
-
-abbrev pub with_submodules : ℕ → List Built → World → World
-with_submodules parent bs w = record w { records = w.records ++ map (record_under parent) bs }
-
--- how many more modules can be created: at most 65,536 live, and a run creates at most 1,000,000
-abbrev pub room_in : World → ℕ
-room_in w = min (65536 - live_count w) (1000000 - length w.records)
-
--- the module that would be one too many is told
-abbrev pub unless_many : ℕ → List Built → World → Option Built → Flow
-unless_many parent bs w (Some b) = Broken w
-    (path_under (path_of w.records parent) (own_name b.name b.index)) (fault.Model TooManyModules)
-unless_many parent bs w None = On (with_submodules parent bs w)
-
--- submodules are created, in their order, as was answered
-abbrev pub created : ℕ → Answer → World → Flow
-created parent (answer.Inside bs) w = unless_many parent bs w (slice_get bs (room_in w))
-created parent (answer.Fault path f) w = Broken w path (fault.Model f)
-created parent (answer.Root name) w = broken parent (fault.Model UnknownType) w
-created parent (answer.Value v) w = broken parent (fault.Model UnknownType) w
-created parent (answer.Gate g) w = broken parent (fault.Model UnknownType) w
-created parent (answer.Next next) w = broken parent (fault.Model UnknownType) w
-created parent (answer.Beyond beyond) w = broken parent (fault.Model UnknownType) w
-created parent (answer.Injection i) w = broken parent (fault.Model UnknownType) w
-created parent answer.Absent w = broken parent (fault.Model UnknownType) w
-
-abbrev pub inside_of : Answer → List Built
-inside_of (answer.Inside bs) = bs
-inside_of (answer.Root name) = []
-inside_of (answer.Value v) = []
-inside_of (answer.Gate g) = []
-inside_of (answer.Next next) = []
-inside_of (answer.Fault path f) = []
-inside_of (answer.Beyond beyond) = []
-inside_of (answer.Injection i) = []
-inside_of answer.Absent = []
-
-abbrev pub if_compound : ℕ → Option (List ℕ) → List ℕ → List ℕ
-if_compound id None ids = id ∷ ids
-if_compound id (Some class) ids = ids
-
--- the compound ones of these modules, the first of which has that id
-abbrev pub compounds_from : ℕ → List Built → List ℕ
-compounds_from id [] = []
-compounds_from id (b ∷ bs) = if_compound id b.class (compounds_from (suc id) bs)
-
--- what is inside of a module: its submodules are created, and then each compound one of them is set
--- up, in this order
-abbrev pub built : (ℕ → World → Flow) → ℕ → Answer → World → Flow
-built inner parent found w = created parent found w
-    >>= for_each inner (compounds_from (suc (length w.records)) (inside_of found))
-
--- THE SETUP of a compound module, with so many levels from its own on: it is asked what is inside
--- of it
-abbrev pub set_up : ℕ → Answers → ℕ → World → Flow
-set_up zero m id w = On w
-set_up (suc depth) m id w = asking m (Build id) (built (set_up depth m) id) w
-
--- modules are nested at most 32 deep: a model answers a fault in the place of what is inside of
--- those below
-unfoldable pub most_nested : ℕ
-most_nested = 32
-
 -- the network is created and set up, as the model answers
 abbrev pub root_asked : Answers → Flow
 root_asked m = asking m Root rooted empty
 
 abbrev pub prepared : Answers → Flow
 prepared m = root_asked m >>= set_up most_nested m 1
-
--- ---- the start: every simple module has a box, in its state at first, and is initialized
-
--- a simple module: its id and its kind
-pub record Part : Type 0 where
-  pub id : ℕ
-  pub kind : List ℕ
-
-abbrev pub with_class : ℕ → Option (List ℕ) → List Part → List Part
-with_class id (Some kind) parts = record { id = id; kind = kind } ∷ parts
-with_class id None parts = parts
-
-abbrev pub parts_from : ℕ → List Record → List Part
-parts_from id [] = []
-parts_from id (r ∷ rs) = with_class id r.class (parts_from (suc id) rs)
-
--- the simple modules that were created, by rising id
-abbrev pub parts_of : World → List Part
-parts_of w = parts_from 1 w.records
-
--- THE MODULES THAT NEED A BOX for the start that comes next, by rising id: the simple modules that
--- live and were not started
-abbrev pub needs : World → List Part
-needs w = filter (λ (p : Part). not (among p.id w.started) && among p.id (live_of w)) (parts_of w)
-
--- a module in its state at first
-abbrev pub fresh : Behaviour → Part → Instance
-fresh b p = record { id = p.id; kind = p.kind; state = (b.naming p.kind).initial }
-
--- these modules stand besides, each in its state at first
-abbrev pub placed : Behaviour → List Part → World → World
-placed b ps w = record w { modules = w.modules ++ map (fresh b) ps }
-
--- the first of these modules whose class the catalogue doesn't know
-abbrev pub first_unknown : Behaviour → List Part → Option Part
-first_unknown b [] = None
-first_unknown b (p ∷ ps) = if b.known p.kind then first_unknown b ps else Some p
-
--- where there is such a one it is the fault, and none of these modules has a state
-abbrev pub unless_unknown : Behaviour → List Part → World → Option Part → Flow
-unless_unknown b ps w None = On (placed b ps w)
-unless_unknown b ps w (Some p) = broken p.id fault.UnknownClass w
-
--- what stands of them: their ids and kinds
-abbrev pub part_of : Instance → Part
-part_of i = record { id = i.id; kind = i.kind }
-
-abbrev pub standing : List Instance → List Part
-standing is = map part_of is
-
--- how many stages a module has, where it stands
-abbrev pub stages_in : Behaviour → Option Instance → ℕ
-stages_in b None = 0
-stages_in b (Some i) = (b.naming i.kind).stages
-
--- the greatest number of stages of these
-abbrev pub most_stages : Behaviour → List Instance → List ℕ → ℕ
-most_stages b is [] = 0
-most_stages b is (id ∷ ids) = max (stages_in b (instance_in id is)) (most_stages b is ids)
-
--- a module is called for the stages below its own number; one that has no box, as a compound
--- module, or is dead has none
-abbrev pub initialize : Behaviour → Answers → ℕ → ℕ → World → Flow
-initialize b m stage id w = if nat_lt stage (stages_in b (instance_in id w.modules))
-    then call_module b m id (prompt.Initialize stage) w else On w
-
--- one stage of these modules, in this order
-abbrev pub one_stage : Behaviour → Answers → ℕ → List ℕ → World → Flow
-one_stage b m stage ids w = for_each (initialize b m stage) ids w
-
--- as many stages, from this one on
-abbrev pub stages_from : Behaviour → Answers → List ℕ → ℕ → ℕ → World → Flow
-stages_from b m ids stage zero w = On w
-stages_from b m ids stage (suc left) w =
-    one_stage b m stage ids w >>= stages_from b m ids (suc stage) left
-
--- these modules count as started
-abbrev pub with_started : List ℕ → World → World
-with_started ids w = record w { started = w.started ++ ids }
-
--- A START of some modules: they count as started, and are called in that order, stage 0 of all,
--- stage 1, and so on (OMNeT++ Simulation Manual, "Multi-Stage Initialization")
-abbrev pub started : Behaviour → Answers → List ℕ → List ℕ → World → Flow
-started b m ids calls w =
-    stages_from b m calls 0 (most_stages b w.modules calls) (with_started ids w)
-
--- the network is started, with all modules that live
-abbrev pub initialize_all : Behaviour → Answers → World → Flow
-initialize_all b m w = started b m (live_of w) (outer_first w.records (live_of w) 1) w
-
--- the modules that need boxes have them, each in its state at first: before its start no module has
--- a state
-abbrev pub place_parts : Behaviour → World → Flow
-place_parts b w = unless_unknown b (needs w) w (first_unknown b (needs w))
 
 -- ---- runs
 
@@ -244,13 +83,13 @@ settled (On w) = Running w
 settled (Stopped w) = Running w
 settled (Broken w path f) = Over w (Fault w.count path f)
 
--- all that is set up, and the boxes
-abbrev pub ready : Behaviour → Answers → Flow
-ready b m = prepared m >>= place_parts b
+-- the network is started, with all modules that live
+abbrev pub start_all : Behaviour → Answers → World → Flow
+start_all b m w = start_modules b m (unstarted w) 1 w
 
 -- EVENT ZERO: setup, the boxes, and initialization
 abbrev pub start : Behaviour → Answers → Stage
-start b m = settled (ready b m >>= initialize_all b m)
+start b m = settled (prepared m >>= start_all b m)
 
 -- whether the answer says that a time is later than the limit
 abbrev pub says_beyond : Answer → Bool

@@ -13,7 +13,8 @@ use Rattle.model_questions.specs.declared.answer.Answer.TheVariants as answer
 use Rattle.model_questions.specs.declared.answer.AskedQuestion.{AskedQuestion}
 use Rattle.model_questions.specs.declared.answer.Channel.{Channel}
 use Rattle.model_questions.specs.declared.answer.ChannelKind.TheVariants.{Ideal, Delay, Datarate}
-use Rattle.model_questions.specs.declared.answer.Neighbour.TheVariants.{Beside, Inside}
+use Rattle.model_questions.specs.declared.answer.Neighbour.TheVariants.{Around, Beside}
+use Rattle.model_questions.specs.declared.answer.Neighbour.TheVariants.{Inside}
 use Rattle.model_questions.specs.declared.answer.Question.{Question}
 use Rattle.model_questions.specs.declared.answer.Question.TheVariants.{GateSize, Hop, HopBack}
 use Rattle.model_questions.specs.declared.record.Record.{Record}
@@ -70,8 +71,8 @@ gates_at path = if bytes_eq path (codes "N.s") then record {
 
 abbrev pub back_at : Bool → Answer
 back_at true = answer.Next (Some (record {
-  neighbour = Beside (codes "s") None;
-  gate = codes "out";
+  neighbour = Around;
+  gate = codes "in";
   index = 0;
   channel = ideal;
 }))
@@ -207,5 +208,5 @@ module _ (b : Behaviour) where
         ≡ told fault.TimeOverflow
         (asked_about (GateSize 4 (codes "in") ∷ HopBack 4 (codes "in") 0 ∷ []) (at_event 5 []))
     -- in a reply to the end no message is sent, whatever its gate
-    pub at_end : act b (linked None false) occasion.End 2 (send 0 8) (at_event 5 [])
+    pub at_end : act (perform b (linked None false) 2) occasion.End 2 (send 0 8) (at_event 5 [])
         ≡ told fault.NotInFinish (at_event 5 [])

@@ -1,6 +1,6 @@
 -- Ids of modules, and a module and all below it.
-use Rattle.std.specs.Prelude.{ℕ, zero, suc, ◌==◌, Bool, false, not, List, [], ◌∷◌, ◌++◌, Option}
-use Rattle.std.specs.Prelude.{Some, None}
+use Rattle.std.specs.Prelude.{ℕ, zero, suc, ◌==◌, ◌||◌, Bool, false, not, List, [], ◌∷◌, ◌++◌}
+use Rattle.std.specs.Prelude.{Option, Some, None}
 use Rattle.std.specs.List.{filter, list_any}
 use Rattle.model_questions.specs.declared.record.Record.{Record}
 use Rattle.model_questions.specs.Records.{record_at}

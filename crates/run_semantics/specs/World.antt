@@ -8,19 +8,20 @@ use Rattle.model_injections.specs.declared.injection.InjectionTurn.{InjectionTur
 use Rattle.model_questions.specs.declared.record.Record.{Record}
 use Rattle.model_questions.specs.Questions.{same_question}
 use Rattle.event_set.specs.declared.pending.Pending.{Pending}
+use Rattle.run_semantics.specs.declared.routes.GateChange.{GateChange}
 use Rattle.run_semantics.specs.declared.routes.Transmission.{Transmission}
 use Rattle.run_semantics.specs.declared.traces.Emission.{Emission}
 use Rattle.run_semantics.specs.declared.traces.Instance.{Instance}
 use Rattle.run_semantics.specs.declared.traces.Scalar.{Scalar}
-use Rattle.run_semantics.specs.Subtree.{ids_from, without}
+use Rattle.run_semantics.specs.Subtree.{among, ids_from, without}
 
 -- A world: the clock; how many events were executed; the records of the modules that were created,
 -- and the ids of those that are dead, in the order in which they died; the simple modules with
 -- their states, by rising id; the ids of the modules that were started, and of those that were
 -- finished; the events to come, in order, and the number of the next one that is inserted; whether
 -- the end was asked for; which injection was delivered last, and with it all that go before it; the
--- last transmission that began at each gate; what was emitted; the scalars that modules recorded;
--- what was asked of the model, each question with the first event that asked it.
+-- last transmission that began at each gate; how gates were joined and freed, in the order in which
+-- that was done; what was emitted; the scalars that modules recorded; what was asked of the model, each question with the first event that asked it.
 pub record World : Type 0 where
   pub clock : ℕ
   pub count : ℕ
@@ -34,6 +35,7 @@ pub record World : Type 0 where
   pub ended : Bool
   pub delivered : Option InjectionTurn
   pub transmissions : List Transmission
+  pub changes : List GateChange
   pub emissions : List Emission
   pub scalars : List Scalar
   pub questions : List AskedQuestion
@@ -53,6 +55,7 @@ empty = record {
   ended = false;
   delivered = None;
   transmissions = [];
+  changes = [];
   emissions = [];
   scalars = [];
   questions = [];
@@ -61,6 +64,10 @@ empty = record {
 -- THE MODULES THAT LIVE: of all that were created those that are not dead, by their ids
 abbrev pub live_of : World → List ℕ
 live_of w = without (ids_from 1 w.records) w.dead
+
+-- whether the module of that id lives
+abbrev pub is_live : World → ℕ → Bool
+is_live w id = among id (live_of w)
 
 -- how many these are, as no module dies twice
 abbrev pub live_count : World → ℕ

@@ -1,6 +1,6 @@
 //! Laws of runs. The functions do nothing: their contracts are the laws.
 
-ghost use Rattle.std.specs.Prelude.{◌≡◌, ◌↔◌, ℕ, suc, ◌+◌, ◌≤◌, ◌<◌, List, IsSome, []};
+ghost use Rattle.std.specs.Prelude.{◌≡◌, ◌↔◌, ℕ, suc, ◌+◌, ◌≤◌, ◌<◌, true, List, [], length};
 ghost use Rattle.module_api.specs.Behaviour.{Behaviour};
 ghost use Rattle.module_api.specs.Laws.{IsLawful};
 ghost use Rattle.model_questions.specs.Answers.{Answers, answer_of};
@@ -9,16 +9,16 @@ ghost use Rattle.model_questions.specs.declared.answer.AskedQuestion.{AskedQuest
 ghost use Rattle.model_questions.specs.declared.record.Record.{Record};
 ghost use Rattle.run_semantics.specs.Agreement.{Agrees, AgreesUpTo, questions_of};
 ghost use Rattle.run_semantics.specs.Ending.{ending};
-ghost use Rattle.run_semantics.specs.Event.{instance_in};
 ghost use Rattle.run_semantics.specs.Example.{ExampleNests};
+ghost use Rattle.run_semantics.specs.Wires.{ExampleJoins, ExampleWires};
 ghost use Rattle.run_semantics.specs.Sends.{ExampleSends};
 ghost use Rattle.run_semantics.specs.Laws.{Each, AreInOrder, AreInTurn, HaveOwnNumbers, HasGrown};
-ghost use Rattle.run_semantics.specs.Laws.{GoesOn, CanBeCalled, HasEnded, AreFrom, AreStates};
+ghost use Rattle.run_semantics.specs.Laws.{GoesOn, HasEnded, AreFrom, AreStates};
 ghost use Rattle.run_semantics.specs.Laws.{IsBounded, gone_on, noted_all, parts_standing};
 ghost use Rattle.run_semantics.specs.Upcoming.{Nothing, upcoming};
-ghost use Rattle.run_semantics.specs.World.{World, live_of};
+ghost use Rattle.run_semantics.specs.World.{World, is_live, live_of};
 ghost use Rattle.run_semantics.specs.Run.{Ran, Running, Over, IsReached, next_stage, after};
-ghost use Rattle.run_semantics.specs.Run.{stopped, run_to, world_at, standing, parts_of};
+ghost use Rattle.run_semantics.specs.Run.{stopped, run_to, world_at, standing};
 
 /// After n events at most n are counted.
 pub fn at_most_n_are_counted()
@@ -98,8 +98,9 @@ pub fn one_event_more()
 {}
 
 /// Nothing that happened is undone: with more events the clock, the count of events and the next
-/// insertion number do not fall, and records, the dead, emissions, scalars and questions stay, each
-/// in its place. So a module that is gone stays gone.
+/// insertion number do not fall, and records, the dead, those that were started and that were
+/// finished, changes of gates, emissions, scalars and questions stay, each in its place. So a module
+/// that is gone stays gone.
 pub fn runs_grow()
     ensures { (b : Behaviour) (m : Answers) (n k : ℕ) → n ≤ k
         → HasGrown (world_at (after b m n)) (world_at (after b m k)) }
@@ -115,6 +116,14 @@ pub fn modules_stay_until_the_end()
         → (world_at (after b m k)).started ≡ (world_at (after b m n)).started }
     ensures finished { (b : Behaviour) (m : Answers) (n : ℕ)
         → (world_at (after b m n)).finished ≡ [] }
+{}
+
+/// A module that died lives never again: one that was created by then and lives later lived then.
+pub fn nobody_lives_again()
+    ensures { (b : Behaviour) (m : Answers) (n k id : ℕ) → n ≤ k
+        → id ≤ length (world_at (after b m n)).records
+        → is_live (world_at (after b m k)) id ≡ true
+        → is_live (world_at (after b m n)) id ≡ true }
 {}
 
 /// A run that goes on after n events got as far as event n.
@@ -153,23 +162,25 @@ pub fn emissions_are_in_turn()
         (world_at (after b m n)).emissions }
 {}
 
-/// Each event to come is for a module that its call finds; and in a run that goes on that module
-/// was started and lives. So no event is passed over, and none calls a module before it is started.
-pub fn events_are_for_started_modules()
-    ensures found { (b : Behaviour) (m : Answers) (n : ℕ)
-        → Each (λ e. IsSome (instance_in e.id (world_at (after b m n)).modules))
+/// Each event to come is for a module that lives, so no event is stale.
+pub fn events_are_for_modules_that_live()
+    ensures { (b : Behaviour) (m : Answers) (n : ℕ)
+        → Each (λ e. is_live (world_at (after b m n)) e.id ≡ true)
         (world_at (after b m n)).pending }
-    ensures started { (b : Behaviour) (m : Answers) (n : ℕ) (w : World) → after b m n ≡ Running w
-        → Each (λ e. CanBeCalled w e.id) w.pending }
 {}
 
-/// In a run that goes on exactly the simple modules stand that were started and live, by rising id,
-/// each of its kind; and these are all that were created.
-pub fn created_modules_stand()
-    ensures started { (b : Behaviour) (m : Answers) (n : ℕ) (w : World) → after b m n ≡ Running w
-        → standing w.modules ≡ parts_standing w }
-    ensures created { (b : Behaviour) (m : Answers) (n : ℕ) (w : World) → after b m n ≡ Running w
-        → standing w.modules ≡ parts_of w }
+/// What stands lives, at each moment.
+pub fn what_stands_lives()
+    ensures { (b : Behaviour) (m : Answers) (n : ℕ)
+        → Each (λ i. is_live (world_at (after b m n)) i.id ≡ true)
+        (world_at (after b m n)).modules }
+{}
+
+/// Exactly the simple modules stand that were started and live, by rising id, each of its kind, at
+/// each moment.
+pub fn started_modules_stand()
+    ensures { (b : Behaviour) (m : Answers) (n : ℕ)
+        → standing (world_at (after b m n)).modules ≡ parts_standing (world_at (after b m n)) }
 {}
 
 /// In a run of a lawful catalogue the state of each module is one of its kind, at each moment.
@@ -251,4 +262,10 @@ pub fn nested_example()
 /// worked by hand: over channels, at a busy one, to nobody, and directly.
 pub fn sending_example()
     ensures { (b : Behaviour) → ExampleSends b }
+{}
+
+/// Gates that are joined and freed while a run goes on, and a run that a module ends, worked by hand.
+pub fn wires_example()
+    ensures runs { ExampleWires }
+    ensures actions { ExampleJoins }
 {}

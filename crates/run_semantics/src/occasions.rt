@@ -1,7 +1,7 @@
 //! What modules are called for.
 
 ghost use Rattle.std.specs.Prelude.{◌≡◌};
-ghost use Rattle.run_semantics.specs.Perform.{is_allowed, is_last_action, is_noted};
+ghost use Rattle.run_semantics.specs.Replies.{is_allowed, is_last_action, is_noted};
 
 use module_api::reply::Action;
 
@@ -38,7 +38,10 @@ fn is_last_action(action: &Action) -> bool
         | Action::SendDelayed(_, _, _)
         | Action::SendDirect(_, _, _)
         | Action::ScheduleAt(_)
-        | Action::ScheduleAfter(_) => false,
+        | Action::ScheduleAfter(_)
+        | Action::Connect(_, _, _)
+        | Action::Disconnect(_)
+        | Action::End => false,
     }
 }
 

@@ -23,7 +23,7 @@ pub enum RunFault {
     /// A reply read a gate that the module doesn't have, or sends a message through one that isn't
     /// there or has another direction.
     NoGate,
-    /// A message is sent directly to a gate that is connected.
+    /// A gate that something is connected to is joined, or a message is sent to it directly.
     AlreadyConnected,
     /// A reply has more than 1,000 actions.
     TooManyActions,
@@ -41,7 +41,7 @@ pub enum RunFault {
     TwoTransmissionChannels,
     /// An earlier transmission goes on as a message reaches the channel.
     Busy,
-    /// No module has that path.
+    /// No module that lives has that path, or none that can be meant.
     NoModule,
     /// A payload has more than 4,096 bytes.
     PayloadTooLarge,

@@ -1,8 +1,10 @@
 //! Ways of messages through gates.
 
 ghost use Rattle.std.specs.Prelude.{◌≡◌, ◌<◌, IfOk, IfSome, length};
+ghost use Rattle.std.specs.Option.{option_copied};
 ghost use Rattle.run_semantics.specs.Routes.{is_output, is_out_gate, is_input, is_in_gate};
-ghost use Rattle.run_semantics.specs.Routes.{is_connected, is_simple, is_gate, place_of, busy_at};
+ghost use Rattle.run_semantics.specs.Routes.{is_simple, is_gate, place_of, busy_at, change_of};
+ghost use Rattle.run_semantics.specs.Routes.{joins, leads_to, without_transmission};
 ghost use Rattle.run_semantics.specs.Routes.{busy_of, channels_of, transmission_gate};
 
 use channels::is_transmission;
@@ -38,6 +40,14 @@ pub struct NextHop {
     pub channel: Channel,
 }
 
+/// An output gate that was joined to another, or freed.
+#[derive(Drop)]
+pub struct GateChange {
+    pub gate: PlacedGate,
+    /// Where it leads, none where it was freed.
+    pub to: Option<NextHop>,
+}
+
 /// The last transmission that began at a gate.
 #[derive(Drop)]
 pub struct Transmission {
@@ -55,6 +65,18 @@ impl PlacedGate {
             id: self.id,
             name: self.name.copy(alloc)?,
             index: self.index,
+        })
+    }
+}
+
+impl NextHop {
+    /// An equal one.
+    pub fn copy(&self, alloc: Global) -> Result<NextHop, AllocError>
+        ensures { IfOk result (λ copy. copy ≡ self.now) }
+    {
+        Ok(NextHop {
+            to: self.to.copy(alloc)?,
+            channel: self.channel,
         })
     }
 }
@@ -127,16 +149,6 @@ pub fn is_in_gate(answer: &Answer, index: u32) -> bool
     }
 }
 
-/// Whether the answer is that something is connected.
-pub fn is_connected(answer: &Answer) -> bool
-    ensures { result ≡ is_connected answer.now }
-{
-    match answer {
-        Answer::Next(next) => next.is_some(),
-        _ => false,
-    }
-}
-
 /// Whether the module of that id is a simple one.
 pub fn is_simple(records: &[Record], id: u32) -> bool
     ensures { result ≡ is_simple records.now id }
@@ -186,6 +198,48 @@ pub fn busy_of(gate: &Option<PlacedGate>, transmissions: &[Transmission]) -> Opt
     match gate {
         Some(gate) => busy_at(gate, transmissions),
         None => None,
+    }
+}
+
+/// Forgets the transmission that began at a gate, where there was one.
+pub fn forget_transmission(transmissions: &mut Items<Transmission>, gate: &PlacedGate)
+    ensures { transmissions.new ≡ without_transmission gate.now transmissions.old }
+{
+    while let Some(place) = place_of(gate, transmissions.as_slice()) {
+        transmissions.remove(place);
+    }
+}
+
+/// The last change of a gate.
+pub fn change_of<'a>(gate: &PlacedGate, changes: &'a [GateChange]) -> Option<&'a GateChange>
+    ensures { option_copied result ≡ change_of gate.now changes.now }
+{
+    let mut last = None;
+    for change in changes {
+        if is_gate(&change.gate, gate) {
+            last = Some(change);
+        }
+    }
+    last
+}
+
+/// Whether a hop leads to that gate.
+pub fn leads_to(gate: &PlacedGate, hop: &Option<NextHop>) -> bool
+    ensures { result ≡ leads_to gate.now hop.now }
+{
+    match hop {
+        Some(hop) => is_gate(&hop.to, gate),
+        None => false,
+    }
+}
+
+/// Whether a gate was joined to that one, by its last change among these.
+pub fn joins(gate: &PlacedGate, from: &PlacedGate, changes: &[GateChange]) -> bool
+    ensures { result ≡ joins gate.now (change_of from.now changes.now) }
+{
+    match change_of(from, changes) {
+        Some(change) => leads_to(gate, &change.to),
+        None => false,
     }
 }
 
