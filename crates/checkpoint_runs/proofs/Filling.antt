@@ -11,14 +11,14 @@ use Rattle.run_semantics.specs.declared.outcome.Outcome.TheVariants as outcomes
 use Rattle.run_semantics.specs.declared.traces.Instance.{Instance}
 use Rattle.run_semantics.specs.World.{World}
 use Rattle.run_semantics.specs.Perform.{Flow, On, Stopped, Broken, ◌>>=◌}
-use Rattle.run_semantics.specs.Run.{Part, Stage, first_unknown, needs, parts_from, parts_of, standing, unless_unknown, with_class, prepared, place_parts, ready, initialize_all, start, Running, Over, after, next_stage, settled, Ran, is_fault}
+use Rattle.run_semantics.specs.Run.{Part, Stage, first_unknown, parts_from, parts_of, standing, unless_unknown, unstarted, with_class, prepared, start_all, started, start, Running, Over, after, next_stage, settled, Ran, is_fault}
 use Rattle.run_semantics.specs.Ending.{ending}
 use Rattle.run_semantics.proofs.Ends.{run_over}
-use Rattle.run_semantics.proofs.Placing.{IsBuilt, needs_all, prepared_built}
 use Rattle.run_semantics.proofs.Setting.{IsLasting, Stays, prepared_stays}
 use Rattle.kernel.specs.declared.request.Request.{Request}
 use Rattle.kernel_boxes.specs.Seats.{BoxAt, AreBelow, instance_of}
-use Rattle.kernel.specs.Seats.{AreFirst, AreFresh, missing_part, missing_of, request_for}
+use Rattle.run_semantics.specs.Subtree.{outer_first}
+use Rattle.kernel.specs.Seats.{AreFirst, AreFresh, missing_part, missing_of, needs, request_for}
 use Rattle.kernel_boxes.specs.Staying.{first_without}
 use Rattle.kernel.proofs.Behind.{parts_rise}
 use Rattle.kernel.proofs.Waiting.{fresh_known, fresh_standing, wanted_next}
@@ -30,7 +30,12 @@ use Rattle.checkpoint_runs.specs.declared.running.Phase.{Phase}
 use Rattle.checkpoint_runs.specs.declared.running.Phase.TheVariants.{Declined}
 use Rattle.checkpoint_runs.specs.Positions.{cut, start_of}
 use Rattle.checkpoint_runs.proofs.Counting.{setup_after}
+use Rattle.checkpoint_runs.proofs.Unstarted.{IsBuilt, needs_all, prepared_built}
 use Rattle.checkpoint_runs.specs.Running.{boxes_left, boxes_of, boxes_unless, known_first, parts_in, needed_by, wanted_after, wanted_by, Advances, CanStart, IsFilled, IsDeclined, whole_run}
+
+-- the calls of the start, where the modules of that world are started
+abbrev calls_of : Behaviour → Answers → World → World → Flow
+calls_of b m w = started b m (unstarted w) (outer_first w.records (unstarted w) 1)
 
 -- ---- setup goes on, or ends in a fault
 
@@ -87,11 +92,11 @@ over_is_fault (Broken v path f) w outcome e = let s : outcome ≡ outcomes.Fault
 
 -- a run that is over after event zero ended in a fault
 pub start_is_fault : (b : Behaviour) (m : Answers) (w : World) (outcome : Outcome) → Over w outcome ≡ start b m → is_fault outcome ≡ true
-start_is_fault b m w outcome e = over_is_fault (ready b m >>= initialize_all b m) w outcome e
+start_is_fault b m w outcome e = over_is_fault (prepared m >>= start_all b m) w outcome e
 
 -- a fault in setup is the start's
 pub start_over : (b : Behaviour) (m : Answers) (w : World) (outcome : Outcome) → Over w outcome ≡ settled (prepared m) → Over w outcome ≡ start b m
-start_over b m w outcome e = over_broken (ready b m) (initialize_all b m) w outcome (over_broken (prepared m) (place_parts b) w outcome e)
+start_over b m w outcome e = over_broken (prepared m) (start_all b m) w outcome e
 
 pub setup_wants_none : (m : Answers) (boxes : List Part) (w : World) (outcome : Outcome) → Over w outcome ≡ settled (prepared m) → wanted_by m boxes ≡ None
 setup_wants_none m boxes w outcome e = over_wants_none (prepared m) boxes w outcome e
@@ -162,7 +167,7 @@ ended b m w outcome t = rw t refl
 pub whole_over : (b : Behaviour) (m : Answers) (limit : ℕ) (w : World) (outcome : Outcome) → Over w outcome ≡ start b m → whole_run b m limit w outcome
 whole_over b m limit w outcome e =
     ap (ending b m) (run_over b m w outcome zero limit (omega arith) e)
-    ∙ ended b m w outcome (over_is_fault (ready b m >>= initialize_all b m) w outcome e)
+    ∙ ended b m w outcome (over_is_fault (prepared m >>= start_all b m) w outcome e)
 
 -- ---- a box is supplied, or there is none
 
@@ -294,8 +299,8 @@ declined_at b m w xs d = sym (filled_missing b m w xs d.filled) ∙ d.missing
 pub declined_over : (b : Behaviour) (m : Answers) (w : World) (xs : List BoxAt) → (d : IsDeclined b m w xs) → Over w (outcomes.Fault w.count (path_of w.records d.part.id) UnknownClass) ≡ start b m
 declined_over b m w xs d =
     let at = unknown_at b (needs w) xs d.part d.filled.first (declined_at b m w xs d) d.unknown in
-    ap (λ o. settled (unless_unknown b (needs w) w o >>= initialize_all b m)) (sym at)
-    ∙ ap (λ (fl : Flow). settled ((fl >>= place_parts b) >>= initialize_all b m)) d.filled.prepared_is
+    ap (λ o. settled (unless_unknown b (needs w) w o >>= calls_of b m w)) (sym at)
+    ∙ ap (λ (fl : Flow). settled (fl >>= start_all b m)) d.filled.prepared_is
 
 -- the same, by the request that is missing
 pub declined_request : (b : Behaviour) (m : Answers) (w : World) (xs : List BoxAt) (r : Request) → IsDeclined b m w xs → missing_of w (parts_in xs) ≡ Some r → Over w (outcomes.Fault w.count r.path UnknownClass) ≡ start b m
@@ -361,7 +366,7 @@ next_begun b m (Running w) h = any (next_stage b m (Running w))
     any (Running v) = h
     any (Over v outcome) = tt
 
-flow_begun : (b : Behaviour) (m : Answers) (fl : Flow) → prepared m ≡ fl → HasBegun b m (settled ((fl >>= place_parts b) >>= initialize_all b m))
+flow_begun : (b : Behaviour) (m : Answers) (fl : Flow) → prepared m ≡ fl → HasBegun b m (settled (fl >>= start_all b m))
 flow_begun b m (Stopped w) e = λ all. ap (λ (fl : Flow). boxes_of b fl all) e
 flow_begun b m (Broken w path f) e = tt
 flow_begun b m (On w) e = by (first_unknown b (needs w)) refl
@@ -370,8 +375,8 @@ flow_begun b m (On w) e = by (first_unknown b (needs w)) refl
     any h (Running v) = h
     any h (Over v outcome) = tt
 
-    by : (o : Option Part) → first_unknown b (needs w) ≡ o → HasBegun b m (settled (unless_unknown b (needs w) w o >>= initialize_all b m))
-    by None u = any (λ all. ap (λ (fl : Flow). boxes_of b fl all) e ∙ ap (λ o. boxes_unless o all (known_first b (needs w))) u) (settled (unless_unknown b (needs w) w None >>= initialize_all b m))
+    by : (o : Option Part) → first_unknown b (needs w) ≡ o → HasBegun b m (settled (unless_unknown b (needs w) w o >>= calls_of b m w))
+    by None u = any (λ all. ap (λ (fl : Flow). boxes_of b fl all) e ∙ ap (λ o. boxes_unless o all (known_first b (needs w))) u) (settled (unless_unknown b (needs w) w None >>= calls_of b m w))
     by (Some p) u = tt
 
 begun_after : (b : Behaviour) (m : Answers) (k : ℕ) → HasBegun b m (after b m k)

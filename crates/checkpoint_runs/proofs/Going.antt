@@ -9,12 +9,14 @@ use Rattle.run_semantics.specs.declared.outcome.Outcome.{Outcome}
 use Rattle.run_semantics.specs.declared.outcome.Outcome.TheVariants.{Ended, EventLimit, TimeLimit}
 use Rattle.run_semantics.specs.Event.{event}
 use Rattle.run_semantics.specs.Perform.{Flow, On, Stopped, Broken}
-use Rattle.run_semantics.specs.Run.{Stage, Running, Over, Ran, after, stopped, run_to, settled, next_stage, went, is_fault, is_after_limit}
+use Rattle.run_semantics.specs.Run.{Stage, Running, Over, Ran, after, stopped, run_to, settled, next_stage, went, world_at, is_fault, is_after_limit}
 use Rattle.run_semantics.specs.Upcoming.{Upcoming, Comes, Nothing, upcoming}
 use Rattle.run_semantics.specs.World.{World}
 use Rattle.run_semantics.proofs.Counts.{event_count, runs_on, upcoming_count}
 use Rattle.run_semantics.proofs.Sound.{in_flow}
-use Rattle.run_semantics.proofs.Looking.{beside}
+use Rattle.run_semantics.proofs.Looking.{beside, HasLooked, upcoming_looks}
+use Rattle.run_semantics.proofs.Fitting.{fits_after, fits_looked}
+use Rattle.run_semantics.proofs.Growth.{Fits}
 use Rattle.checkpoint_runs.specs.Kept.{lasting, is_owed, taken_if, HasBegun, HasGoneOn, HasLeft}
 use Rattle.checkpoint_runs.specs.declared.running.Stood.{Stood}
 use Rattle.checkpoint_runs.specs.declared.running.Stood.TheVariants as stood
@@ -41,17 +43,17 @@ settled_counts w (On v) e = tt
 settled_counts w (Stopped v) e = tt
 settled_counts w (Broken v path f) e = (λ _. e, λ t. absurd (false_true (sym t)))
 
-went_counts : (b : Behaviour) (m : Answers) (w : World) (up : Upcoming) → (beside up).count ≡ w.count → Counts w (went b m w up)
-went_counts b m w (Nothing u) e = (λ t. absurd (false_true t), λ _. refl)
-went_counts b m w (Comes u p rest) e =
+went_counts : (b : Behaviour) (m : Answers) (w : World) (up : Upcoming) → HasLooked w (beside up) → Fits w → (beside up).count ≡ w.count → Counts w (went b m w up)
+went_counts b m w (Nothing u) looked f e = (λ t. absurd (false_true t), λ _. refl)
+went_counts b m w (Comes u p rest) looked f e =
     either_counts w (is_after_limit m u.records p) (Over w TimeLimit) (settled (event b m p rest u)) (λ t. absurd (false_true t), λ _. refl)
-    (settled_counts w (event b m p rest u) (let c = event_count b m p rest u in omega (arith, c, e)))
+    (settled_counts w (event b m p rest u) (let c = event_count b m p rest u (fits_looked w u looked f) in omega (arith, c, e)))
 
-next_counts : (b : Behaviour) (m : Answers) (w : World) → Counts w (next_stage b m (Running w))
-next_counts b m w = either_counts w w.ended (Over w Ended) (went b m w (upcoming m w)) (λ t. absurd (false_true t), λ _. refl) (went_counts b m w (upcoming m w) (upcoming_count m w))
+next_counts : (b : Behaviour) (m : Answers) (w : World) → Fits w → Counts w (next_stage b m (Running w))
+next_counts b m w f = either_counts w w.ended (Over w Ended) (went b m w (upcoming m w)) (λ t. absurd (false_true t), λ _. refl) (went_counts b m w (upcoming m w) (upcoming_looks m w) f (upcoming_count m w))
 
-over_counts : (b : Behaviour) (m : Answers) (w v : World) (outcome : Outcome) → Over v outcome ≡ next_stage b m (Running w) → Counts w (Over v outcome)
-over_counts b m w v outcome e = subst (Counts w) (sym e) (next_counts b m w)
+over_counts : (b : Behaviour) (m : Answers) (w v : World) (outcome : Outcome) → Fits w → Over v outcome ≡ next_stage b m (Running w) → Counts w (Over v outcome)
+over_counts b m w v outcome f e = subst (Counts w) (sym e) (next_counts b m w f)
 
 -- the count of a run that goes on
 pub count_is : (b : Behaviour) (m : Answers) (k : ℕ) (w : World) → Running w ≡ after b m k → w.count ≡ k
@@ -104,7 +106,8 @@ pub gone_over : (b : Behaviour) (m : Answers) (from k : ℕ) (before t : Timelin
     → StoredAt from before t k → HasGoneOn b m from before t v outcome
 gone_over b m from k before t w v outcome l going over h =
     let at : w.count ≡ k = count_is b m k w going in
-    let c : Counts w (Over v outcome) = over_counts b m w v outcome over in
+    let fits : Fits w = subst (λ s. Fits (world_at s)) (sym going) (fits_after b m k) in
+    let c : Counts w (Over v outcome) = over_counts b m w v outcome fits over in
     let fault : is_fault outcome ≡ true → v.count ≡ suc k = λ e. c.0 e ∙ ap suc at in
     let none : is_fault outcome ≡ false → v.count ≡ k = λ e. ap (λ (x : World). x.count) (c.1 e) ∙ at in
     record {

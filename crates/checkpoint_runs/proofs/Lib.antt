@@ -5,3 +5,4 @@ pub mod Good
 pub mod Whole
 pub mod Few
 pub mod Most
+mod Unstarted

@@ -6,12 +6,12 @@ use Rattle.model_questions.specs.Answers.{Answers}
 use Rattle.run_semantics.specs.declared.outcome.Outcome.{Outcome}
 use Rattle.run_semantics.specs.World.{World, HasRoom}
 use Rattle.run_semantics.specs.Perform.{Flow, On, Stopped, Broken}
-use Rattle.run_semantics.specs.Run.{Part, first_unknown, needs, prepared, standing, start, Over}
+use Rattle.run_semantics.specs.Run.{Part, first_unknown, prepared, standing, start, Over}
 use Rattle.run_semantics.specs.Run.{Ran, run_to}
 use Rattle.run_semantics.specs.Ending.{ending}
 use Rattle.kernel.specs.declared.request.Request.{Request}
 use Rattle.kernel_boxes.specs.Seats.{BoxAt, instance_of}
-use Rattle.kernel.specs.Seats.{AreFirst, AreFresh, IsUnstarted, missing_of, missing_part}
+use Rattle.kernel.specs.Seats.{AreFirst, AreFresh, IsUnstarted, missing_of, missing_part, needs}
 use Rattle.checkpoint_runs.specs.declared.running.Phase.{Phase}
 use Rattle.checkpoint_runs.specs.declared.running.Phase.TheVariants.{Idle, Waiting, Declined}
 use Rattle.checkpoint_runs.specs.declared.running.Ended.{Ended}

@@ -1,17 +1,41 @@
 -- No model needs more boxes than there may be modules.
-use Rattle.std.proofs.Common.{ℕ, suc, ◌≤◌, Bool, true, false, cond, not, ◌&&◌, List, [], ◌∷◌, Option, Some, None, filter, length, arith, refl}
+use Rattle.std.proofs.Common.{◌≡◌, ℕ, zero, suc, ◌+◌, ◌-◌, ◌≤◌, min, Bool, true, false, cond, not, List, [], ◌∷◌, Option, Some, None, filter, length, slice_get, arith, ap, refl}
 use Rattle.std.proofs.lemmas.List.Filters.{length-filter_both}
 use Rattle.model_data.specs.declared.model.Model.{Model}
 use Rattle.model_answers.specs.Answering.{answers_of}
 use Rattle.model_questions.specs.declared.record.Record.{Record}
 use Rattle.run_semantics.specs.Perform.{Flow, On, Stopped, Broken}
-use Rattle.run_semantics.specs.Run.{Part, needs, parts_from, parts_of, prepared, with_class}
+use Rattle.run_semantics.specs.Run.{Part, parts_from, parts_of, prepared, room_in, unstarted, with_class}
 use Rattle.run_semantics.specs.Subtree.{among}
-use Rattle.run_semantics.specs.World.{live_of}
-use Rattle.run_semantics.proofs.Bounds.{IsFew, few_last}
-use Rattle.run_semantics.proofs.Setting.{Stays, prepared_stays}
+use Rattle.run_semantics.specs.World.{World}
+use Rattle.run_semantics.proofs.Setting.{IsLasting, Stays, length_created, prepared_stays}
+use Rattle.kernel.specs.Seats.{needs}
 use Rattle.kernel_boxes.specs.Staying.{is_held}
 use Rattle.desk_server.specs.Boxes.{boxes_lacking, lacking, lacking_after, most_boxes}
+
+-- a list that has nothing at a place is no longer
+none_there : {X : Type 0} (xs : List X) (k : ℕ) → slice_get xs k ≡ None → length xs ≤ k
+none_there [] k e = omega arith
+none_there (x ∷ xs) zero e = cc
+none_there (x ∷ xs) (suc k) e = let l = none_there xs k e in omega (arith, l)
+
+within : (n created dead : ℕ) → n ≤ min (65536 - (created - dead)) (1000000 - created) → dead ≡ 0 → created ≤ 65536 → created + n ≤ 65536
+within n created dead h z l = omega (arith, h, z, l)
+
+-- nobody is dead, and so few were created
+record IsFew (w : World) : Type 0 where
+  dead : w.dead ≡ []
+  few : length w.records ≤ 65536
+
+few_last : IsLasting IsFew
+few_last = record {
+  asked = λ id w f l. record { dead = f.dead; few = f.few };
+  created = λ parent bs w f l e.
+      let room = none_there bs (room_in w) e in
+      let none = ap (λ (ids : List ℕ). length ids) f.dead in
+      let most = within (length bs) (length w.records) (length w.dead) room none f.few in
+      record { dead = f.dead; few = omega (arith, most, length_created parent bs w) };
+}
 
 with_few : (id : ℕ) (class : Option (List ℕ)) (parts : List Part) (n : ℕ) → length parts ≤ n → length (with_class id class parts) ≤ suc n
 with_few id (Some kind) parts n few = omega (arith, few)
@@ -33,7 +57,7 @@ few_lacking boxes (p ∷ ps) = by (is_held p.id boxes) (few_lacking boxes ps)
     by false l = omega (arith, l)
 
 few_after : (fl : Flow) (boxes : List Part) → Stays IsFew fl → lacking_after fl boxes ≤ most_boxes
-few_after (On w) boxes h = omega (arith, few_lacking boxes (needs w), few_some (λ (p : Part). not (among p.id w.started) && among p.id (live_of w)) (parts_of w), few_parts 1 w.records, h.few)
+few_after (On w) boxes h = omega (arith, few_lacking boxes (needs w), few_some (λ (p : Part). among p.id (unstarted w)) (parts_of w), few_parts 1 w.records, h.few)
 few_after (Stopped w) boxes h = absurd h
 few_after (Broken w path f) boxes h = omega arith
 

@@ -3,9 +3,9 @@ use Rattle.std.proofs.Common.{◌≡◌, ℕ, suc, zero, ◌+◌, ◌<◌, ◌�
 use Rattle.model_data.specs.declared.model.Model.{Model}
 use Rattle.model_answers.specs.Answering.{answers_of}
 use Rattle.run_semantics.specs.Perform.{Flow, On, Stopped, Broken}
-use Rattle.run_semantics.specs.Run.{Part, needs, prepared}
+use Rattle.run_semantics.specs.Run.{Part, prepared}
 use Rattle.kernel.specs.declared.request.Request.{Request}
-use Rattle.kernel.specs.Seats.{missing_part, request_for}
+use Rattle.kernel.specs.Seats.{missing_part, needs, request_for}
 use Rattle.kernel_boxes.specs.Staying.{first_without, is_held}
 use Rattle.edit_session.specs.Editing.{Editing, wanted_of, waited_for, with_box, with_wanted, WaitsFor}
 use Rattle.checkpoint_runs.specs.Running.{kept_boxes, wanted_after, IsUndeclined}

@@ -3,7 +3,8 @@ use Rattle.std.specs.Prelude.{ℕ, suc, ◌+◌, List, [], ◌∷◌, if◌then�
 use Rattle.model_data.specs.declared.model.Model.{Model}
 use Rattle.model_answers.specs.Answering.{answers_of}
 use Rattle.run_semantics.specs.Perform.{Flow, On, Stopped, Broken}
-use Rattle.run_semantics.specs.Run.{Part, needs, prepared}
+use Rattle.run_semantics.specs.Run.{Part, prepared}
+use Rattle.kernel.specs.Seats.{needs}
 use Rattle.kernel_boxes.specs.Staying.{is_held}
 use Rattle.checkpoint_runs.specs.declared.running.Phase.{Phase}
 use Rattle.checkpoint_runs.specs.declared.running.Phase.TheVariants.{Idle, Waiting, Declined}

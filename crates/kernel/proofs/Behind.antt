@@ -5,11 +5,14 @@ use Rattle.std.proofs.lemmas.List.{length-map}
 use Rattle.module_api.specs.Meaning.{Module}
 use Rattle.module_tree.specs.Boxes.{Seated, AreRising, last_after, last_id}
 use Rattle.model_questions.specs.declared.record.Record.{Record}
-use Rattle.run_semantics.specs.Run.{Part, standing, with_class, parts_from}
+use Rattle.run_semantics.specs.Run.{Part, standing, with_class, parts_from, unstarted}
+use Rattle.run_semantics.specs.Subtree.{among}
+use Rattle.run_semantics.specs.World.{World}
+use Rattle.kernel.specs.Seats.{needs}
 use Rattle.kernel_boxes.specs.Seats.{instance_of}
 use Rattle.kernel_boxes.proofs.Seating.{seat}
 use Rattle.kernel_boxes.specs.Staying.{first_without}
-use Rattle.kernel.proofs.Rising.{Rise}
+use Rattle.kernel.proofs.Rising.{Rise, rise_filter, rise_later}
 use Rattle.kernel.proofs.Waiting.{wanted_next}
 
 -- the first part of a greater id
@@ -30,10 +33,6 @@ first_behind id from below (p ∷ ps) r h = rw (less id p.id (omega (arith, r.0)
 
 -- ---- of records
 
-rise_later : (k from below : ℕ) (ps : List Part) → k ≤ from → Rise from below ps → Rise k below ps
-rise_later k from below [] h r = tt
-rise_later k from below (p ∷ ps) h r = (omega (arith, r.0), r.1, r.2)
-
 -- the ids of records rise
 pub parts_rise : (k below : ℕ) (rs : List Record) → k + length rs ≤ below → Rise k below (parts_from k rs)
 parts_rise k below [] h = tt
@@ -42,6 +41,10 @@ parts_rise k below (r ∷ rs) h = by r.class (parts_rise (suc k) below rs (omega
     by : (class : Option (List ℕ)) → Rise (suc k) below (parts_from (suc k) rs) → Rise k below (with_class k class (parts_from (suc k) rs))
     by (Some kind) later = (omega arith, omega (arith, h), later)
     by None later = rise_later k (suc k) below (parts_from (suc k) rs) (omega arith) later
+
+-- so do those of the modules that need boxes
+pub needs_rise : (w : World) → Rise 1 (1 + length w.records) (needs w)
+needs_rise w = rise_filter (λ (p : Part). among p.id (unstarted w)) 1 (1 + length w.records) (parts_from 1 w.records) (parts_rise 1 (1 + length w.records) w.records (omega arith))
 
 -- those after an id are those of the records that are left after as many
 left_behind : (k n id : ℕ) (rs : List Record) → id ≡ k + n → behind id (parts_from (suc k) rs) ≡ slice_get (parts_from (suc id) (drop n rs)) 0

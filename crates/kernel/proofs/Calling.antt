@@ -9,16 +9,19 @@ use Rattle.module_api.specs.Behaviour.{Behaviour, Replied}
 use Rattle.module_api.specs.Meaning.{Module, IsOfKind}
 use Rattle.model_questions.specs.Answers.{Answers}
 use Rattle.run_semantics.specs.declared.occasions.Occasion.{Occasion}
+use Rattle.run_semantics.specs.declared.occasions.Occasion.TheVariants as occasion
 use Rattle.run_semantics.specs.declared.outcome.EventFlow.{EventFlow}
 use Rattle.run_semantics.specs.declared.traces.Instance.{Instance}
 use Rattle.run_semantics.specs.World.{World}
-use Rattle.run_semantics.specs.Perform.{Flow, On, flow_of, act, answered}
-use Rattle.run_semantics.specs.Event.{call_of, instance_in, with_state, changed, replied, called, calling, call_at}
+use Rattle.run_semantics.specs.Perform.{Flow, On, flow_of, act, is_allowed}
+use Rattle.run_semantics.specs.Event.{call_of, instance_in, with_state, changed, replied, called, calling}
 use Rattle.run_semantics.specs.Run.{standing}
-use Rattle.run_semantics.proofs.Sound.{in_flow, in_flow-of, Keeps, act_keeps}
+use Rattle.run_semantics.proofs.Sound.{in_flow, in_flow-of, EachKeeps, Keeps, act_keeps, call_last_keeps, deed_keeps, either_keeps, keeps_same, last_keeps, perform_keeps}
 use Rattle.kernel_boxes.specs.Seats.{BoxAt, instance_of, module_in, AreOfKinds, AreKept}
 use Rattle.kernel_boxes.proofs.Keeping.{kind_same, kind_in, kinds_with, standing_with, states_with}
 use Rattle.kernel_actions.specs.Positions.{IsGrownFrom}
+use Rattle.run_semantics.specs.Finishing.{call_last}
+use Rattle.kernel.specs.Calls.{answered_at, call_at, done_at}
 use Rattle.kernel.specs.Seats.{world_of, IsCalled, IsServed}
 use Rattle.kernel.proofs.Apart.{with_modules}
 
@@ -44,6 +47,7 @@ boxed_grows v w old new g = record {
   dead = g.dead;
   started = g.started;
   finished = g.finished;
+  changes = g.changes;
   emissions = g.emissions;
   scalars = g.scalars;
   questions = g.questions;
@@ -106,12 +110,20 @@ calling_none : (b : Behaviour) (m : Answers) (follow : Reply → World → Flow)
 calling_none b m follow id p core old new h = ap (λ (ss : List BoxAt). On (world_of core ss)) h.1 ∙ none_called b m follow id p (world_of core old) old h.0
 
 pub called_is : (b : Behaviour) (m : Answers) (o : Occasion) (id : ℕ) (p : CallReason) (core left : World) (old new : List BoxAt) (reply : Reply) (turn : EventFlow) → AreOfKinds b old → IsCalled id old new (call_of m id p core) (Ok reply)
-    → flow_of turn left ≡ answered b m o id reply (world_of core new) → flow_of turn left ≡ call_at b m o id p (world_of core old)
-called_is b m o id p core left old new reply turn kinds s e = calling_is b m (answered b m o id) id p core left old new reply turn kinds s e
+    → flow_of turn left ≡ answered_at b m o id reply (world_of core new) → flow_of turn left ≡ call_at b m o id p (world_of core old)
+called_is b m o id p core left old new reply turn kinds s e = calling_is b m (answered_at b m o id) id p core left old new reply turn kinds s e
 
 pub passed_over : (b : Behaviour) (m : Answers) (o : Occasion) (id : ℕ) (p : CallReason) (core : World) (old new : List BoxAt) → (module_in id old ≡ None) × (new ≡ old) → On (world_of core new) ≡ call_at b m o id p (world_of core old)
-passed_over b m o id p core old new h = calling_none b m (answered b m o id) id p core old new h
+passed_over b m o id p core old new h = calling_none b m (answered_at b m o id) id p core old new h
 
 -- an action inserts one event at most, by what the code says of it
-pub act_next : (b : Behaviour) (m : Answers) (o : Occasion) (id : ℕ) (action : Action) (turn : EventFlow) (w v : World) → flow_of turn v ≡ act b m o id action w → v.next ≤ w.next + 1
-act_next b m o id action turn w v e = (subst (Keeps 1 w) (ap in_flow (sym e) ∙ in_flow-of turn v) (act_keeps b m o id action w)).next
+each_keeps : (b : Behaviour) (m : Answers) (o : Occasion) (id : ℕ) → EachKeeps 1 o id (done_at b m o id)
+each_keeps b m occasion.Event id action w = perform_keeps b m id action w
+each_keeps b m occasion.End id action w = either_keeps 1 (is_allowed occasion.End action) _ _ w (deed_keeps id action w) (λ e. keeps_same 1 w)
+
+pub act_next : (b : Behaviour) (m : Answers) (o : Occasion) (id : ℕ) (action : Action) (turn : EventFlow) (w v : World) → flow_of turn v ≡ act (done_at b m o id) o id action w → v.next ≤ w.next + 1
+act_next b m o id action turn w v e = (subst (Keeps 1 w) (ap in_flow (sym e) ∙ in_flow-of turn v) (act_keeps 1 o id (done_at b m o id) (each_keeps b m o id) action w)).next
+
+-- a call for the end inserts nothing
+pub last_leaves : (b : Behaviour) (m : Answers) (id : ℕ) (turn : EventFlow) (w v : World) → flow_of turn v ≡ call_last b m occasion.End id w → Keeps 0 w v
+last_leaves b m id turn w v e = subst (Keeps 0 w) (ap in_flow (sym e) ∙ in_flow-of turn v) (call_last_keeps b m occasion.End id w (last_keeps id))

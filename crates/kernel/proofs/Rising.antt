@@ -1,6 +1,7 @@
 -- Parts by rising ids, and those that are left from an id on.
 use Rattle.std.proofs.Common.{◌≡◌, ℕ, suc, ◌+◌, ◌≤◌, ◌<◌, ◌==◌, nat_lt, Bool, true, false, cond, List, [], ◌∷◌, Option, Some, None, option_map, refl, sym, ap, ◌∙◌, arith, map, eqb-true, if◌then◌else◌}
 use Rattle.std.proofs.lemmas.Bool.Decides.{nat_tests}
+use Rattle.std.specs.List.{filter}
 use Rattle.module_api.specs.Meaning.{Module}
 use Rattle.module_tree.specs.Boxes.{Seated, AreRising}
 use Rattle.run_semantics.specs.Run.{Part, standing}
@@ -17,6 +18,20 @@ Rise from below (p ∷ ps) = (from ≤ p.id) × (p.id < below) × Rise (suc p.id
 abbrev pub parts_left : ℕ → List Part → List Part
 parts_left n [] = []
 parts_left n (p ∷ ps) = if nat_lt p.id n then parts_left n ps else p ∷ ps
+
+-- they rise from a smaller number on too
+pub rise_later : (k from below : ℕ) (ps : List Part) → k ≤ from → Rise from below ps → Rise k below ps
+rise_later k from below [] h r = tt
+rise_later k from below (p ∷ ps) h r = (omega (arith, h, r.0), r.1, r.2)
+
+-- so do those of them that pass a test
+pub rise_filter : (f : Part → Bool) (from below : ℕ) (ps : List Part) → Rise from below ps → Rise from below (filter f ps)
+rise_filter f from below [] r = tt
+rise_filter f from below (p ∷ ps) r = by (f p) (rise_filter f (suc p.id) below ps r.2)
+  where
+    by : (t : Bool) → Rise (suc p.id) below (filter f ps) → Rise from below (cond t (p ∷ filter f ps) (filter f ps))
+    by true later = (r.0, r.1, later)
+    by false later = let first = r.0 in rise_later from (suc p.id) below (filter f ps) (omega (arith, first)) later
 
 -- the parts of a tree's boxes rise
 pub boxes_rise : {A : Type 0} (means : A → Module) (from below : ℕ) (ss : List (Seated A)) → AreRising from below ss → Rise from below (standing (map instance_of (map (seat means) ss)))

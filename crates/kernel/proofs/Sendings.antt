@@ -1,4 +1,4 @@
--- Sendings neither read nor change modules.
+-- Sendings, and gates that are joined and freed, neither read nor change modules.
 use Rattle.std.proofs.Common.{◌≡◌, ℕ, zero, suc, List, [], refl, sym, ap, ◌∙◌, Option, Some, None, Result, Ok, Err}
 use Rattle.channels.specs.declared.travels.ChannelFault.{ChannelFault}
 use Rattle.channels.specs.declared.travels.Travel.{Travel}
@@ -6,9 +6,10 @@ use Rattle.channels.specs.declared.travels.Travel.TheVariants.{Arrival, Lost}
 use Rattle.channels.specs.Travel.{travel}
 use Rattle.module_api.specs.declared.message.Outgoing.{Outgoing}
 use Rattle.module_api.specs.declared.reply.Action.{Action}
-use Rattle.module_api.specs.declared.reply.Action.TheVariants.{Emit, RecordScalar, Send, SendDelayed, SendDirect, ScheduleAt, ScheduleAfter, Cancel, Fail}
+use Rattle.module_api.specs.declared.reply.Action.TheVariants.{Emit, RecordScalar, Send, SendDelayed, SendDirect, ScheduleAt, ScheduleAfter, Cancel, Connect, Disconnect, End, Fail}
 use Rattle.module_api.specs.declared.reply.Flight.{Flight}
 use Rattle.module_api.specs.declared.reply.GatePlace.{GatePlace}
+use Rattle.module_api.specs.declared.reply.Link.{Link}
 use Rattle.module_api.specs.declared.reply.OwnGate.{OwnGate}
 use Rattle.module_api.specs.Behaviour.{Behaviour}
 use Rattle.model_questions.specs.declared.answer.Answer.{Answer}
@@ -16,18 +17,27 @@ use Rattle.model_questions.specs.declared.answer.Question.{Question}
 use Rattle.model_questions.specs.declared.answer.Question.TheVariants.{GateSize, Hop, HopBack}
 use Rattle.model_questions.specs.Answers.{Answers, answer_of}
 use Rattle.run_semantics.specs.declared.outcome.EventFlow.{EventFlow}
+use Rattle.run_semantics.specs.declared.routes.GateChange.{GateChange}
 use Rattle.run_semantics.specs.declared.routes.NextHop.{NextHop}
 use Rattle.run_semantics.specs.declared.routes.PassedHop.{PassedHop}
 use Rattle.run_semantics.specs.declared.routes.PlacedGate.{PlacedGate}
 use Rattle.run_semantics.specs.declared.traces.Instance.{Instance}
-use Rattle.run_semantics.specs.Routes.{arriving, busy_of, channels_of, hop_by, is_connected, is_in_gate, is_out_gate, is_simple, module_at, transmission_gate, transmitting}
+use Rattle.run_semantics.specs.Routes.{arriving, busy_of, change_of, channels_of, hop_by, if_live, is_in_gate, is_out_gate, is_simple, is_taken, module_at, transmission_gate, transmitting}
 use Rattle.run_semantics.specs.World.{World, asked}
-use Rattle.run_semantics.specs.Perform.{Flow, On, flow_of, deed, perform, next_hop, past_last, with_hop, after_hop, chain, most_hops, travelled, sent_over, sent, entering, flight_end, entered, sent_into, sent_to, sent_direct}
+use Rattle.run_semantics.specs.Perform.{Flow, On, flow_of, deed, perform, hop_after, next_hop, past_last, with_hop, after_hop, chain, most_hops, travelled, sent_over, sent, entering, flight_end, entered, sent_into, sent_to, sent_direct}
+use Rattle.run_semantics.specs.Joining.{connected, disconnected, freed, freed_at, gate_at, joined, joined_at, joined_free, joined_from, joined_into, joined_to}
 use Rattle.kernel.proofs.Apart.{with_modules, flow_with, flow_of_with, either_apart}
 
 module _ (ms : List Instance) (m : Answers) (id : ℕ) where
   next_apart : (g : PlacedGate) (k : Option NextHop → World → Flow) (w : World) → ((o : Option NextHop) (v : World) → k o (with_modules ms v) ≡ flow_with ms (k o v)) → next_hop m g k (with_modules ms w) ≡ flow_with ms (next_hop m g k w)
-  next_apart g k w h = let q : Question = Hop g.id g.name g.index in h (hop_by w.records g.id (answer_of m w.records q)) (asked q w)
+  next_apart g k w h = by (change_of g w.changes)
+    where
+      q : Question
+      q = Hop g.id g.name g.index
+
+      by : (c : Option GateChange) → hop_after m g k (with_modules ms w) c ≡ flow_with ms (hop_after m g k w c)
+      by (Some c) = h (if_live w c.to) w
+      by None = h (if_live (asked q w) (hop_by w.records g.id (answer_of m w.records q))) (asked q w)
 
   past_apart : (o : Option NextHop) (v : World) → past_last id o (with_modules ms v) ≡ flow_with ms (past_last id o v)
   past_apart None v = refl
@@ -74,7 +84,7 @@ module _ (ms : List Instance) (m : Answers) (id : ℕ) where
   entering_apart message g (Some time) w = either_apart ms (is_simple w.records g.id) _ _ _ _ refl (on_apart g message (Some time) w)
 
   entered_apart : (g : PlacedGate) (message : Outgoing) (flight : Flight) (a : Answer) (w : World) → entered m id g message flight a (with_modules ms w) ≡ flow_with ms (entered m id g message flight a w)
-  entered_apart g message flight a w = either_apart ms (is_connected a) _ _ _ _ refl (entering_apart message g (flight_end w.clock flight) w)
+  entered_apart g message flight a w = either_apart ms (is_taken g a w) _ _ _ _ refl (entering_apart message g (flight_end w.clock flight) w)
 
   into_apart : (g : PlacedGate) (message : Outgoing) (flight : Flight) (a : Answer) (w : World) → sent_into m id g message flight a (with_modules ms w) ≡ flow_with ms (sent_into m id g message flight a w)
   into_apart g message flight a w =
@@ -90,6 +100,50 @@ module _ (ms : List Instance) (m : Answers) (id : ℕ) where
   direct_apart : (place : GatePlace) (message : Outgoing) (flight : Flight) (w : World) → sent_direct m id place message flight (with_modules ms w) ≡ flow_with ms (sent_direct m id place message flight w)
   direct_apart place message flight w = to_apart place message flight w (module_at place.path w)
 
+  -- ---- gates that are joined and freed
+
+  joined_apart : (g h : PlacedGate) (link : Option Link) (a : Answer) (w : World) → joined id g h link a (with_modules ms w) ≡ flow_with ms (joined id g h link a w)
+  joined_apart g h link a w = either_apart ms (is_taken h a w) _ _ _ _ refl refl
+
+  free_apart : (g h : PlacedGate) (link : Option Link) (o : Option NextHop) (w : World) → joined_free m id g h link o (with_modules ms w) ≡ flow_with ms (joined_free m id g h link o w)
+  free_apart g h link None w = let q : Question = HopBack h.id h.name h.index in joined_apart g h link (answer_of m w.records q) (asked q w)
+  free_apart g h link (Some hop) w = refl
+
+  join_into_apart : (g h : PlacedGate) (link : Option Link) (a : Answer) (w : World) → joined_into m id g h link a (with_modules ms w) ≡ flow_with ms (joined_into m id g h link a w)
+  join_into_apart g h link a w = either_apart ms (is_in_gate a h.index) _ _ _ _ (next_apart g (joined_free m id g h link) w (free_apart g h link)) refl
+
+  join_from_apart : (g h : PlacedGate) (link : Option Link) (a : Answer) (w : World) → joined_from m id g h link a (with_modules ms w) ≡ flow_with ms (joined_from m id g h link a w)
+  join_from_apart g h link a w =
+      let q : Question = GateSize h.id h.name in
+      either_apart ms (is_out_gate a g.index) _ _ _ _ (join_into_apart g h link (answer_of m w.records q) (asked q w)) refl
+
+  join_to_apart : (from to : GatePlace) (link : Option Link) (source : ℕ) (w : World) (found : Option ℕ) → joined_to m id from to link source (with_modules ms w) found ≡ flow_with ms (joined_to m id from to link source w found)
+  join_to_apart from to link source w None = refl
+  join_to_apart from to link source w (Some target) =
+      let q : Question = GateSize source from.name in
+      join_from_apart (gate_at source from) (gate_at target to) link (answer_of m w.records q) (asked q w)
+
+  join_at_apart : (from to : GatePlace) (link : Option Link) (w : World) (found : Option ℕ) → joined_at m id from to link (with_modules ms w) found ≡ flow_with ms (joined_at m id from to link w found)
+  join_at_apart from to link w None = refl
+  join_at_apart from to link w (Some source) = join_to_apart from to link source w (module_at to.path w)
+
+  connected_apart : (from to : GatePlace) (link : Option Link) (w : World) → connected m id from to link (with_modules ms w) ≡ flow_with ms (connected m id from to link w)
+  connected_apart from to link w = join_at_apart from to link w (module_at from.path w)
+
+  freed_apart : (g : PlacedGate) (o : Option NextHop) (w : World) → freed id g o (with_modules ms w) ≡ flow_with ms (freed id g o w)
+  freed_apart g None w = refl
+  freed_apart g (Some hop) w = refl
+
+  free_at_apart : (place : GatePlace) (w : World) (found : Option ℕ) → freed_at m id place (with_modules ms w) found ≡ flow_with ms (freed_at m id place w found)
+  free_at_apart place w None = refl
+  free_at_apart place w (Some source) =
+      let q : Question = GateSize source place.name in
+      let g : PlacedGate = gate_at source place in
+      either_apart ms (is_out_gate (answer_of m w.records q) g.index) _ _ _ _ (next_apart g (freed id g) (asked q w) (freed_apart g)) refl
+
+  disconnected_apart : (place : GatePlace) (w : World) → disconnected m id place (with_modules ms w) ≡ flow_with ms (disconnected m id place w)
+  disconnected_apart place w = free_at_apart place w (module_at place.path w)
+
 -- ---- what the code of a core does to the world with these modules
 
 flow_is : (ms : List Instance) (turn : EventFlow) (core' : World) (f g : Flow) → flow_of turn core' ≡ f → g ≡ flow_with ms f → flow_of turn (with_modules ms core') ≡ g
@@ -101,14 +155,23 @@ sent_is ms m id gate message departure core core' turn e = flow_is ms turn core'
 pub direct_is : (ms : List Instance) (m : Answers) (id : ℕ) (place : GatePlace) (message : Outgoing) (flight : Flight) (core core' : World) (turn : EventFlow) → flow_of turn core' ≡ sent_direct m id place message flight core → flow_of turn (with_modules ms core') ≡ sent_direct m id place message flight (with_modules ms core)
 direct_is ms m id place message flight core core' turn e = flow_is ms turn core' _ _ e (direct_apart ms m id place message flight core)
 
--- what sends nothing is a deed
-pub other_is_deed : (b : Behaviour) (m : Answers) (id : ℕ) (action : Action) (w : World) → ((gate : OwnGate) (message : Outgoing) → action ≡ Send gate message → ⊥) → ((gate : OwnGate) (message : Outgoing) (delay : ℕ) → action ≡ SendDelayed gate message delay → ⊥) → ((place : GatePlace) (message : Outgoing) (flight : Flight) → action ≡ SendDirect place message flight → ⊥) → perform b m id action w ≡ deed id action w
-other_is_deed b m id (Emit signal value) w f g h = refl
-other_is_deed b m id (RecordScalar name value) w f g h = refl
-other_is_deed b m id (Send gate message) w f g h = absurd (f gate message refl)
-other_is_deed b m id (SendDelayed gate message delay) w f g h = absurd (g gate message delay refl)
-other_is_deed b m id (SendDirect place message flight) w f g h = absurd (h place message flight refl)
-other_is_deed b m id (ScheduleAt a) w f g h = refl
-other_is_deed b m id (ScheduleAfter s) w f g h = refl
-other_is_deed b m id (Cancel timer) w f g h = refl
-other_is_deed b m id (Fail text) w f g h = refl
+pub connected_is : (ms : List Instance) (m : Answers) (id : ℕ) (from to : GatePlace) (link : Option Link) (core core' : World) (turn : EventFlow) → flow_of turn core' ≡ connected m id from to link core → flow_of turn (with_modules ms core') ≡ connected m id from to link (with_modules ms core)
+connected_is ms m id from to link core core' turn e = flow_is ms turn core' _ _ e (connected_apart ms m id from to link core)
+
+pub disconnected_is : (ms : List Instance) (m : Answers) (id : ℕ) (place : GatePlace) (core core' : World) (turn : EventFlow) → flow_of turn core' ≡ disconnected m id place core → flow_of turn (with_modules ms core') ≡ disconnected m id place (with_modules ms core)
+disconnected_is ms m id place core core' turn e = flow_is ms turn core' _ _ e (disconnected_apart ms m id place core)
+
+-- what neither sends, joins nor frees is a deed
+pub other_is_deed : (b : Behaviour) (m : Answers) (id : ℕ) (action : Action) (w : World) → ((gate : OwnGate) (message : Outgoing) → action ≡ Send gate message → ⊥) → ((gate : OwnGate) (message : Outgoing) (delay : ℕ) → action ≡ SendDelayed gate message delay → ⊥) → ((place : GatePlace) (message : Outgoing) (flight : Flight) → action ≡ SendDirect place message flight → ⊥) → ((from to : GatePlace) (link : Option Link) → action ≡ Connect from to link → ⊥) → ((place : GatePlace) → action ≡ Disconnect place → ⊥) → perform b m id action w ≡ deed id action w
+other_is_deed b m id (Emit signal value) w f g h i j = refl
+other_is_deed b m id (RecordScalar name value) w f g h i j = refl
+other_is_deed b m id (Send gate message) w f g h i j = absurd (f gate message refl)
+other_is_deed b m id (SendDelayed gate message delay) w f g h i j = absurd (g gate message delay refl)
+other_is_deed b m id (SendDirect place message flight) w f g h i j = absurd (h place message flight refl)
+other_is_deed b m id (ScheduleAt a) w f g h i j = refl
+other_is_deed b m id (ScheduleAfter s) w f g h i j = refl
+other_is_deed b m id (Cancel timer) w f g h i j = refl
+other_is_deed b m id (Connect from to link) w f g h i j = absurd (i from to link refl)
+other_is_deed b m id (Disconnect place) w f g h i j = absurd (j place refl)
+other_is_deed b m id End w f g h i j = refl
+other_is_deed b m id (Fail text) w f g h i j = refl

@@ -7,14 +7,14 @@ use Rattle.model_questions.specs.Answers.{Answers}
 use Rattle.model_questions.specs.declared.record.Record.{Record}
 use Rattle.run_semantics.specs.declared.occasions.Occasion.{Occasion}
 use Rattle.run_semantics.specs.declared.outcome.EventFlow.{EventFlow}
-use Rattle.run_semantics.specs.Event.{call_of, call_at}
+use Rattle.run_semantics.specs.Event.{call_of}
 use Rattle.run_semantics.specs.Perform.{flow_of}
 use Rattle.run_semantics.specs.World.{World}
 use Rattle.kernel_call_views.specs.declared.CallView.{CallView}
 use Rattle.kernel_call_views.specs.declared.CallViews.{CallViews}
 use Rattle.kernel_call_views.specs.Tables.{shown_of, AreShown, IsShown}
 use Rattle.kernel_call_views.proofs.Showing.{shown_on}
-use Rattle.kernel.specs.Calls.{call_with}
+use Rattle.kernel.specs.Calls.{call_at, call_with}
 use Rattle.kernel_actions.specs.Positions.{IsGrownFrom}
 
 -- a call says itself of which module it is, and what for

@@ -9,11 +9,13 @@ use Rattle.run_semantics.specs.declared.outcome.EventFlow.{EventFlow}
 use Rattle.run_semantics.specs.declared.outcome.EventFlow.TheVariants.{GoOn, Stop, Break}
 use Rattle.run_semantics.specs.declared.traces.Instance.{Instance}
 use Rattle.run_semantics.specs.World.{World}
-use Rattle.run_semantics.specs.Perform.{Flow, On, ◌>>=◌, flow_of, for_each}
+use Rattle.run_semantics.specs.Perform.{Flow, On, Stopped, Broken, ◌>>=◌, flow_of, for_each}
 use Rattle.run_semantics.specs.Event.{call_module, instance_in}
-use Rattle.run_semantics.specs.Run.{stages_in, most_stages, initialize, one_stage, stages_from}
+use Rattle.run_semantics.specs.Run.{Part, first_unknown, placed, prepared, settled, stages_in, most_stages, initialize, one_stage, stages_from, start, start_all, started, unless_unknown, unstarted, with_started}
+use Rattle.run_semantics.specs.Subtree.{outer_first}
 use Rattle.kernel_boxes.specs.Seats.{BoxAt, instance_of, module_in, AreOfKinds}
-use Rattle.kernel.specs.Seats.{stages_of}
+use Rattle.kernel.specs.Seats.{needs, stages_of}
+use Rattle.kernel.specs.Setups.{boxed, ready}
 
 -- ---- stages
 
@@ -119,3 +121,29 @@ stages_on b m ids stage most w fl whole lt step done =
     ap (λ (f : Flow). f >>= stages_from b m ids (stage + 1) (most - (stage + 1))) step
     ∙ sym (stages_step b m ids stage most w lt)
     ∙ done
+
+-- ---- the start of a network
+
+-- where all is ready its modules are started
+pub started_as : (b : Behaviour) (m : Answers) (v : World) → On v ≡ ready b m → settled (started b m (unstarted v) (outer_first v.records (unstarted v) 1) v) ≡ start b m
+started_as b m v e = by (prepared m) e
+  where
+    with_boxes : (w : World) (o : Option Part) → On v ≡ unless_unknown b (needs w) w o
+        → settled (started b m (unstarted v) (outer_first v.records (unstarted v) 1) v) ≡ settled (unless_unknown b (needs w) w o >>= started b m (unstarted w) (outer_first w.records (unstarted w) 1))
+    with_boxes w None h = let same : v ≡ placed b (needs w) w = cc in ap (λ (u : World). settled (started b m (unstarted u) (outer_first u.records (unstarted u) 1) u)) same
+    with_boxes w (Some p) h = cc
+
+    by : (fl : Flow) → On v ≡ (fl >>= boxed b) → settled (started b m (unstarted v) (outer_first v.records (unstarted v) 1) v) ≡ settled (fl >>= start_all b m)
+    by (On w) h = with_boxes w (first_unknown b (needs w)) h
+    by (Stopped w) h = cc
+    by (Broken w path f) h = cc
+
+-- its calls, by what is known of their order and their stages
+pub started_is : (b : Behaviour) (m : Answers) (v u : World) (ids calls xs ys zs : List ℕ) (most : ℕ) (fl : Flow) → fl ≡ stages_from b m ys 0 most u → u ≡ with_started ids v → most ≡ most_stages b v.modules xs → xs ≡ calls → ys ≡ calls
+    → calls ≡ outer_first v.records zs 1 → zs ≡ ids → ids ≡ unstarted v → fl ≡ started b m (unstarted v) (outer_first v.records (unstarted v) 1) v
+started_is b m v u ids calls xs ys zs most fl e marked stages one two order same fresh =
+    let all : calls ≡ outer_first v.records (unstarted v) 1 = order ∙ ap (λ is. outer_first v.records is 1) (same ∙ fresh) in
+    e
+    ∙ ap (λ is. stages_from b m is 0 most u) (two ∙ all)
+    ∙ ap (λ n. stages_from b m (outer_first v.records (unstarted v) 1) 0 n u) (stages ∙ ap (most_stages b v.modules) (one ∙ all))
+    ∙ ap (stages_from b m (outer_first v.records (unstarted v) 1) 0 (most_stages b v.modules (outer_first v.records (unstarted v) 1))) (marked ∙ ap (λ is. with_started is v) fresh)

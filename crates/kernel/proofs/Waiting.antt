@@ -1,5 +1,5 @@
 -- Boxes that wait for the start of their modules.
-use Rattle.std.proofs.Common.{◌≡◌, ℕ, zero, suc, ◌+◌, ◌≤◌, ◌<◌, ◌==◌, ◌||◌, Bool, true, false, cond, List, [], ◌∷◌, ◌++◌, Option, Some, None, refl, sym, ap, ◌∙◌, arith, subst, append_assoc, append-nil, length, map, slice_get, take, eq-eqb, if◌then◌else◌}
+use Rattle.std.proofs.Common.{◌≡◌, ℕ, zero, suc, ◌+◌, ◌≤◌, ◌<◌, ◌==◌, ◌||◌, nat_lt, Bool, true, false, cond, List, [], ◌∷◌, ◌++◌, Option, Some, None, refl, sym, ap, ◌∙◌, arith, subst, append_assoc, append-nil, length, map, slice_get, take, eq-eqb, if◌then◌else◌}
 use Rattle.std.proofs.lemmas.Bool.Decides.{nat_tests}
 use Rattle.std.specs.List.{list_any}
 use Rattle.module_api.specs.Behaviour.{Behaviour}
@@ -8,9 +8,10 @@ use Rattle.model_questions.specs.Answers.{Answers}
 use Rattle.run_semantics.specs.declared.traces.Instance.{Instance}
 use Rattle.run_semantics.specs.World.{World}
 use Rattle.run_semantics.specs.Perform.{Flow, On, ◌>>=◌}
-use Rattle.run_semantics.specs.Run.{Part, fresh, first_unknown, needs, place_parts, placed, prepared, ready, standing, unless_unknown}
+use Rattle.run_semantics.specs.Run.{Part, fresh, first_unknown, placed, prepared, standing, unless_unknown, with_instance, with_instances}
 use Rattle.kernel_boxes.specs.Seats.{BoxAt, instance_of, AreOfKinds}
-use Rattle.kernel.specs.Seats.{AreFresh, world_of}
+use Rattle.kernel.specs.Seats.{AreFresh, needs, world_of}
+use Rattle.kernel.specs.Setups.{boxed, ready}
 use Rattle.kernel_boxes.specs.Staying.{first_without, is_held}
 use Rattle.kernel.proofs.Rising.{Rise}
 
@@ -52,14 +53,27 @@ fresh_known b [] (s ∷ ss) h = absurd h
 fresh_known b (p ∷ ps) [] h = absurd h
 fresh_known b (p ∷ ps) (s ∷ ss) h = let known : b.known p.kind ≡ true = ap b.known (sym h.1.kind) ∙ h.1.of_kind.known in rw known (fresh_known b ps ss h.2)
 
+-- modules by rising ids, where none stood, stand in their order
+pub alone : (b : Behaviour) (from below : ℕ) (ps : List Part) → Rise from below ps → with_instances (map (fresh b) ps) [] ≡ map (fresh b) ps
+alone b from below [] r = refl
+alone b from below (p ∷ ps) r = ap (with_instance (fresh b p)) (alone b (suc p.id) below ps r.2) ∙ first_of ps r.2
+  where
+    less : (m n : ℕ) → m < n → nat_lt m n ≡ true
+    less m n h = grind (arith, nat_tests)
+
+    first_of : (qs : List Part) → Rise (suc p.id) below qs → with_instance (fresh b p) (map (fresh b) qs) ≡ fresh b p ∷ map (fresh b) qs
+    first_of [] h = refl
+    first_of (q ∷ qs) h = rw (less p.id q.id (omega (arith, h.0))) refl
+
 -- THE START BEGINS where the modules of a network that was set up have their boxes
-pub fresh_ready : (b : Behaviour) (m : Answers) (w : World) (old ss : List BoxAt) → map instance_of old ≡ [] → On (world_of w old) ≡ prepared m → AreFresh b (needs (world_of w old)) ss → On (world_of w ss) ≡ ready b m
-fresh_ready b m w old ss none e h =
+pub fresh_ready : (b : Behaviour) (m : Answers) (w : World) (old ss : List BoxAt) (below : ℕ) → map instance_of old ≡ [] → Rise 1 below (needs (world_of w old)) → On (world_of w old) ≡ prepared m → AreFresh b (needs (world_of w old)) ss → On (world_of w ss) ≡ ready b m
+fresh_ready b m w old ss below none rise e h =
     let v : World = world_of w old in
     ap (λ is. On (record w { modules = is })) (fresh_instances b (needs v) ss h)
-    ∙ sym (ap (λ is. On (record w { modules = is ++ map (fresh b) (needs v) })) none)
+    ∙ sym (ap (λ is. On (record w { modules = is })) (alone b 1 below (needs v) rise))
+    ∙ sym (ap (λ is. On (record w { modules = with_instances (map (fresh b) (needs v)) is })) none)
     ∙ sym (ap (unless_unknown b (needs v) v) (fresh_known b (needs v) ss h))
-    ∙ ap (λ (fl : Flow). fl >>= place_parts b) e
+    ∙ ap (λ (fl : Flow). fl >>= boxed b) e
 
 -- where no module stands there is no box
 pub no_seats : (ss : List BoxAt) → map instance_of ss ≡ [] → ss ≡ []

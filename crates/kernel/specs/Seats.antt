@@ -10,7 +10,7 @@ use Rattle.model_questions.specs.declared.record.Record.{Record}
 use Rattle.model_questions.specs.Records.{path_of}
 use Rattle.run_semantics.specs.World.{World}
 use Rattle.run_semantics.specs.declared.traces.Instance.{Instance}
-use Rattle.run_semantics.specs.Run.{Part, needs, parts_of, standing}
+use Rattle.run_semantics.specs.Run.{Part, needs_of, parts_of, standing, unstarted}
 use Rattle.kernel_boxes.specs.Seats.{BoxAt, instance_of, module_in, with_module}
 use Rattle.kernel_boxes.specs.Staying.{first_without, staying}
 use Rattle.kernel.specs.declared.request.Request.{Request}
@@ -47,6 +47,11 @@ stages_of (Some box) = Some box.naming.stages
 -- what is asked for: a box for this simple module
 abbrev pub request_for : World → Part → Request
 request_for w p = record { kind = p.kind; path = path_of w.records p.id; id = p.id }
+
+-- THE MODULES THAT NEED A BOX for the start of the network, by rising id: the simple ones that live
+-- and were not started
+abbrev pub needs : World → List Part
+needs w = needs_of (unstarted w) w
 
 -- THE BOX THAT IS WANTED where there are these: for the first of the modules that need one and have
 -- none

@@ -6,20 +6,23 @@ ghost use Rattle.module_api.specs.Meaning.{Answered, IsSameModule};
 ghost use Rattle.module_tree.specs.Boxes.{nothing};
 ghost use Rattle.run_question_log.specs.Entries.{noted_in};
 ghost use Rattle.run_semantics.specs.World.{empty, HasRoom};
-ghost use Rattle.run_semantics.specs.Perform.{flow_of, On, perform, act, act_all, acted, answered};
-ghost use Rattle.run_semantics.specs.Event.{call_at, call_of, instance_in, with_state};
+ghost use Rattle.run_semantics.specs.Perform.{flow_of, On, perform, act, act_all, acted};
+ghost use Rattle.run_semantics.specs.Event.{call_of, instance_in, with_state};
+ghost use Rattle.run_semantics.specs.declared.occasions.Occasion.TheVariants as occasions;
 ghost use Rattle.model_questions.specs.Answers.{parameters_of};
 ghost use Rattle.run_semantics.specs.Upcoming.{target_of, upcoming};
 ghost use Rattle.kernel_call_views.specs.Tables.{AreShown};
 ghost use Rattle.kernel_actions.specs.Upcoming.{looked, upcoming_of};
 ghost use Rattle.kernel.specs.Looks.{LooksOn};
-ghost use Rattle.run_semantics.specs.Run.{Running, Part, stage_of, standing, needs, settled};
-ghost use Rattle.run_semantics.specs.Run.{prepared, ready, parts_from, initialize, most_stages};
+ghost use Rattle.run_semantics.specs.Run.{Running, Part, stage_of, standing, settled};
+ghost use Rattle.run_semantics.specs.Run.{prepared, parts_from, initialize, most_stages};
 ghost use Rattle.run_semantics.specs.Run.{one_stage, stages_from, stages_in, start, next_stage};
 ghost use Rattle.run_semantics.specs.Run.{stopped};
 ghost use Rattle.run_semantics.specs.Ending.{call_last, finish, finish_all, ending};
 ghost use Rattle.kernel.specs.Seats.{stages_of, stands_at, AreFirst, AreFresh, IsServed};
-ghost use Rattle.kernel.specs.Seats.{IsUnstarted, lacking_of, missing_of, missing_part};
+ghost use Rattle.kernel.specs.Seats.{IsUnstarted, lacking_of, missing_of, missing_part, needs};
+ghost use Rattle.kernel.specs.Setups.{ready};
+ghost use Rattle.kernel.specs.Calls.{answered_at, call_at, done_at};
 ghost use Rattle.kernel.specs.Seats.{request_for};
 ghost use Rattle.kernel_actions.specs.Positions.{position_of, cut_to, world_back, IsGrownFrom};
 ghost use Rattle.kernel_actions.specs.Positions.{IsSameBesideModules};
@@ -39,6 +42,7 @@ use kernel_actions::position::Position;
 use kernel_boxes::boxes_saved::{load_one, save_all};
 use kernel_boxes::going_back::{drop_others, first_lacking};
 use kernel_call_views::{CallView, CallViews};
+use kernel_sending::joining::{connect, disconnect};
 use kernel_sending::sending::{send, send_direct};
 use model_questions::record::{Record, path_of};
 use module_api::call::{Call, CallReason};
@@ -266,7 +270,32 @@ impl<C: Catalogue> Kernel<C> {
             Action::SendDirect(place, message, flight) => {
                 send_direct(core, alloc, model, id, place, message, flight)
             }
+            Action::Connect(from, to, link) => connect(core, alloc, model, id, from, to, link),
+            Action::Disconnect(place) => disconnect(core, alloc, model, id, place),
             _ => core.deed(alloc, id, action),
+        }
+    }
+
+    /// One action of the module of that id, as it is done by what the module is called for.
+    #[tactic(auto, using(kernel_actions::proofs::Lasting::growth_same))]
+    fn do_at<A: Answers>(
+        &mut self,
+        alloc: Global,
+        model: &mut A,
+        occasion: Occasion,
+        id: u32,
+        action: &Action,
+    ) -> Result<EventFlow, NoMemory>
+        requires { (world_in SimpleModule-box self.old).next + 1 < 2 ^ 128 }
+        ensures boxes { self.new.boxes ≡ self.old.boxes }
+        ensures step { IfOk result (λ turn. flow_of turn (world_in SimpleModule-box self.new)
+            ≡ done_at C.behaviour A.answers occasion id action.now
+            (world_in SimpleModule-box self.old)) }
+        ensures grown { IsGrownFrom self.old.core self.new.core }
+    {
+        match occasion {
+            Occasion::Event => self.perform(alloc, model, id, action),
+            Occasion::End => self.core.deed(alloc, id, action),
         }
     }
 
@@ -283,7 +312,7 @@ impl<C: Catalogue> Kernel<C> {
         requires { (world_in SimpleModule-box self.old).next + 1 < 2 ^ 128 }
         ensures boxes { self.new.boxes ≡ self.old.boxes }
         ensures step { IfOk result (λ turn. flow_of turn (world_in SimpleModule-box self.new)
-            ≡ act C.behaviour A.answers occasion id action.now
+            ≡ act (done_at C.behaviour A.answers occasion id) occasion id action.now
             (world_in SimpleModule-box self.old)) }
         ensures grown { IsGrownFrom self.old.core self.new.core }
     {
@@ -293,7 +322,7 @@ impl<C: Catalogue> Kernel<C> {
         if !is_allowed(occasion, action) {
             return self.core.broken(alloc, id, RunFault::NotInFinish);
         }
-        self.perform(alloc, model, id, action)
+        self.do_at(alloc, model, occasion, id, action)
     }
 
     /// The actions of a reply, in order.
@@ -308,7 +337,7 @@ impl<C: Catalogue> Kernel<C> {
         requires { (world_in SimpleModule-box self.old).next + length actions.now < 2 ^ 128 }
         ensures boxes { self.new.boxes ≡ self.old.boxes }
         ensures step { IfOk result (λ turn. flow_of turn (world_in SimpleModule-box self.new)
-            ≡ act_all C.behaviour A.answers occasion id actions.now
+            ≡ act_all (done_at C.behaviour A.answers occasion id) occasion id actions.now
             (world_in SimpleModule-box self.old)) }
         ensures grown { IsGrownFrom self.old.core self.new.core }
     {
@@ -334,7 +363,7 @@ impl<C: Catalogue> Kernel<C> {
         requires { (world_in SimpleModule-box self.old).next + 1000 < 2 ^ 128 }
         ensures boxes { self.new.boxes ≡ self.old.boxes }
         ensures step { IfOk result (λ turn. flow_of turn (world_in SimpleModule-box self.new)
-            ≡ acted C.behaviour A.answers occasion id actions.now
+            ≡ acted (done_at C.behaviour A.answers occasion id) occasion id actions.now
             (world_in SimpleModule-box self.old)) }
         ensures grown { IsGrownFrom self.old.core self.new.core }
     {
@@ -360,7 +389,7 @@ impl<C: Catalogue> Kernel<C> {
             ≡ parameters_of A.answers self.old.core.records call.now.id }
         ensures boxes { self.new.boxes ≡ self.old.boxes }
         ensures step { IfOk result (λ turn. flow_of turn (world_in SimpleModule-box self.new)
-            ≡ answered C.behaviour A.answers occasion call.now.id reply.now
+            ≡ answered_at C.behaviour A.answers occasion call.now.id reply.now
             (world_in SimpleModule-box self.old)) }
         ensures grown { IsGrownFrom self.old.core self.new.core }
     {
@@ -583,9 +612,10 @@ impl<C: Catalogue> Kernel<C> {
         ensures shown { let left = world_in SimpleModule-box self.new in
             OnOk result (AreShown A.answers left.records shown.new) }
     {
-        let calls = self.core.calls_of_network(alloc)?;
+        let ids = self.core.unstarted(alloc)?;
+        let calls = self.core.calls_of_network(alloc, ids.as_slice())?;
         let most = self.most_stages(calls.as_slice());
-        self.core.mark_started(alloc)?;
+        self.core.mark_started(ids)?;
         let turn = self.stages(alloc, model, shown, most, calls.as_slice())?;
         Ok(self.settle(turn))
     }
@@ -754,7 +784,7 @@ impl<C: Catalogue> Kernel<C> {
         ensures kept { KeepsBoxes C.behaviour SimpleModule-box self.old self.new }
         ensures step { let before = world_in SimpleModule-box self.old in
             IfOk result (λ turn. flow_of turn (world_in SimpleModule-box self.new)
-            ≡ call_last C.behaviour A.answers id before) }
+            ≡ call_last C.behaviour A.answers occasions.End id before) }
         ensures grown { IsGrownFrom (world_in SimpleModule-box self.old)
             (world_in SimpleModule-box self.new) }
         ensures shown { AreShown A.answers (world_in SimpleModule-box self.new).records shown.new }
@@ -782,7 +812,7 @@ impl<C: Catalogue> Kernel<C> {
             OnOk result ((world_in SimpleModule-box self.new).next ≤ before.next + 1000) }
         ensures step { let before = world_in SimpleModule-box self.old in
             IfOk result (λ turn. flow_of turn (world_in SimpleModule-box self.new)
-            ≡ finish C.behaviour A.answers id before) }
+            ≡ finish C.behaviour A.answers occasions.End id before) }
         ensures grown { IsGrownFrom (world_in SimpleModule-box self.old)
             (world_in SimpleModule-box self.new) }
         ensures shown { AreShown A.answers (world_in SimpleModule-box self.new).records shown.new }
@@ -809,7 +839,7 @@ impl<C: Catalogue> Kernel<C> {
         ensures kept { KeepsBoxes C.behaviour SimpleModule-box self.old self.new }
         ensures step { let before = world_in SimpleModule-box self.old in
             IfOk result (λ turn. flow_of turn (world_in SimpleModule-box self.new)
-            ≡ finish_all C.behaviour A.answers ids.now before) }
+            ≡ finish_all C.behaviour A.answers occasions.End ids.now before) }
         ensures grown { IsGrownFrom (world_in SimpleModule-box self.old)
             (world_in SimpleModule-box self.new) }
         ensures shown { AreShown A.answers (world_in SimpleModule-box self.new).records shown.new }

@@ -7,8 +7,8 @@ use Rattle.run_semantics.specs.Laws.{GoesOn}
 use Rattle.run_semantics.specs.Run.{Stage, Running, Over, world_at, after, stopped, run_to}
 use Rattle.run_semantics.specs.World.{World}
 use Rattle.run_semantics.proofs.Closing.{IsClosed, ending_closed}
-use Rattle.run_semantics.proofs.Grown.{alike_after, grown_after}
-use Rattle.run_semantics.proofs.Orderly.{finished_after, on_more}
+use Rattle.run_semantics.proofs.Grown.{grown_after}
+use Rattle.run_semantics.proofs.Orderly.{on_more}
 use Rattle.kernel_actions.specs.Positions.{IsGrownFrom}
 
 -- a list that stayed as it was
@@ -22,6 +22,7 @@ growth_on u v w f g = record {
   dead = on_more u.dead v.dead w.dead f.dead g.dead;
   started = on_more u.started v.started w.started f.started g.started;
   finished = on_more u.finished v.finished w.finished f.finished g.finished;
+  changes = on_more u.changes v.changes w.changes f.changes g.changes;
   emissions = on_more u.emissions v.emissions w.emissions f.emissions g.emissions;
   scalars = on_more u.scalars v.scalars w.scalars f.scalars g.scalars;
   questions = on_more u.questions v.questions w.questions f.questions g.questions;
@@ -30,19 +31,8 @@ growth_on u v w f g = record {
 -- A RUN OF MORE EVENTS
 pub run_grows : (b : Behaviour) (m : Answers) (n k : ℕ) → n ≤ k → IsGrownFrom (world_at (after b m n)) (world_at (after b m k))
 run_grows b m n k h =
-    let v : World = world_at (after b m n) in
-    let w : World = world_at (after b m k) in
     let g = grown_after b m n k h in
-    let same = alike_after b m n k h in
-    record {
-      records = g.records;
-      dead = g.dead;
-      started = stays v.started w.started same.1;
-      finished = stays v.finished w.finished (finished_after b m k ∙ sym (finished_after b m n));
-      emissions = g.emissions;
-      scalars = g.scalars;
-      questions = g.questions;
-    }
+    record { records = g.records; dead = g.dead; started = g.started; finished = g.finished; changes = g.changes; emissions = g.emissions; scalars = g.scalars; questions = g.questions }
 
 -- the end
 end_grows : (v w : World) → IsClosed v w → IsGrownFrom v w
@@ -51,6 +41,7 @@ end_grows v w c = record {
   dead = stays v.dead w.dead c.dead;
   started = stays v.started w.started c.started;
   finished = c.finished;
+  changes = stays v.changes w.changes c.changes;
   emissions = c.emissions;
   scalars = c.scalars;
   questions = stays v.questions w.questions c.questions;

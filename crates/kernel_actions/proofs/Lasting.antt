@@ -6,7 +6,7 @@ use Rattle.std.proofs.Math.Seq.{drop-cons}
 use Rattle.sim_values.specs.declared.NoMemory.{NoMemory}
 use Rattle.sim_time.specs.Time.{time_sum}
 use Rattle.module_api.specs.declared.reply.Action.{Action}
-use Rattle.module_api.specs.declared.reply.Action.TheVariants.{Emit, RecordScalar, Send, SendDelayed, SendDirect, ScheduleAt, ScheduleAfter, Cancel, Fail}
+use Rattle.module_api.specs.declared.reply.Action.TheVariants.{Emit, RecordScalar, Send, SendDelayed, SendDirect, ScheduleAt, ScheduleAfter, Cancel, Connect, Disconnect, End, Fail}
 use Rattle.module_api.specs.declared.reply.Appointment.{Appointment}
 use Rattle.module_api.specs.declared.reply.Schedule.{Schedule}
 use Rattle.module_api.specs.Names.{is_scalar_name}
@@ -29,6 +29,7 @@ growth_same w = record {
   dead = on_same w.dead;
   started = on_same w.started;
   finished = on_same w.finished;
+  changes = on_same w.changes;
   emissions = on_same w.emissions;
   scalars = on_same w.scalars;
   questions = on_same w.questions;
@@ -51,6 +52,7 @@ timer_grows id timer priority kind w time = either_grows w (has_timer id timer w
   dead = on_same w.dead;
   started = on_same w.started;
   finished = on_same w.finished;
+  changes = on_same w.changes;
   emissions = on_same w.emissions;
   scalars = on_same w.scalars;
   questions = on_same w.questions;
@@ -69,6 +71,7 @@ deed_grows id (Emit signal value) w = record {
   dead = on_same w.dead;
   started = on_same w.started;
   finished = on_same w.finished;
+  changes = on_same w.changes;
   emissions = (_, refl);
   scalars = on_same w.scalars;
   questions = on_same w.questions;
@@ -78,6 +81,7 @@ deed_grows id (RecordScalar name value) w = either_grows w (is_scalar_name name)
   dead = on_same w.dead;
   started = on_same w.started;
   finished = on_same w.finished;
+  changes = on_same w.changes;
   emissions = on_same w.emissions;
   scalars = (_, refl);
   questions = on_same w.questions;
@@ -89,11 +93,24 @@ deed_grows id (Cancel timer) w = record {
   dead = on_same w.dead;
   started = on_same w.started;
   finished = on_same w.finished;
+  changes = on_same w.changes;
   emissions = on_same w.emissions;
   scalars = on_same w.scalars;
   questions = on_same w.questions;
 }
 deed_grows id (Fail text) w = growth_same w
+deed_grows id End w = record {
+  records = on_same w.records;
+  dead = on_same w.dead;
+  started = on_same w.started;
+  finished = on_same w.finished;
+  changes = on_same w.changes;
+  emissions = on_same w.emissions;
+  scalars = on_same w.scalars;
+  questions = on_same w.questions;
+}
+deed_grows id (Connect from to link) w = growth_same w
+deed_grows id (Disconnect place) w = growth_same w
 deed_grows id (Send gate message) w = growth_same w
 deed_grows id (SendDelayed gate message delay) w = growth_same w
 deed_grows id (SendDirect place message flight) w = growth_same w
@@ -127,6 +144,7 @@ noted_grows qs w v e = subst (IsGrownFrom w) (sym e) (record {
   dead = on_same w.dead;
   started = on_same w.started;
   finished = on_same w.finished;
+  changes = on_same w.changes;
   emissions = on_same w.emissions;
   scalars = on_same w.scalars;
   questions = (qs, refl);

@@ -21,7 +21,7 @@ cut_twice (suc m) (suc n) (x ∷ xs) h = ap (λ ys. x ∷ ys) (cut_twice m n xs 
 -- did since
 pub back_when_grown : (old new : World) → IsGrownFrom old new → world_back (position_of old) new ≡ old
 back_when_grown old new g =
-    rw (cut_grown old.records new.records g.records, cut_grown old.dead new.dead g.dead, cut_grown old.started new.started g.started, cut_grown old.finished new.finished g.finished, cut_grown old.emissions new.emissions g.emissions, cut_grown old.scalars new.scalars g.scalars, cut_grown old.questions new.questions g.questions) refl
+    rw (cut_grown old.records new.records g.records, cut_grown old.dead new.dead g.dead, cut_grown old.started new.started g.started, cut_grown old.finished new.finished g.finished, cut_grown old.changes new.changes g.changes, cut_grown old.emissions new.emissions g.emissions, cut_grown old.scalars new.scalars g.scalars, cut_grown old.questions new.questions g.questions) refl
 
 same : (w : World) → IsGrownFrom w w
 same w = record {
@@ -29,6 +29,7 @@ same w = record {
   dead = ([], append-nil w.dead);
   started = ([], append-nil w.started);
   finished = ([], append-nil w.finished);
+  changes = ([], append-nil w.changes);
   emissions = ([], append-nil w.emissions);
   scalars = ([], append-nil w.scalars);
   questions = ([], append-nil w.questions);
@@ -41,12 +42,12 @@ back_to_taken w = back_when_grown w w (same w)
 -- A WORLD THAT WENT BACK can go back farther, as if it had not gone back before
 pub back_after_back : (p q : Position) (w : World) → AreWithin p.lengths q.lengths → world_back p (world_back q w) ≡ world_back p w
 back_after_back p q w h =
-    rw (cut_twice p.lengths.records q.lengths.records w.records h.records, cut_twice p.lengths.dead q.lengths.dead w.dead h.dead, cut_twice p.lengths.started q.lengths.started w.started h.started, cut_twice p.lengths.finished q.lengths.finished w.finished h.finished, cut_twice p.lengths.emissions q.lengths.emissions w.emissions h.emissions, cut_twice p.lengths.scalars q.lengths.scalars w.scalars h.scalars, cut_twice p.lengths.questions q.lengths.questions w.questions h.questions) refl
+    rw (cut_twice p.lengths.records q.lengths.records w.records h.records, cut_twice p.lengths.dead q.lengths.dead w.dead h.dead, cut_twice p.lengths.started q.lengths.started w.started h.started, cut_twice p.lengths.finished q.lengths.finished w.finished h.finished, cut_twice p.lengths.changes q.lengths.changes w.changes h.changes, cut_twice p.lengths.emissions q.lengths.emissions w.emissions h.emissions, cut_twice p.lengths.scalars q.lengths.scalars w.scalars h.scalars, cut_twice p.lengths.questions q.lengths.questions w.questions h.questions) refl
 
 -- so it can where only its lists were cut
 pub back_after_cut : (p q : Position) (w : World) → AreWithin p.lengths q.lengths → world_back p (cut_to q.lengths w) ≡ world_back p w
 back_after_cut p q w h =
-    rw (cut_twice p.lengths.records q.lengths.records w.records h.records, cut_twice p.lengths.dead q.lengths.dead w.dead h.dead, cut_twice p.lengths.started q.lengths.started w.started h.started, cut_twice p.lengths.finished q.lengths.finished w.finished h.finished, cut_twice p.lengths.emissions q.lengths.emissions w.emissions h.emissions, cut_twice p.lengths.scalars q.lengths.scalars w.scalars h.scalars, cut_twice p.lengths.questions q.lengths.questions w.questions h.questions) refl
+    rw (cut_twice p.lengths.records q.lengths.records w.records h.records, cut_twice p.lengths.dead q.lengths.dead w.dead h.dead, cut_twice p.lengths.started q.lengths.started w.started h.started, cut_twice p.lengths.finished q.lengths.finished w.finished h.finished, cut_twice p.lengths.changes q.lengths.changes w.changes h.changes, cut_twice p.lengths.emissions q.lengths.emissions w.emissions h.emissions, cut_twice p.lengths.scalars q.lengths.scalars w.scalars h.scalars, cut_twice p.lengths.questions q.lengths.questions w.questions h.questions) refl
 
 -- the same position once more
 pub back_again : (p : Position) (w : World) → world_back p (world_back p w) ≡ world_back p w
@@ -55,6 +56,7 @@ back_again p w = back_after_back p p w (record {
   dead = omega arith;
   started = omega arith;
   finished = omega arith;
+  changes = omega arith;
   emissions = omega arith;
   scalars = omega arith;
   questions = omega arith;

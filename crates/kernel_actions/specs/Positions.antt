@@ -12,6 +12,7 @@ lengths_of w = record {
   dead = length w.dead;
   started = length w.started;
   finished = length w.finished;
+  changes = length w.changes;
   emissions = length w.emissions;
   scalars = length w.scalars;
   questions = length w.questions;
@@ -49,6 +50,7 @@ cut_to l w = record w {
   dead = take l.dead w.dead;
   started = take l.started w.started;
   finished = take l.finished w.finished;
+  changes = take l.changes w.changes;
   emissions = take l.emissions w.emissions;
   scalars = take l.scalars w.scalars;
   questions = take l.questions w.questions;
@@ -69,6 +71,7 @@ pub record IsGrownFrom (old new : World) : Type 0 where
   pub dead : GoesOn old.dead new.dead
   pub started : GoesOn old.started new.started
   pub finished : GoesOn old.finished new.finished
+  pub changes : GoesOn old.changes new.changes
   pub emissions : GoesOn old.emissions new.emissions
   pub scalars : GoesOn old.scalars new.scalars
   pub questions : GoesOn old.questions new.questions
@@ -79,6 +82,7 @@ pub record AreWithin (less more : Lengths) : Type 0 where
   pub dead : less.dead ≤ more.dead
   pub started : less.started ≤ more.started
   pub finished : less.finished ≤ more.finished
+  pub changes : less.changes ≤ more.changes
   pub emissions : less.emissions ≤ more.emissions
   pub scalars : less.scalars ≤ more.scalars
   pub questions : less.questions ≤ more.questions

@@ -4,10 +4,11 @@ ghost use Rattle.std.specs.Prelude.{◌≡◌, ◌+◌, ◌^◌, ◌<◌, OnOk, 
 ghost use Rattle.std.specs.Prelude.{◌++◌, length, slice_get, ◌≤◌};
 ghost use Rattle.model_questions.specs.Questions.{is_of_modules};
 ghost use Rattle.run_question_log.specs.Entries.{noted_in};
-ghost use Rattle.run_semantics.specs.World.{empty, asked, live_of, timed};
+ghost use Rattle.run_semantics.specs.World.{empty, asked, is_live, live_of, timed};
 ghost use Rattle.run_semantics.specs.Perform.{flow_of, deed, scheduled_at, ask_all, ask_noted};
 ghost use Rattle.run_semantics.specs.Perform.{question_of, broken};
 ghost use Rattle.run_semantics.specs.Routes.{arriving, hop_by, is_at, module_at, transmitting};
+ghost use Rattle.run_semantics.specs.Routes.{with_change};
 ghost use Rattle.run_semantics.specs.Ending.{with_finished};
 ghost use Rattle.kernel_actions.specs.Upcoming.{asked_in, first_is_beyond, looked};
 ghost use Rattle.kernel_actions.specs.Upcoming.{with_injection_asked, upcoming_of, Begins};
@@ -15,9 +16,9 @@ ghost use Rattle.run_semantics.specs.Upcoming.{Comes, first_due, first_of};
 ghost use Rattle.model_injections.specs.Injections.{injection_before};
 ghost use Rattle.model_questions.specs.declared.answer.Question.TheVariants.{BeyondLimit};
 ghost use Rattle.run_semantics.specs.Run.{rooted, created, room_in, unless_many, with_submodules};
-ghost use Rattle.run_semantics.specs.Run.{with_started};
+ghost use Rattle.run_semantics.specs.Run.{unstarted, with_started};
 ghost use Rattle.run_semantics.specs.Ending.{to_finish};
-ghost use Rattle.run_semantics.specs.Subtree.{outer_first};
+ghost use Rattle.run_semantics.specs.Subtree.{among, ids_from, outer_first};
 ghost use Rattle.kernel_actions.specs.Positions.{lengths_of, position_of, cut_to, core_back};
 ghost use Rattle.kernel_actions.specs.Positions.{IsGrownFrom};
 
@@ -40,7 +41,10 @@ use run_question_log::entry::LogEntry;
 use run_question_log::noted_questions::NotedQuestions;
 use run_semantics::occasions::{Occasion, is_noted};
 use run_semantics::outcome::{EventFlow, Outcome, RunFault};
-use run_semantics::routes::{NextHop, PlacedGate, Transmission, copy_transmissions, place_of};
+use run_semantics::routes::{
+    GateChange, NextHop, PlacedGate, Transmission, copy_transmissions, forget_transmission,
+    place_of,
+};
 use run_semantics::signals::SignalNames;
 use run_semantics::traces::{Emission, Instance, Scalar};
 use sim_time::SimTime;
@@ -71,6 +75,8 @@ pub struct Core {
     ended: bool,
     delivered: Option<InjectionTurn>,
     transmissions: Items<Transmission>,
+    /// How gates were joined and freed, in the order in which that was done.
+    changes: Items<GateChange>,
     emissions: Items<Emission>,
     /// Names of signals that emissions share.
     names: SignalNames,
@@ -92,6 +98,7 @@ impl Drop for Core {
             ended: _,
             delivered: _,
             transmissions: _,
+            changes: _,
             emissions: _,
             names: _,
             scalars: _,
@@ -119,6 +126,7 @@ impl Model for Core {
       ended = k.ended;
       delivered = k.delivered;
       transmissions = k.transmissions;
+      changes = k.changes;
       emissions = k.emissions;
       scalars = k.scalars;
       questions = k.questions;
@@ -144,6 +152,7 @@ impl Core {
             ended: false,
             delivered: None,
             transmissions: Items::new(alloc),
+            changes: Items::new(alloc),
             emissions: Items::new(alloc),
             names: SignalNames::new(alloc),
             scalars: Items::new(alloc),
@@ -355,10 +364,16 @@ impl Core {
                 let text = text.copy(alloc)?;
                 self.broken(alloc, id, RunFault::ModuleFailed(text))
             }
-            // What is sent asks of gates: it is no deed.
-            Action::Send(_, _) | Action::SendDelayed(_, _, _) | Action::SendDirect(_, _, _) => {
-                Ok(EventFlow::GoOn)
+            Action::End => {
+                self.ended = true;
+                Ok(EventFlow::Stop)
             }
+            // What is sent, joined or freed asks of the model: it is no deed.
+            Action::Send(_, _)
+            | Action::SendDelayed(_, _, _)
+            | Action::SendDirect(_, _, _)
+            | Action::Connect(_, _, _)
+            | Action::Disconnect(_) => Ok(EventFlow::GoOn),
         }
     }
 
@@ -412,6 +427,51 @@ impl Core {
             gate.id,
             Happening::Delivery(delivery),
         )
+    }
+
+    // ---- gates that are joined and freed
+
+    /// How gates were joined and freed, in the order in which that was done.
+    pub fn changes(&self) -> &[GateChange]
+        ensures { result.now ≡ self.now.changes }
+    {
+        self.changes.as_slice()
+    }
+
+    /// An output gate leads there from now on, or nowhere; a transmission that began at it is over.
+    #[tactic(auto, using(crate::proofs::Lasting::growth_is))]
+    pub fn change_gate(
+        &mut self,
+        alloc: Global,
+        gate: PlacedGate,
+        to: Option<NextHop>,
+    ) -> Result<(), NoMemory>
+        ensures done { OnOk result (self.new ≡ with_change gate to self.old) }
+        ensures err { OnErr result (self.new ≡ self.old) }
+        ensures grown { IsGrownFrom self.old self.new }
+    {
+        let freed = gate.copy(alloc)?;
+        self.changes.push(GateChange { gate, to })?;
+        forget_transmission(&mut self.transmissions, &freed);
+        Ok(())
+    }
+
+    // ---- modules that live
+
+    /// Whether a module of that id was created.
+    #[tactic(auto, using(crate::proofs::Living::is_created))]
+    fn is_created(&self, id: u32) -> bool
+        ensures { result ≡ among id (ids_from 1 self.now.records) }
+    {
+        0 < id && id as usize <= self.records.len()
+    }
+
+    /// Whether the module of that id lives.
+    #[tactic(auto, using(run_semantics::proofs::Alive::live_is))]
+    pub fn is_live(&self, id: u32) -> bool
+        ensures { result ≡ is_live self.now id }
+    {
+        self.is_created(id) && !is_among(self.dead.as_slice(), id)
     }
 
     /// Whether the module of that id, which was created, lives, and has that path.
@@ -816,12 +876,19 @@ impl Core {
         without(alloc, created.as_slice(), self.dead.as_slice())
     }
 
-    /// The network with all modules that live, in the order of calls.
-    pub fn calls_of_network(&self, alloc: Global) -> Result<Items<u32>, NoMemory>
-        ensures { IfOk result (λ ids. ids ≡ outer_first self.now.records (live_of self.now) 1) }
+    /// The ids of the modules that live and were not started.
+    pub fn unstarted(&self, alloc: Global) -> Result<Items<u32>, NoMemory>
+        ensures { IfOk result (λ ids. ids ≡ unstarted self.now) }
     {
         let live = self.live_ids(alloc)?;
-        outer_first(alloc, self.records.as_slice(), live.as_slice(), 1)
+        without(alloc, live.as_slice(), self.started.as_slice())
+    }
+
+    /// The network with those of these modules that are inside of it, in the order of calls.
+    pub fn calls_of_network(&self, alloc: Global, ids: &[u32]) -> Result<Items<u32>, NoMemory>
+        ensures { IfOk result (λ calls. calls ≡ outer_first self.now.records ids.now 1) }
+    {
+        outer_first(alloc, self.records.as_slice(), ids, 1)
     }
 
     /// All modules that live and were started, in the order of the end.
@@ -833,12 +900,11 @@ impl Core {
         inner_first(alloc, self.records.as_slice(), going.as_slice(), 1)
     }
 
-    /// Notes that all modules that live are started.
-    pub fn mark_started(&mut self, alloc: Global) -> Result<(), NoMemory>
-        ensures { OnOk result (self.new ≡ with_started (live_of self.old) self.old) }
+    /// Notes that these modules are started.
+    pub fn mark_started(&mut self, ids: Items<u32>) -> Result<(), NoMemory>
+        ensures { OnOk result (self.new ≡ with_started ids self.old) }
     {
-        let live = self.live_ids(alloc)?;
-        self.started.append(live)?;
+        self.started.append(ids)?;
         Ok(())
     }
 
@@ -853,6 +919,7 @@ impl Core {
             dead: self.dead.len(),
             started: self.started.len(),
             finished: self.finished.len(),
+            changes: self.changes.len(),
             emissions: self.emissions.len(),
             scalars: self.scalars.len(),
             questions: self.questions.len(),
@@ -885,6 +952,7 @@ impl Core {
         cut_items(&mut self.dead, lengths.dead);
         cut_items(&mut self.started, lengths.started);
         cut_items(&mut self.finished, lengths.finished);
+        cut_items(&mut self.changes, lengths.changes);
         cut_items(&mut self.emissions, lengths.emissions);
         cut_items(&mut self.scalars, lengths.scalars);
         self.questions.cut(lengths.questions);

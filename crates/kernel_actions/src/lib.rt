@@ -5,6 +5,7 @@
 mod classes;
 pub mod core_part;
 pub mod events;
+pub mod gates;
 pub mod laws;
 pub mod looks;
 pub mod position;

@@ -16,6 +16,7 @@ pub struct Lengths {
     pub dead: usize,
     pub started: usize,
     pub finished: usize,
+    pub changes: usize,
     pub emissions: usize,
     pub scalars: usize,
     pub questions: usize,

@@ -9,7 +9,7 @@ use Rattle.model_questions.specs.Answers.{Answers}
 use Rattle.run_semantics.specs.declared.outcome.RunFault.TheVariants as fault
 use Rattle.run_semantics.specs.declared.outcome.EventFlow.{EventFlow}
 use Rattle.run_semantics.specs.declared.routes.PlacedGate.{PlacedGate}
-use Rattle.run_semantics.specs.Routes.{is_connected, is_in_gate, is_out_gate, module_at}
+use Rattle.run_semantics.specs.Routes.{is_in_gate, is_out_gate, is_taken, module_at}
 use Rattle.run_semantics.specs.World.{World}
 use Rattle.run_semantics.specs.Perform.{Flow, asking, broken, chain, entered, entering, flight_end, flow_of, most_hops, sent, sent_direct, sent_over, sent_to}
 use Rattle.sim_values.specs.declared.NoMemory.{NoMemory}
@@ -41,7 +41,7 @@ module _ (m : Answers) (id : ℕ) (message : Outgoing) where
 
   -- ---- to a gate of a module
 
-  module _ (gate : PlacedGate) (flight : Flight) (w v : World) (taken : Bool) (asked : (next : Bool → World → Flow) → asking m (HopBack gate.id gate.name gate.index) (λ a u. next (is_connected a) u) w ≡ next taken v) where
+  module _ (gate : PlacedGate) (flight : Flight) (w v : World) (taken : Bool) (asked : (next : Bool → World → Flow) → asking m (HopBack gate.id gate.name gate.index) (λ a u. next (is_taken gate a u) u) w ≡ next taken v) where
     abbrev enters : Bool → World → Flow
     enters b u = if b then broken id fault.AlreadyConnected u else entering m id message gate (flight_end u.clock flight) u
 

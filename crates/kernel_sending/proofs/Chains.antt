@@ -1,11 +1,13 @@
 -- One turn of following a chain of hops.
-use Rattle.std.proofs.Common.{◌≡◌, ℕ, zero, suc, ◌+◌, ◌-◌, ◌<◌, ◌≤◌, true, false, List, Option, Some, None, sym, ap, ◌∙◌, arith, if◌then◌else◌}
+use Rattle.std.proofs.Common.{◌≡◌, ℕ, zero, suc, ◌+◌, ◌-◌, ◌<◌, ◌≤◌, true, false, List, Option, Some, None, refl, sym, ap, ◌∙◌, arith, if◌then◌else◌}
 use Rattle.model_questions.specs.Answers.{Answers}
 use Rattle.run_semantics.specs.declared.outcome.RunFault.TheVariants as fault
+use Rattle.std.specs.Option.{option_map}
+use Rattle.run_semantics.specs.declared.routes.GateChange.{GateChange}
 use Rattle.run_semantics.specs.declared.routes.NextHop.{NextHop}
 use Rattle.run_semantics.specs.declared.routes.PassedHop.{PassedHop}
 use Rattle.run_semantics.specs.declared.routes.PlacedGate.{PlacedGate}
-use Rattle.run_semantics.specs.Routes.{is_simple}
+use Rattle.run_semantics.specs.Routes.{if_live, is_simple}
 use Rattle.run_semantics.specs.World.{World}
 use Rattle.run_semantics.specs.Perform.{Flow, broken, next_hop, past_last, with_hop, after_hop, chain}
 
@@ -14,6 +16,11 @@ one_more limit done h = omega (arith, h)
 
 none_left : (limit done : ℕ) → limit ≤ done → limit - done ≡ zero
 none_left limit done h = omega (arith, h)
+
+-- a gate of which no change was found was not changed
+pub unchanged : (w : World) (o : Option GateChange) → option_map (λ (c : GateChange). if_live w c.to) o ≡ None → o ≡ None
+unchanged w None e = refl
+unchanged w (Some c) e = cc
 
 -- whatever goes on after the hop from that gate, goes on with this hop in this world
 abbrev pub HopIs : Answers → PlacedGate → World → Option NextHop → World → Type 0

@@ -10,23 +10,22 @@ ghost use Rattle.run_semantics.specs.declared.routes.NextHop.{NextHop};
 ghost use Rattle.run_semantics.specs.declared.routes.PassedHop.{PassedHop};
 ghost use Rattle.run_semantics.specs.declared.routes.PlacedGate.{PlacedGate};
 ghost use Rattle.run_semantics.specs.World.{World, asked};
-ghost use Rattle.run_semantics.specs.Routes.{hop_by, is_connected, is_in_gate, is_out_gate};
-ghost use Rattle.run_semantics.specs.Routes.{is_simple};
+ghost use Rattle.run_semantics.specs.Routes.{hop_by, is_in_gate, is_out_gate, is_simple, is_taken};
 ghost use Rattle.run_semantics.specs.Perform.{Flow, asking, flow_of, next_hop, chain, most_hops};
 ghost use Rattle.run_semantics.specs.Perform.{sent_over, sent, entering, entered, sent_direct};
 ghost use Rattle.kernel_sending.specs.Ways.{after_chain};
 ghost use Rattle.kernel_actions.specs.Positions.{IsGrownFrom};
 
 use kernel_actions::core_part::Core;
+use kernel_actions::gates;
 use kernel_actions::sending::{flight_end, send_over};
 use model_questions::answer::{Answer, Question};
 use module_api::message::Outgoing;
+use module_api::name::Name;
 use module_api::reply::{Flight, GatePlace, OwnGate};
 use run_answers::Answers;
 use run_semantics::outcome::{EventFlow, RunFault};
-use run_semantics::routes::{
-    NextHop, PassedHop, PlacedGate, is_connected, is_in_gate, is_out_gate, is_simple,
-};
+use run_semantics::routes::{NextHop, PassedHop, PlacedGate, is_in_gate, is_out_gate, is_simple};
 use sim_time::SimTime;
 use sim_values::NoMemory;
 use sqlite_items::Items;
@@ -60,8 +59,9 @@ fn ask<A: Answers>(
     Ok(found)
 }
 
-/// Asks for the next hop from a gate. Whatever goes on, goes on with this hop.
-fn next_hop<A: Answers>(
+/// Finds the next hop from a gate: it is asked for, unless the gate was joined or freed. Whatever
+/// goes on, goes on with this hop.
+pub(crate) fn next_hop<A: Answers>(
     core: &mut Core,
     alloc: Global,
     model: &mut A,
@@ -72,9 +72,13 @@ fn next_hop<A: Answers>(
     ensures next { core.new.next ≡ core.old.next }
     ensures grown { IsGrownFrom core.old core.new }
 {
+    if let Some(hop) = gates::changed_hop(core, alloc, gate)? {
+        return Ok(hop);
+    }
     let question = Question::Hop(gate.id, gate.name.copy(alloc)?, gate.index);
     let found = ask(core, alloc, model, question)?;
-    Ok(core.hop_by(gate.id, found))
+    let hop = core.hop_by(gate.id, found);
+    Ok(gates::if_live(core, hop))
 }
 
 /// How many hops a chain has at most.
@@ -146,26 +150,26 @@ fn send_on<A: Answers>(
     }
 }
 
-/// Asks whether a message can leave by a gate of the module of that id. Whatever goes on, goes on
+/// Asks whether messages go out through a gate of the module of that id. Whatever goes on, goes on
 /// with this.
-fn can_leave<A: Answers>(
+pub(crate) fn can_leave<A: Answers>(
     core: &mut Core,
     alloc: Global,
     model: &mut A,
     id: u32,
-    gate: &OwnGate,
+    gate: &Name,
+    index: u32,
 ) -> Result<bool, NoMemory>
     ensures asked { IfOk result
         (λ can. (next : Bool → World → Flow)
-        → asking A.answers (GateSize id gate.now.name)
-        (λ a v. next (is_out_gate a gate.now.index) v) core.old
+        → asking A.answers (GateSize id gate.now) (λ a v. next (is_out_gate a index) v) core.old
         ≡ next can core.new) }
     ensures next { core.new.next ≡ core.old.next }
     ensures grown { IsGrownFrom core.old core.new }
 {
-    let question = Question::GateSize(id, gate.name.text(alloc)?);
+    let question = Question::GateSize(id, gate.text(alloc)?);
     let found = ask(core, alloc, model, question)?;
-    Ok(is_out_gate(&found, gate.index))
+    Ok(is_out_gate(&found, index))
 }
 
 /// Sends a message of the module of that id through a gate of its own, which departs then.
@@ -183,7 +187,7 @@ pub fn send<A: Answers>(
         ≡ sent A.answers id gate.now message.now departure.now core.old) }
     ensures grown { IsGrownFrom core.old core.new }
 {
-    let can = can_leave(core, alloc, model, id, gate)?;
+    let can = can_leave(core, alloc, model, id, &gate.name, gate.index)?;
     if can {
         let name = gate.name.text(alloc)?;
         let index = gate.index;
@@ -220,7 +224,7 @@ fn enter<A: Answers>(
 }
 
 /// Asks whether something is connected to a gate from outside. Whatever goes on, goes on with this.
-fn is_taken<A: Answers>(
+pub(crate) fn is_taken<A: Answers>(
     core: &mut Core,
     alloc: Global,
     model: &mut A,
@@ -229,14 +233,14 @@ fn is_taken<A: Answers>(
     ensures asked { IfOk result
         (λ taken. (next : Bool → World → Flow)
         → asking A.answers (HopBack gate.now.id gate.now.name gate.now.index)
-        (λ a v. next (is_connected a) v) core.old
+        (λ a v. next (is_taken gate.now a v) v) core.old
         ≡ next taken core.new) }
     ensures next { core.new.next ≡ core.old.next }
     ensures grown { IsGrownFrom core.old core.new }
 {
     let question = Question::HopBack(gate.id, gate.name.copy(alloc)?, gate.index);
     let found = ask(core, alloc, model, question)?;
-    Ok(is_connected(&found))
+    Ok(gates::is_taken(core, gate, found))
 }
 
 /// Sends a message to a gate, if nothing is connected to it from outside.
@@ -263,26 +267,26 @@ fn send_free<A: Answers>(
     enter(core, alloc, model, id, gate, message, &arrival)
 }
 
-/// Asks whether a message can come in by a gate of the module of that id. Whatever goes on, goes on
+/// Asks whether messages come in through a gate of the module of that id. Whatever goes on, goes on
 /// with this.
-fn can_enter<A: Answers>(
+pub(crate) fn can_enter<A: Answers>(
     core: &mut Core,
     alloc: Global,
     model: &mut A,
     id: u32,
-    place: &GatePlace,
+    gate: &Name,
+    index: u32,
 ) -> Result<bool, NoMemory>
     ensures asked { IfOk result
         (λ can. (next : Bool → World → Flow)
-        → asking A.answers (GateSize id place.now.name)
-        (λ a v. next (is_in_gate a place.now.index) v) core.old
+        → asking A.answers (GateSize id gate.now) (λ a v. next (is_in_gate a index) v) core.old
         ≡ next can core.new) }
     ensures next { core.new.next ≡ core.old.next }
     ensures grown { IsGrownFrom core.old core.new }
 {
-    let question = Question::GateSize(id, place.name.text(alloc)?);
+    let question = Question::GateSize(id, gate.text(alloc)?);
     let found = ask(core, alloc, model, question)?;
-    Ok(is_in_gate(&found, place.index))
+    Ok(is_in_gate(&found, index))
 }
 
 /// Sends a message of the module of that id directly to a gate.
@@ -303,7 +307,7 @@ pub fn send_direct<A: Answers>(
     let Some(target) = core.module_at(alloc, place.path.as_bytes())? else {
         return core.broken(alloc, id, RunFault::NoModule);
     };
-    let can = can_enter(core, alloc, model, target, place)?;
+    let can = can_enter(core, alloc, model, target, &place.name, place.index)?;
     if can {
         let name = place.name.text(alloc)?;
         let index = place.index;

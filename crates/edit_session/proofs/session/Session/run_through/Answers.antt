@@ -11,6 +11,9 @@ use Rattle.edit_session.specs.Sessions.{editing_of}
 use Rattle.edit_session.proofs.Valid.{fresh_done, kept_done}
 use Rattle.edit_session.proofs.session.Session.run_through.Goals as goal
 
+pub advance-requires-clause-live : goal.advance-requires-clause-live
+advance-requires-clause-live g c = rw c.give_up.ensures c.requires.sound.live
+
 pub report_of-requires : goal.report_of-requires
 report_of-requires g c = rw c.count-count.ensures ((rw (c.in-Done.is, c.give_up.ensures) at c.in_ok-request.ensures.advances).within)
 

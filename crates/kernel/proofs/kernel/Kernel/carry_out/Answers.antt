@@ -2,7 +2,8 @@ use Rattle.std.proofs.Common.{Ok, map, sym, ap, ◌∙◌, subst}
 use Rattle.module_api.specs.declared.call.Call.{Call}
 use Rattle.model_questions.specs.Answers.{parameters_of}
 use Rattle.run_semantics.specs.World.{World}
-use Rattle.run_semantics.specs.Perform.{On, answered}
+use Rattle.run_semantics.specs.Perform.{On}
+use Rattle.kernel.specs.Calls.{answered_at}
 use Rattle.kernel_boxes.specs.Seats.{seat_of, AreKept}
 use Rattle.kernel.specs.Seats.{world_of, IsCalled}
 use Rattle.kernel.specs.Kernels.{boxes_in}
@@ -35,7 +36,7 @@ returns-clause-step g c = ok_step c.follow.result c.follow.ensures.step (λ turn
     called_is g.C.Catalogue.behaviour g.A.Answers.answers c.args.occasion c.args.call.now.id c.args.call.now.prompt c.args.self.now.core _ (boxes_in (λ b. (g.dyn-1.0.entry b.vtable).1) c.args.self.now) (boxes_in (λ b. (g.dyn-1.0.entry b.vtable).1) c.reply_of.new.self)
     c.in_ok-reply.reply turn c.requires.callable.kinds
     (subst (λ (k : Call). IsCalled c.args.call.now.id (boxes_in (λ b. (g.dyn-1.0.entry b.vtable).1) c.args.self.now) (boxes_in (λ b. (g.dyn-1.0.entry b.vtable).1) c.reply_of.new.self) k (Ok c.in_ok-reply.reply)) c.requires.told (rw c.in_ok-reply.was at c.in-Some.ensures.served))
-    (step ∙ ap (λ core. answered g.C.Catalogue.behaviour g.A.Answers.answers c.args.occasion c.args.call.now.id c.in_ok-reply.reply (world_of core (boxes_in (λ b. (g.dyn-1.0.entry b.vtable).1) c.reply_of.new.self))) c.reply_of.ensures.core))
+    (step ∙ ap (λ core. answered_at g.C.Catalogue.behaviour g.A.Answers.answers c.args.occasion c.args.call.now.id c.in_ok-reply.reply (world_of core (boxes_in (λ b. (g.dyn-1.0.entry b.vtable).1) c.reply_of.new.self))) c.reply_of.ensures.core))
 
 pub returns-in_default-clause-grown : goal.returns-in_default-clause-grown
 returns-in_default-clause-grown g c =

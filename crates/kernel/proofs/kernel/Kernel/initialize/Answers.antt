@@ -1,5 +1,4 @@
 use Rattle.module_api.specs.declared.call.CallReason.TheVariants.{Initialize}
-use Rattle.run_semantics.specs.declared.occasions.Occasion.TheVariants.{Event}
 use Rattle.run_semantics.proofs.Sound.{call_leaves}
 use Rattle.kernel.specs.Kernels.{world_in}
 use Rattle.kernel.proofs.Starting.{initialize-past, initialize-called}
@@ -11,7 +10,7 @@ returns-then-stage-stages_in-clause-step g c =
 
 pub returns-clause-next : goal.returns-clause-next
 returns-clause-next g c =
-    (call_leaves g.C.Catalogue.behaviour g.A.Answers.answers Event c.args.id (Initialize c.args.stage) c.in_ok-turn.turn (world_in (λ b. (g.dyn-1.0.entry b.vtable).1) c.args.self.now) (world_in (λ b. (g.dyn-1.0.entry b.vtable).1) c.call_module.new.self) c.in_ok-turn.ensures.step).next
+    (call_leaves g.C.Catalogue.behaviour g.A.Answers.answers c.args.id (Initialize c.args.stage) c.in_ok-turn.turn (world_in (λ b. (g.dyn-1.0.entry b.vtable).1) c.args.self.now) (world_in (λ b. (g.dyn-1.0.entry b.vtable).1) c.call_module.new.self) c.in_ok-turn.ensures.step).next
 
 pub returns-clause-step : goal.returns-clause-step
 returns-clause-step g c =

@@ -1,5 +1,6 @@
 use Rattle.std.proofs.Common.{◌+◌, List, sym, ap, ◌∙◌, length, drop, slice_get, take, unwrap_or}
-use Rattle.run_semantics.specs.Run.{Part, needs, parts_from, standing}
+use Rattle.run_semantics.specs.Run.{Part, parts_from, standing}
+use Rattle.kernel.specs.Seats.{needs}
 use Rattle.kernel.specs.Kernels.{world_in}
 use Rattle.kernel_boxes.specs.Staying.{first_without}
 use Rattle.kernel.proofs.Behind.{next_missing}

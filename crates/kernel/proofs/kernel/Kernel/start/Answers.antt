@@ -1,10 +1,12 @@
 use Rattle.std.proofs.Common.{◌≡◌, sym, ap, ◌∙◌, map, subst}
 use Rattle.run_semantics.specs.Perform.{On}
-use Rattle.run_semantics.specs.Run.{needs, ready, standing}
+use Rattle.run_semantics.specs.Run.{standing}
+use Rattle.kernel.specs.Setups.{ready}
 use Rattle.kernel_boxes.specs.Saved.{seats_held}
 use Rattle.kernel_boxes.specs.Seats.{instance_of, seat_of, AreOfKinds}
 use Rattle.kernel.specs.Kernels.{boxes_in, world_in}
-use Rattle.kernel.specs.Seats.{world_of}
+use Rattle.kernel.specs.Seats.{needs, world_of}
+use Rattle.kernel.proofs.Behind.{needs_rise}
 use Rattle.kernel.proofs.Waiting.{fresh_kinds, fresh_ready, fresh_standing, no_seats}
 use Rattle.kernel.proofs.kernel.Kernel.start.Goals as goal
 
@@ -13,7 +15,7 @@ initialize_all-requires-clause-ready g c =
     let b = g.C.Catalogue.behaviour in
     let m = g.A.Answers.answers in
     subst (λ t. On (world_of c.args.self.now.core (map (seat_of (λ b. (g.dyn-1.0.entry b.vtable).1)) t.seats)) ≡ ready b m) (sym c.swap.ensures.x_after)
-    (fresh_ready b m c.args.self.now.core (boxes_in (λ b. (g.dyn-1.0.entry b.vtable).1) c.args.self.now) (seats_held (λ b. (g.dyn-1.0.entry b.vtable).1) c.args.waiting.now) c.requires.none c.requires.prepared c.requires.fresh)
+    (fresh_ready b m c.args.self.now.core (boxes_in (λ b. (g.dyn-1.0.entry b.vtable).1) c.args.self.now) (seats_held (λ b. (g.dyn-1.0.entry b.vtable).1) c.args.waiting.now) _ c.requires.none (needs_rise (world_in (λ b. (g.dyn-1.0.entry b.vtable).1) c.args.self.now)) c.requires.prepared c.requires.fresh)
 
 pub initialize_all-requires-clause-kinds : goal.initialize_all-requires-clause-kinds
 initialize_all-requires-clause-kinds g c =
