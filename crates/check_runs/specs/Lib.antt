@@ -1,1 +1,2 @@
 pub mod Clerk
+pub mod Wire

@@ -1,5 +1,5 @@
-//! Tests of `event_set`, `module_stock`, `result_files`, and scalars that modules record, apart
-//! from the crates that they test.
+//! Tests of `event_set`, `module_stock`, `result_files` and scalars that modules record, apart from
+//! the crates that they test; and a module that joins gates, as an example.
 #![tactic(auto)]
 
 #[cfg(test)]
@@ -10,3 +10,4 @@ mod files;
 mod modules;
 #[cfg(test)]
 mod scalars;
+pub mod wire;

@@ -3,7 +3,7 @@
 use module_api::call::{Call, CallReason, Parameter};
 use module_api::message::{Message, Origin};
 use module_api::name::Name;
-use module_api::reply::{Action, Read, Reply};
+use module_api::reply::{Action, GatePlace, Read, Reply};
 use sim_time::SimTime;
 use sim_values::text::Text;
 use sim_values::value::{Dimension, Value};
@@ -93,6 +93,12 @@ pub fn text_of(alloc: Global, reply: &Reply) -> Result<String, AllocError> {
     Ok(text)
 }
 
+/// Adds a gate of a module, after a space.
+fn add_place(text: &mut String, place: &GatePlace) -> Result<(), AllocError> {
+    let (path, name) = (written(&place.path), spelled(&place.name));
+    write!(text, " {path}.{name}[{}]", place.index)
+}
+
 /// Adds an action, after a space.
 fn add_action(text: &mut String, action: &Action) -> Result<(), AllocError> {
     match action {
@@ -119,6 +125,16 @@ fn add_action(text: &mut String, action: &Action) -> Result<(), AllocError> {
             write!(text, " timer{timer}@{at}/{priority}")
         }
         Action::Cancel(timer) => write!(text, " cancel{timer}"),
+        Action::Connect(from, to, _) => {
+            write!(text, " connect")?;
+            add_place(text, from)?;
+            add_place(text, to)
+        }
+        Action::Disconnect(place) => {
+            write!(text, " disconnect")?;
+            add_place(text, place)
+        }
+        Action::End => write!(text, " end"),
         Action::Fail(reason) => write!(text, " fail={}", written(reason)),
     }
 }
