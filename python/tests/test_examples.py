@@ -1,0 +1,101 @@
+"""Each example's session, made by calls: its answers and its files are those that were worked out by hand and are kept with it."""
+from __future__ import annotations
+
+from conftest import TOP, Example
+
+from soldrich import Edited, Refused, Run, Session
+from soldrich.results import Results
+
+
+def call(session: Session, line: str) -> str:
+    """Makes the call that a command stands for, and returns the answer as the program writes it."""
+    word, _, rest = line.partition(" ")
+    try:
+        if word == "write":
+            session.write()
+            return "written"
+        if word in ("positions", "held"):
+            found = getattr(session, word)()
+            return f"{word} " + (" ".join(map(str, found)) or "none" if word == "positions" else str(found))
+        if word == "run":
+            return answer_of_run(session.run(int(rest)))
+        if word == "jump":
+            raise Refused(line, "Command")
+        return answer_of_edit(edit(session, word, rest))
+    except Refused as refused:
+        return f"refused {refused.name}" + ("" if refused.line is None else f" line {refused.line}")
+
+
+def edit(session: Session, word: str, rest: str) -> Edited:
+    if word == "ini":
+        how, line, *text = rest.split(" ", 2)
+        return getattr(session, how)(int(line), *text)
+    if word == "ned":
+        file, path = rest.split(" ")
+        return session.ned(int(file), TOP / path)
+    if word in ("connect", "disconnect"):
+        type, place, *text = rest.split(" ", 2)
+        return getattr(session, word)(type, int(place), *text)
+    if word == "inject":
+        path, time, priority, kind, bits, payload = rest.split(" ")
+        return session.inject(path, time, int(priority), int(kind), int(bits), bytes.fromhex(payload.replace("-", "")))
+    if word == "config":
+        return session.config(rest)
+    assert word == "withdraw"
+    return session.withdraw(int(rest))
+
+
+def answer_of_run(run: Run) -> str:
+    return f"done {run.outcome} from {'start' if run.started_from is None else run.started_from} executed {run.executed}"
+
+
+def answer_of_edit(edited: Edited) -> str:
+    valid = "none" if edited.valid_to is None else edited.valid_to
+    return f"edited valid {valid}" + ("" if edited.injection is None else f" injection {edited.injection}")
+
+
+def test_the_session_of_an_example(each_example: Example):
+    it, writings = each_example, 0
+    answers = it.lines_of("answers")
+    with Session(it.ini, it.neds, it.config, interval=it.interval) as session:
+        assert answers[:2] == [answer_of_run(session.first_run), "written"]
+        for line, wanted in zip([None, *it.lines_of("commands")], answers[1:], strict=True):
+            answer = "written" if line is None else call(session, line)
+            assert answer == wanted, line
+            if answer == "written":
+                writings += 1
+                compare_with_kept(it, session, writings)
+
+
+def compare_with_kept(it: Example, session: Session, number: int) -> None:
+    stem = f"{session.selected()}-#0"
+    for ending in ("sca", "vec"):
+        kept = it.folder / f"written/{number}.{ending}"
+        if kept.exists():
+            written = session.output / f"{stem}.{ending}"
+            assert written.read_bytes() == kept.read_bytes()
+            assert Results.read(written).frame.astype(str).equals(Results.read(kept).frame.astype(str))
+
+
+def test_a_first_run_by_hand():
+    """The page of queueing_line works it out: five messages, of which one is dropped, and these times."""
+    folder = TOP / "examples/queueing_line"
+    with Session(folder / "omnetpp.ini", folder / "queueing_line.ned") as session:
+        assert session.first_run == Run("no-more-events", None, 18)
+        assert session.first_run.events == 18
+        assert session.first_run.fault is None
+        results = session.results()
+        assert results.scalar("QueueingLine.queue", "dropped:count") == 1
+        assert results.scalar("QueueingLine.queue", "length:max") == 3
+        arrivals = results.vector("QueueingLine.sink", "rx:vector")
+        assert arrivals["event"].tolist() == [10, 14, 16, 18]
+        assert arrivals["ps"].tolist() == [360_000_000_000, 610_000_000_000, 860_000_000_000, 1_110_000_000_000]
+        assert arrivals["time"].tolist() == [0.36, 0.61, 0.86, 1.11]
+        assert arrivals["value"].tolist() == [1000] * 4
+        # a queue that serves in 200 ms sends its second message while the line is busy
+        assert session.config("Slow").valid_to == 6
+        assert session.run().events == 18
+        assert session.replace(7, "QueueingLine.queue.service = 200ms").valid_to == 1
+        fault = session.run().fault
+        assert (fault.event, fault.module, fault.name) == (10, "QueueingLine.queue", "Busy")
+        assert "QueueingLine.queue" in session.last_run.explanation or session.last_run.explanation == ""
