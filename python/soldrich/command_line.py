@@ -10,6 +10,8 @@ from pathlib import Path
 
 from .errors import SoldrichError
 
+EVENTS = 1_000_000
+
 
 def main(words: Sequence[str] | None = None) -> int:
     """Does what the words ask for, and returns the exit status: 0, or 1 if it can't be done (2 for wrong words)."""
@@ -21,7 +23,7 @@ def main(words: Sequence[str] | None = None) -> int:
     try:
         options.command(options)
     except KeyboardInterrupt:
-        return 128 + signal.SIGINT
+        return 128 + signal.SIGINT if options.command is not _watch else 0
     except (SoldrichError, OSError) as error:
         print(f"soldrich: {error}", file=sys.stderr)
         return 1
@@ -31,8 +33,21 @@ def main(words: Sequence[str] | None = None) -> int:
 def _parser() -> argparse.ArgumentParser:
     parser = argparse.ArgumentParser(prog="soldrich", description="The workbench of Soldrich (docs/WORKBENCH.md).")
     commands = parser.add_subparsers(required=True, metavar="COMMAND")
+    _add_watch(commands)
     _add_report(commands)
     return parser
+
+
+def _add_watch(commands: argparse._SubParsersAction) -> None:
+    it = commands.add_parser("watch", help="runs a model again at each save of its files, and says what changed")
+    it.add_argument("-c", "--config", default="General", help="the configuration of the ini file that is run")
+    it.add_argument("-l", "--limit", type=_number, default=EVENTS, help="how many events are executed at most")
+    it.add_argument("-k", "--interval", type=_number, default=1, help="after how many events the state is stored, at first")
+    it.add_argument("-o", "--output", type=Path, default=Path("results"), metavar="DIR", help="where the result files are written")
+    it.add_argument("-n", "--folder", type=Path, action="append", default=[], metavar="DIR", help="all NED files below this folder")
+    it.add_argument("--report", action="store_true", help="writes DIR/report.html at each step, which reloads itself")
+    it.add_argument("files", type=Path, nargs="*", metavar="FILE", help="the ini file, omnetpp.ini if none is named, and the NED files")
+    it.set_defaults(command=_watch)
 
 
 def _add_report(commands: argparse._SubParsersAction) -> None:
@@ -40,6 +55,28 @@ def _add_report(commands: argparse._SubParsersAction) -> None:
     it.add_argument("-o", "--output", type=Path, default=Path("report.html"), metavar="PAGE", help="the page that is written")
     it.add_argument("results", type=Path, nargs="+", metavar="RESULTS", help="a result file, CONFIG-#0 for both files of a run, or a study's table; of two runs, both")
     it.set_defaults(command=_report)
+
+
+def _number(text: str) -> int:
+    number = int(text)
+    if number < 0:
+        raise ValueError(text)
+    return number
+
+
+def _watch(options: argparse.Namespace) -> None:
+    from .live_model import Options
+    from .sources import ModelFiles
+    from .watch import watch
+
+    neds = list(options.files)
+    ini = neds.pop(0) if neds and neds[0].suffix != ".ned" else Path("omnetpp.ini")
+    if not neds and not options.folder:
+        raise SoldrichError("there is no NED file: name them after the ini file, or a folder of them with -n")
+    options.output.mkdir(parents=True, exist_ok=True)
+    files = ModelFiles(ini, tuple(neds), tuple(options.folder))
+    page = options.output / "report.html" if options.report else None
+    watch(files, Options(options.config, options.output, options.limit, options.interval), page)
 
 
 def _report(options: argparse.Namespace) -> None:
