@@ -9,6 +9,7 @@ from collections.abc import Sequence
 from pathlib import Path
 
 from .errors import SoldrichError
+from .program import LOG
 
 EVENTS = 1_000_000
 
@@ -16,8 +17,9 @@ EVENTS = 1_000_000
 def main(words: Sequence[str] | None = None) -> int:
     """Does what the words ask for, and returns the exit status: 0, or 1 if it can't be done (2 for wrong words)."""
     options = _parser().parse_args(words)
-    logging.basicConfig(level=logging.WARNING, format="%(message)s")
-    logging.getLogger("soldrich").setLevel(logging.INFO)
+    # what the program tells while it starts, as that it is compiled
+    LOG.addHandler(logging.StreamHandler())
+    LOG.setLevel(logging.INFO)
     # so that what was begun is ended: a session and its folder
     signal.signal(signal.SIGTERM, lambda *_: sys.exit(128 + signal.SIGTERM))
     try:
@@ -35,6 +37,7 @@ def _parser() -> argparse.ArgumentParser:
     commands = parser.add_subparsers(required=True, metavar="COMMAND")
     _add_watch(commands)
     _add_report(commands)
+    _add_study(commands)
     return parser
 
 
@@ -55,6 +58,15 @@ def _add_report(commands: argparse._SubParsersAction) -> None:
     it.add_argument("-o", "--output", type=Path, default=Path("report.html"), metavar="PAGE", help="the page that is written")
     it.add_argument("results", type=Path, nargs="+", metavar="RESULTS", help="a result file, CONFIG-#0 for both files of a run, or a study's table; of two runs, both")
     it.set_defaults(command=_report)
+
+
+def _add_study(commands: argparse._SubParsersAction) -> None:
+    it = commands.add_parser("study", help="runs the variants of a model")
+    it.add_argument("-o", "--output", type=Path, metavar="TABLE", help="the table that is written, .csv or .parquet; the study's name and .csv if it is left out")
+    it.add_argument("--workers", type=_number, help="how many processes run variants here; as many as there are processors if it is left out")
+    it.add_argument("--scheduler", metavar="tcp://..", help="a scheduler of dask.distributed that is there, with workers")
+    it.add_argument("study", type=Path, metavar="STUDY.toml", help="what varies (docs/WORKBENCH.md)")
+    it.set_defaults(command=_study)
 
 
 def _number(text: str) -> int:
@@ -83,3 +95,9 @@ def _report(options: argparse.Namespace) -> None:
     from .report import report
 
     print(f"written to {report(options.results, options.output)}")
+
+
+def _study(options: argparse.Namespace) -> None:
+    from .study import study
+
+    study(options.study, options.output, options.workers, options.scheduler)

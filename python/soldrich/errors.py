@@ -14,8 +14,11 @@ class Refused(SoldrichError):
     """
 
     def __init__(self, command: str, name: str, explanation: str = "", line: int | None = None, file: int | None = None):
-        super().__init__(f"{command}: refused {name}" + (f"\n{explanation}" if explanation else ""))
+        super().__init__(command, name, explanation, line, file)
         self.command, self.name, self.explanation, self.line, self.file = command, name, explanation, line, file
+
+    def __str__(self) -> str:
+        return f"{self.command}: refused {self.name}" + (f"\n{self.explanation}" if self.explanation else "")
 
 
 class SessionLost(SoldrichError):
@@ -26,9 +29,15 @@ class ProgramEnded(SessionLost):
     """The program ended, or didn't start. `status` is its exit status, less than 0 for a signal, or None if it didn't start."""
 
     def __init__(self, status: int | None, told: str):
-        how = "didn't start" if status is None else f"was ended by signal {-status}" if status < 0 else f"ended with status {status}"
-        super().__init__(f"the program {how}" + (f": {told}" if told else ""))
+        super().__init__(status, told)
         self.status, self.told = status, told
+
+    def __str__(self) -> str:
+        if self.status is None:
+            how = "didn't start"
+        else:
+            how = f"was ended by signal {-self.status}" if self.status < 0 else f"ended with status {self.status}"
+        return f"the program {how}" + (f": {self.told}" if self.told else "")
 
 
 class PipeBroken(SessionLost):
@@ -39,8 +48,11 @@ class NoAnswer(SessionLost):
     """The program didn't answer in the time that it was given."""
 
     def __init__(self, command: str, seconds: float):
-        super().__init__(f"{command}: no answer in {seconds:g} s; the program was ended")
+        super().__init__(command, seconds)
         self.command, self.seconds = command, seconds
+
+    def __str__(self) -> str:
+        return f"{self.command}: no answer in {self.seconds:g} s; the program was ended"
 
 
 class SessionClosed(SessionLost):

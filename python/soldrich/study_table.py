@@ -8,6 +8,7 @@ from pathlib import Path
 import pandas as pd
 
 from .errors import StudyError
+from .result_files import number_of
 
 FIRST = "variant"
 # what stands behind the factors
@@ -39,7 +40,7 @@ class StudyTable:
     def troubled(self) -> pd.DataFrame:
         """A row for each variant that was refused, or that ended in a fault."""
         variants = self.variants
-        return variants[variants["outcome"].str.match(r"(refused|fault)\b")].fillna("")
+        return variants[variants["outcome"].str.match(r"(?:refused|fault|lost)\b")].fillna("")
 
     def write(self, path: Path) -> None:
         """Writes the table, as Parquet if the path ends so, else as CSV."""
@@ -57,7 +58,8 @@ class StudyTable:
 
 def made_of(rows: Sequence[dict], factors: Sequence[str]) -> StudyTable:
     """Makes the table of rows."""
-    return StudyTable(pd.DataFrame(rows, columns=[FIRST, *factors, *LAST]))
+    # (whole numbers are to stay what they are, beside cells that are empty)
+    return StudyTable(pd.DataFrame(rows, columns=[FIRST, *factors, *LAST], dtype=object))
 
 
 def is_study_table(path: Path) -> bool:
@@ -67,7 +69,14 @@ def is_study_table(path: Path) -> bool:
 
 def read_study_table(path: Path) -> StudyTable:
     """Reads a table that a study wrote."""
-    frame = pd.read_parquet(path) if path.suffix == ".parquet" else pd.read_csv(path)
+    frame = pd.read_parquet(path) if path.suffix == ".parquet" else _read_csv(path)
     if list(frame.columns[:1]) != [FIRST] or list(frame.columns[-len(LAST) :]) != LAST:
         raise StudyError(f"{path}: this is no table of a study: its columns are {FIRST}, the factors, {', '.join(LAST)}")
     return StudyTable(frame)
+
+
+def _read_csv(path: Path) -> pd.DataFrame:
+    """Reads the cells as texts, and as numbers those that are."""
+    frame = pd.read_csv(path, dtype=str, keep_default_na=False, na_values={it: [""] for it in LAST})
+    numbers = [it for it in (FIRST, "valid_to", "events", "executed", "value") if it in frame]
+    return frame.assign(**{it: frame[it].map(number_of, na_action="ignore") for it in numbers})

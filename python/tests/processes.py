@@ -66,7 +66,7 @@ class Started:
             self._lines.put(line.rstrip("\n"))
 
 
-def programs_of(pid: int) -> list[int]:
-    """The processes of the program that this process started."""
+def children_of(pid: int) -> list[int]:
+    """The processes that this process started."""
     listed = subprocess.run(["ps", "-o", "pid=", "--ppid", str(pid)], capture_output=True, text=True, check=False).stdout
     return [int(it) for it in listed.split()]

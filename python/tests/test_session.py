@@ -3,6 +3,7 @@ from __future__ import annotations
 
 import os
 import pathlib
+import pickle
 import signal
 import stat
 import time
@@ -128,6 +129,12 @@ def test_a_line_end_is_no_part_of_a_command(session):
     with pytest.raises(ValueError, match="line end"):
         session.insert(3, "a = 1\nb = 2")
     assert session.held() == 1
+
+
+def test_errors_go_from_one_process_to_another():
+    for error in (Refused("run x", "Command", "why", 3), NoAnswer("run 1", 0.5), ProgramEnded(-9, "told")):
+        copy = pickle.loads(pickle.dumps(error))
+        assert str(copy) == str(error) and vars(copy) == vars(error)
 
 
 # --- what it answers

@@ -8,7 +8,7 @@ import signal
 
 import pytest
 from conftest import EXAMPLES, TOP, example, fresh_run
-from processes import Started, programs_of
+from processes import Started, children_of
 
 from soldrich.live_model import LiveModel, Options
 from soldrich.sources import Model, ModelFiles, Source, ned_files_below
@@ -156,7 +156,7 @@ def test_a_page_at_each_step(folder):
 
 
 def test_a_program_that_is_killed(folder, watched):
-    (program,) = programs_of(watched.process.pid)
+    (program,) = children_of(watched.process.pid)
     os.kill(program, signal.SIGKILL)
     (folder / "omnetpp.ini").write_text(changed(folder, "limit = 1s", "limit = 2s"))
     lines = watched.until(*DONE)
@@ -165,7 +165,7 @@ def test_a_program_that_is_killed(folder, watched):
 
 
 def test_nothing_is_left_behind(watched):
-    (program,) = programs_of(watched.process.pid)
+    (program,) = children_of(watched.process.pid)
     watched.process.send_signal(signal.SIGTERM)
     assert watched.process.wait(30) == 128 + signal.SIGTERM
     assert not pathlib.Path(f"/proc/{program}").exists()
