@@ -57,6 +57,7 @@ def _add_report(commands: argparse._SubParsersAction) -> None:
     it = commands.add_parser("report", help="makes a page of the results of a run, of two runs, or of a study")
     it.add_argument("-o", "--output", type=Path, default=Path("report.html"), metavar="PAGE", help="the page that is written")
     it.add_argument("results", type=Path, nargs="+", metavar="RESULTS", help="a result file, CONFIG-#0 for both files of a run, or a study's table; of two runs, both")
+    it.add_argument("-m", "--model", type=Path, action="append", default=[], metavar="FILE", help="the ini file, and again for each NED file: then the network is drawn")
     it.set_defaults(command=_report)
 
 
@@ -94,7 +95,7 @@ def _watch(options: argparse.Namespace) -> None:
 def _report(options: argparse.Namespace) -> None:
     from .report import report
 
-    print(f"written to {report(options.results, options.output)}")
+    print(f"written to {report(options.results, options.output, options.model)}")
 
 
 def _study(options: argparse.Namespace) -> None:

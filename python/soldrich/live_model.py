@@ -8,6 +8,7 @@ from pathlib import Path
 from .answers import Edited, Run
 from .comparison import ScalarPair, scalar_pairs
 from .errors import Refused, SessionLost
+from .network import drawing, network_of
 from .results import Results
 from .session import Session
 from .sources import Model, Source
@@ -102,6 +103,11 @@ class LiveModel:
         self._held = model
         run = self._session.run()
         return self._step(shown, None, edited.valid_to, run)
+
+    def drawing(self) -> str | None:
+        """Returns the network as SVG; None where the program doesn't list it."""
+        network = network_of(self._session)
+        return drawing(network) if network else None
 
     def close(self) -> None:
         """Ends the session."""

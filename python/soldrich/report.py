@@ -11,23 +11,26 @@ from . import figures
 from .comparison import Point, ScalarPair, VectorPair, scalar_pairs, vector_pairs, vectors_by_key
 from .errors import ResultFileError
 from .page import Column, Page, Part, Plot, Table
+from .network import drawing, network_of
+from .program import LOG
 from .result_files import PICOSECONDS, Vector
 from .results import Results, get_config_entries, get_runattrs
+from .session import Session
 from .study_table import StudyTable, is_study_table, read_study_table
 
 # a vector of more values has no table of them beside its plot
 LISTED = 200
 
 
-def report(paths: Sequence[Path], output: Path) -> Path:
-    """Writes the page of these results: of one run, of two, or a study's table."""
+def report(paths: Sequence[Path], output: Path, model: Sequence[Path] = ()) -> Path:
+    """Writes the page of these results: of one run, of two, or a study's table. The network is drawn if the model's files are named."""
     if len(paths) == 1 and is_study_table(paths[0]):
         return write_study_page(output, read_study_table(paths[0]), str(paths[0]))
     if len(paths) > 2:
         raise ResultFileError(f"a page shows one run or two, and {len(paths)} were named: CONFIG-#0 stands for both files of a run")
     runs = [Results.read(files_of_run(it)) for it in paths]
     before, after = (None, runs[0]) if len(runs) == 1 else runs
-    return write_run_page(output, before, after, names=[str(it) for it in paths])
+    return write_run_page(output, before, after, names=[str(it) for it in paths], svg=_drawing(model, after) if model else None)
 
 
 def files_of_run(path: Path) -> list[Path]:
@@ -46,9 +49,9 @@ def files_of_run(path: Path) -> list[Path]:
 
 
 def write_run_page(
-    output: Path, before: Results | None, after: Results, names: Sequence[str] = ("before", "after"), drawing: str | None = None, reloads: bool = False
+    output: Path, before: Results | None, after: Results, names: Sequence[str] = ("before", "after"), svg: str | None = None, reloads: bool = False
 ) -> Path:
-    """Writes the page of a run, beside an earlier one if there is one."""
+    """Writes the page of a run, beside an earlier one if there is one; `svg` is the drawing of the network."""
     attributes = _pairs(get_runattrs(after.frame))
     title = f"{attributes.get('network', 'a network')}, {attributes.get('configname', 'General')}"
     if before is None:
@@ -64,7 +67,7 @@ def write_run_page(
         made_of=" and ".join(names) if before is not None else names[-1],
         facts=_facts(attributes, after),
         config=_config(after),
-        drawing=drawing,
+        drawing=svg,
         parts=[it for it in parts if it],
         reloads=reloads,
     )
@@ -78,6 +81,17 @@ def seconds_shown(picoseconds: int) -> str:
 
 
 # --- one run
+
+
+def _drawing(model: Sequence[Path], results: Results) -> str | None:
+    """Draws the network of a model, as the configuration of these results has it."""
+    config = _pairs(get_runattrs(results.frame)).get("configname", "General")
+    with Session(model[0], model[1:], config, limit=0) as session:
+        network = network_of(session)
+    if network is None:
+        LOG.warning("the program doesn't list its modules and connections yet: the page is without the network")
+        return None
+    return drawing(network)
 
 
 def _pairs(frame: pd.DataFrame) -> dict[str, str]:

@@ -31,7 +31,8 @@ class StepPrinter:
             if text:
                 self.line(text)
         self._scalars(step)
-        self.line(f"written to {step.files[0]} and .vec, {seconds:.3f} s after the save", style="dim")
+        since = f"{seconds:.3f} s after the save" if step.before else f"in {seconds:.3f} s"
+        self.line(f"written to {step.files[0]} and .vec, {since}", style="dim")
 
     def trouble(self, text: str) -> None:
         """Prints why a save has no effect."""

@@ -80,5 +80,5 @@ class _Watch:
             # (it takes a second to import what draws the page)
             from .report import write_run_page
 
-            write_run_page(self._page, step.before, step.after, reloads=True)
+            write_run_page(self._page, step.before, step.after, svg=self._live.drawing(), reloads=True)
             self.printer.line(f"the page is {self._page}")

@@ -2,6 +2,7 @@
 from __future__ import annotations
 
 import os
+import pathlib
 import queue
 import signal
 import subprocess
@@ -20,7 +21,10 @@ class Started:
     def __init__(self, words: Sequence[str | os.PathLike], folder: os.PathLike):
         command = [sys.executable, "-m", "soldrich", *map(str, words)]
         streams = {"stdout": subprocess.PIPE, "stderr": subprocess.STDOUT, "stdin": subprocess.DEVNULL}
-        self.process = subprocess.Popen(command, cwd=folder, env=ENVIRONMENT, text=True, **streams)
+        # (what a process leaves that is killed goes with the folder)
+        rest = pathlib.Path(folder, ".rest")
+        rest.mkdir(exist_ok=True)
+        self.process = subprocess.Popen(command, cwd=folder, env={**ENVIRONMENT, "TMPDIR": str(rest)}, text=True, **streams)
         self._lines: queue.Queue[str] = queue.Queue()
         threading.Thread(target=self._read, daemon=True).start()
         self.read: list[str] = []
