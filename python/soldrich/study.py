@@ -4,6 +4,7 @@ from __future__ import annotations
 import contextlib
 import logging
 import os
+import tempfile
 from collections.abc import Iterator
 from pathlib import Path
 
@@ -59,14 +60,17 @@ def _client(workers: int, scheduler: str | None) -> Iterator[Client]:
             yield client
         return
     options = {"threads_per_worker": 1, "dashboard_address": ":0", "memory_limit": 0, "silence_logs": logging.CRITICAL}
-    with LocalCluster(n_workers=workers, **options) as cluster, Client(cluster) as client:
-        yield client
+    with tempfile.TemporaryDirectory(prefix="soldrich-") as folder:
+        with LocalCluster(n_workers=workers, local_directory=folder, **options) as cluster, Client(cluster) as client:
+            yield client
 
 
 def _run(client: Client, read: Study) -> tuple[list[Outcome], int]:
     """Runs all variants, and returns what came of them, in their order, and how many events the runs of the base had."""
     base = client.submit(base_of, read.base, pure=False)
-    tasks = {client.submit(run_variant, base, Task(it, read.keep), retries=RETRIES, pure=False): it.number for it in read.variants}
+    # in their order: from one variant to the next the last factor changes first
+    how = {"retries": RETRIES, "pure": False}
+    tasks = {client.submit(run_variant, base, Task(it, read.keep), priority=-it.number, **how): it.number for it in read.variants}
     outcomes = {}
     columns = (TextColumn("{task.description}"), BarColumn(), MofNCompleteColumn(), TimeRemainingColumn())
     console = Console(stderr=True)

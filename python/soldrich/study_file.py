@@ -9,7 +9,7 @@ from pathlib import Path
 
 from .errors import StudyError
 from .sources import Source, ned_files_below
-from .variants import Base, Configuration, Connection, Entry, NedFile, Variant
+from .variants import Base, Configuration, Connection, Edit, Entry, NedFile, Variant
 
 EVENTS = 1_000_000
 # how factors are combined: each choice with each, or the first ones, the second ones ..
@@ -22,7 +22,7 @@ class Factor:
 
     name: str
     shown: tuple[str, ...]
-    edits: tuple[Entry | Configuration | Connection | NedFile | None, ...]
+    edits: tuple[Edit | None, ...]
 
 
 @dataclass(frozen=True)

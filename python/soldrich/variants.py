@@ -61,6 +61,7 @@ class NedFile:
     source: Source
 
 
+# what a choice of a factor does
 Edit = Entry | Configuration | Connection | NedFile
 
 
@@ -73,14 +74,19 @@ class Variant:
     edits: tuple[Edit, ...]
 
     @property
+    def config(self) -> str | None:
+        """The configuration that it selects; None for that of the base."""
+        return next((it.name for it in self.edits if isinstance(it, Configuration)), None)
+
+    @property
     def entries(self) -> list[Entry]:
-        """Its edits that are entries."""
+        """Its entries."""
         return [it for it in self.edits if isinstance(it, Entry)]
 
     @property
-    def others(self) -> list[Edit]:
-        """Its other edits."""
-        return [it for it in self.edits if not isinstance(it, Entry)]
+    def of_types(self) -> list[Connection | NedFile]:
+        """Its edits of the NED files."""
+        return [it for it in self.edits if isinstance(it, Connection | NedFile)]
 
 
 @dataclass(frozen=True)
@@ -106,14 +112,13 @@ class VariantSession:
     def __init__(self, base: Base):
         self._session = Session(base.ini, base.neds, base.config, base.limit, base.interval)
         self._base = base
-        self._lines = base.ini.lines
+        # what is made now: the selected configuration, the entries in each section, and edits of NED files with how they are taken back
         self._config = base.config
-        # edits that are made now, the entries among them by line, and how the others are taken back
-        self._entries: list[Entry] = []
-        self._others: list[Edit] = []
+        self._entries: dict[str, list[Entry]] = {}
+        self._of_types: list[Connection | NedFile] = []
         self._back: list[Callable[[], Edited]] = []
         # (behind all that the text says itself, and without another number for any of its lines)
-        end = len(self._lines) + 1
+        end = len(base.ini.lines) + 1
         self._session.insert(end, "[General]")
         self._session.insert(end + 1, "**.vector-recording = false")
 
@@ -136,32 +141,32 @@ class VariantSession:
         return Outcome(variant.number, run.outcome, run.explanation, valid_to, run.events, run.executed, self._scalars(keep))
 
     def _become(self, variant: Variant) -> int | None:
-        """Makes the session's model this variant. Raises Refused where it is none: then the model is some variant, or the base."""
-        valid: list[int | None] = []
-        if variant.others != self._others:
-            self._leave_entries(0, valid)
-            self._take_others_back(valid)
-            self._make_others(variant.others, valid)
-        self._make_entries(variant.entries, valid)
-        known = self._session.last_run.events
+        """Makes the session's model this variant, and returns up to which event the run before is one of it. Raises Refused where it
+        is none: then the model is one between."""
+        valid: list[int | None] = [self._session.last_run.events]
+        if variant.of_types != self._of_types:
+            self._take_types_back(valid)
+            self._make_types(variant.of_types, valid)
+        config = variant.config or self._base.config
+        if config == self._config:
+            self._make_entries(config, variant.entries, valid)
+        else:
+            self._select(config, variant.entries, valid)
         # (none is less than any)
-        return known if not valid else min(valid, key=lambda it: -1 if it is None else it)
+        return min(valid, key=lambda it: -1 if it is None else it)
 
-    def _make_others(self, edits: list[Edit], valid: list[int | None]) -> None:
-        session = self._session
+    def _make_types(self, edits: list[Connection | NedFile], valid: list[int | None]) -> None:
+        """Makes edits of NED files, or none of them."""
         try:
             for edit in edits:
-                valid.append(self._make_other(session, edit).valid_to)
-                self._others.append(edit)
+                valid.append(self._make_type(self._session, edit).valid_to)
         except Refused:
-            self._take_others_back(valid)
+            self._take_types_back(valid)
             raise
+        self._of_types = edits
 
-    def _make_other(self, session: Session, edit: Edit) -> Edited:
-        if isinstance(edit, Configuration):
-            edited, self._config = session.config(edit.name), edit.name
-            self._back.append(lambda: session.config(self._base.config))
-        elif isinstance(edit, Connection):
+    def _make_type(self, session: Session, edit: Connection | NedFile) -> Edited:
+        if isinstance(edit, Connection):
             edited = session.connect(edit.type, edit.place, edit.text)
             self._back.append(lambda: session.disconnect(edit.type, edit.place))
         else:
@@ -169,36 +174,56 @@ class VariantSession:
             self._back.append(lambda: session.ned(edit.file, self._base.neds[edit.file]))
         return edited
 
-    def _take_others_back(self, valid: list[int | None]) -> None:
+    def _take_types_back(self, valid: list[int | None]) -> None:
         while self._back:
             valid.append(self._back.pop()().valid_to)
-        self._others, self._config = [], self._base.config
+        self._of_types = []
 
-    def _make_entries(self, entries: list[Entry], valid: list[int | None]) -> None:
-        """Puts entries in, each in the place of the one that stands there."""
-        self._leave_entries(len(entries), valid)
-        first = self._first_line() if entries else 0
+    def _select(self, config: str, entries: list[Entry], valid: list[int | None]) -> None:
+        """Selects a configuration. The entries stand in its section before they go from that of the other one: so what is equal in
+        both configurations stays as it is."""
+        try:
+            self._make_entries(config, entries, valid)
+            valid.append(self._session.config(config).valid_to)
+        except Refused:
+            self._leave_entries(config, 0, valid)
+            raise
+        before, self._config = self._config, config
+        self._leave_entries(before, 0, valid)
+
+    def _make_entries(self, config: str, entries: list[Entry], valid: list[int | None]) -> None:
+        """Puts entries into the section of a configuration, each in the place of the one that stands there."""
+        self._leave_entries(config, len(entries), valid)
+        made = self._entries.setdefault(config, [])
         for at, entry in enumerate(entries):
-            if at >= len(self._entries):
-                valid.append(self._session.insert(first + at, entry.line).valid_to)
-                self._entries.append(entry)
-            elif self._entries[at] != entry:
-                valid.append(self._session.replace(first + at, entry.line).valid_to)
-                self._entries[at] = entry
+            if at == len(made):
+                valid.append(self._session.insert(self._line(config, at), entry.line).valid_to)
+                made.append(entry)
+            elif made[at] != entry:
+                valid.append(self._session.replace(self._line(config, at), entry.line).valid_to)
+                made[at] = entry
 
-    def _leave_entries(self, count: int, valid: list[int | None]) -> None:
-        """Takes entries out, so that at most so many are left."""
-        while len(self._entries) > count:
-            valid.append(self._session.remove(self._first_line() + len(self._entries) - 1).valid_to)
-            self._entries.pop()
+    def _leave_entries(self, config: str, count: int, valid: list[int | None]) -> None:
+        """Takes entries out of the section of a configuration, so that at most so many are left."""
+        made = self._entries.get(config, [])
+        while len(made) > count:
+            valid.append(self._session.remove(self._line(config, len(made) - 1)).valid_to)
+            made.pop()
 
-    def _first_line(self) -> int:
-        """Returns the number of the line behind the head of the configuration's section."""
-        head = re.compile(rf"\[(Config )?{re.escape(self._config)}\]\s*(#.*)?")
-        for number, line in enumerate(self._lines, 1):
+    def _line(self, config: str, at: int) -> int:
+        """Returns the number of the line of an entry: they stand behind the head of a section, in their order."""
+        head = self._head(config)
+        above = sum(len(made) for other, made in self._entries.items() if made and self._head(other) < head)
+        return head + above + 1 + at
+
+    def _head(self, config: str) -> int:
+        """Returns the number of the line with the head of a configuration's section, in the text of the base."""
+        head = re.compile(rf"\[(Config )?{re.escape(config)}\]\s*(#.*)?")
+        for number, line in enumerate(self._base.ini.lines, 1):
             if head.fullmatch(line):
-                return number + 1
-        raise Refused("an entry", "NoSuchConfig", f"{self._base.ini.path}: there is no line [{self._config}] or [Config {self._config}], behind which an entry would stand")
+                return number
+        told = f"{self._base.ini.path}: there is no line [Config {config}], behind which an entry would stand"
+        raise Refused("an entry", "NoSuchConfig", told)
 
     def _scalars(self, keep: tuple[str, ...]) -> tuple[tuple[str, str, int | float], ...]:
         expressions = [pattern(it) for it in keep]
