@@ -30,6 +30,9 @@ class Shown:
         return len(self.vector.values) < self.count
 
 
+NOTHING = Shown(Vector(*(np.empty(0, np.int64) for _ in range(3))), 0)
+
+
 def thinned(vector: Vector) -> Shown:
     """Leaves out points where there are too many: of each of equally many points in a row the least and the greatest value stay."""
     count = len(vector.values)
@@ -61,10 +64,9 @@ def vector_figure(shown: Shown, name: str) -> go.Figure:
 def pair_figure(pair: VectorPair, before: Shown | None, after: Shown | None) -> go.Figure:
     """Returns a figure of a vector in two runs, with a line where they part."""
     figure = _figure()
-    if before:
-        _add(figure, before, "before", dash="dot")
-    if after:
-        _add(figure, after, "after")
+    # (a run without it has an empty line, so that both keep their colours)
+    _add(figure, before or NOTHING, "before", dash="dot")
+    _add(figure, after or NOTHING, "after")
     point = pair.first_difference
     if point:
         at = point.picoseconds / PICOSECONDS

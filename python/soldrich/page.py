@@ -68,6 +68,7 @@ class Page:
     parts: Sequence[Part]
     facts: Table | None = None
     config: Table | None = None
+    config_head: str = ""
     drawing: str | None = None
     reloads: bool = False
     plots: list[Plot] = field(init=False)
@@ -97,6 +98,7 @@ class Page:
             lead=self.lead,
             facts=self.facts,
             config=self.config,
+            config_head=self.config_head,
             drawing=Markup(self.drawing) if self.drawing else None,
             parts=self.parts,
             made_of=self.made_of,

@@ -49,24 +49,26 @@ def files_of_run(path: Path) -> list[Path]:
 
 
 def write_run_page(
-    output: Path, before: Results | None, after: Results, names: Sequence[str] = ("before", "after"), svg: str | None = None, reloads: bool = False
+    output: Path, before: Results | None, after: Results, names: Sequence[str] = ("the run before", "the last run"), svg: str | None = None, reloads: bool = False
 ) -> Path:
     """Writes the page of a run, beside an earlier one if there is one; `svg` is the drawing of the network."""
     attributes = _pairs(get_runattrs(after.frame))
     title = f"{attributes.get('network', 'a network')}, {attributes.get('configname', 'General')}"
     if before is None:
-        lead = f"{len(after.scalars)} scalars and {len(after.vectors)} vectors of one run."
+        lead = f"{_counted(len(after.scalars), 'scalar')} and {_counted(len(after.vectors), 'vector')} of one run."
         parts = [_scalars_part(after), _vectors_part(after)]
     else:
         scalars, vectors = scalar_pairs(before, after), vector_pairs(before, after)
         lead = _lead(scalars, vectors)
         parts = [_changed_entries_part(before, after), _scalar_pairs_part(scalars), _vector_pairs_part(vectors)]
+    config = _config(after)
     page = Page(
         title=title,
         lead=lead,
         made_of=" and ".join(names) if before is not None else names[-1],
         facts=_facts(attributes, after),
-        config=_config(after),
+        config=config,
+        config_head=_counted(len(config.rows), "entry", "entries") + " of the configuration" if config else "",
         drawing=svg,
         parts=[it for it in parts if it],
         reloads=reloads,
@@ -135,7 +137,8 @@ def _summary(vector: Vector) -> str:
     values = vector.values
     if not len(values):
         return "no values"
-    span = f"from {seconds_shown(int(vector.picoseconds[0]))} to {seconds_shown(int(vector.picoseconds[-1]))}"
+    first, last = (seconds_shown(int(vector.picoseconds[it])) for it in (0, -1))
+    span = f"at {first}" if first == last else f"from {first} to {last}"
     return f"{_counted(len(values), 'value')} {span}; least {_shown(np.min(values).item())}, greatest {_shown(np.max(values).item())}, last {_shown(values[-1].item())}"
 
 
@@ -253,8 +256,8 @@ def write_study_page(output: Path, table: StudyTable, name: str) -> Path:
 # --- words
 
 
-def _counted(count: int, word: str) -> str:
-    return f"{count:,} {word}{'' if count == 1 else 's'}"
+def _counted(count: int, word: str, words: str | None = None) -> str:
+    return f"{count:,} {word if count == 1 else words or f'{word}s'}"
 
 
 def _shown(value: int | float | None) -> str:

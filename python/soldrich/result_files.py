@@ -14,6 +14,10 @@ from .errors import ResultFileError
 
 Number = int | float
 PICOSECONDS = 1_000_000_000_000
+LAST_PICOSECOND = np.uint64(2**63 - 1)
+# a number of so many digits is less than that
+SAFE_DIGITS = 18
+TEN = np.uint64(10)
 WORD = re.compile(r'"((?:[^"\\]|\\.)*)"|(\S+)')
 ESCAPES = {"n": "\n", "t": "\t", "r": "\r"}
 
@@ -228,10 +232,10 @@ def _numbers(values: np.ndarray) -> np.ndarray:
 def picoseconds(texts: np.ndarray) -> np.ndarray:
     """Reads times in seconds, decimal and without exponent, as whole picoseconds: exactly, where a float of seconds would round."""
     letters = np.ascontiguousarray(texts).view(np.uint8).reshape(len(texts), texts.dtype.itemsize)
-    total = np.zeros(len(texts), np.int64)
+    total = np.zeros(len(texts), np.uint64)
     is_behind = np.zeros(len(texts), bool)
-    left = np.full(len(texts), 12, np.int64)
-    for column in np.ascontiguousarray(letters.T):
+    left = np.full(len(texts), 12)
+    for at, column in enumerate(np.ascontiguousarray(letters.T)):
         if not column.any():
             break
         digit = column - ord("0")
@@ -242,10 +246,17 @@ def picoseconds(texts: np.ndarray) -> np.ndarray:
             raise ResultFileError(f"the time '{odd}' is not a decimal number of seconds")
         # (what is behind the twelfth decimal is no picosecond any more)
         is_counted = is_digit & (left > 0)
-        total = np.where(is_counted, total * 10 + digit, total)
+        if at >= SAFE_DIGITS:
+            _see_that_it_fits(total[is_counted], 10)
+        total = np.where(is_counted, total * TEN + digit, total)
         left -= is_counted & is_behind
         is_behind |= is_point
-    scale = 10**left
-    if (total > np.iinfo(np.int64).max // scale).any():
+    scale = TEN**left.astype(np.uint64)
+    _see_that_it_fits(total, scale)
+    return (total * scale).astype(np.int64)
+
+
+def _see_that_it_fits(numbers: np.ndarray, factors: np.ndarray | int) -> None:
+    """Raises ResultFileError where a number times its factor is no time that is read."""
+    if (numbers > LAST_PICOSECOND // np.asarray(factors, np.uint64)).any():
         raise ResultFileError("a time is above 9223372.036854775807 s, the last one that is read")
-    return total * scale

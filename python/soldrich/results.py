@@ -20,6 +20,7 @@ if TYPE_CHECKING:
     import plotly.graph_objects
 
 Patterns = str | os.PathLike | Iterable[str | os.PathLike]
+ENDINGS = (".sca", ".vec")
 COLUMNS = ["runID", "type", "module", "name", "attrname", "attrvalue", "value", "exact", "vectime", "vecvalue", "vecps", "vecevent"]
 
 
@@ -40,15 +41,15 @@ def read_result_files(patterns: Patterns) -> pd.DataFrame:
 
 
 def paths_of(patterns: Patterns) -> list[Path]:
-    """Returns the result files that patterns name, without those that a run is just writing; a folder names those in it."""
-    made = []
+    """Returns the result files that patterns name, by their endings: a folder names those in it. A path without pattern is taken as it is."""
+    made: list[Path] = []
     for it in [patterns] if isinstance(patterns, (str, os.PathLike)) else patterns:
         text = os.fspath(it)
-        found = sorted(Path(text).glob("*.sca")) + sorted(Path(text).glob("*.vec")) if os.path.isdir(text) else []
-        found = found or ([Path(text)] if os.path.isfile(text) else [Path(path) for path in sorted(glob.glob(text, recursive=True))])
+        inside = os.path.join(glob.escape(text), "*") if os.path.isdir(text) else text
+        found = [text] if os.path.isfile(text) else [path for path in sorted(glob.glob(inside, recursive=True)) if path.endswith(ENDINGS)]
         if not found:
             raise ResultFileError(f"{text}: there is no such result file: they are named as CONFIG-#0.sca and CONFIG-#0.vec")
-        made.extend(path for path in found if path.suffix != ".part" and path not in made)
+        made.extend(Path(path) for path in found if Path(path) not in made)
     return made
 
 

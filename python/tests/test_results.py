@@ -10,7 +10,7 @@ import pytest
 from soldrich import ResultFileError, Results, read_result_files
 from soldrich.patterns import pattern
 from soldrich.result_files import SkippedResults, picoseconds
-from soldrich.results import get_config_entries, get_itervars, get_runattrs, get_runs, get_scalars, get_vectors
+from soldrich.results import get_config_entries, get_itervars, get_runattrs, get_runs, get_scalars, get_vectors, paths_of
 
 HEAD = "version 3\nrun General-0\nattr configname General\nattr network N\nconfig network N\nconfig **.count 3\n\n"
 # as OMNeT++ 6 writes them: with quotes, attributes of results, statistics and histograms, real values, vectors without event numbers
@@ -133,6 +133,8 @@ def test_files_of_omnetpp(tmp_path):
         (HEAD + "scalar N x\n", r":8: "),
         (HEAD + "vector 0 N x ETV\n0\t1\t1s\t1\n", "the time '1s' is not a decimal number"),
         (HEAD + "vector 0 N x ETV\n0\t1\t9223372.036854775808\t1\n", "a time is above 9223372.036854775807 s"),
+        (HEAD + "vector 0 N x ETV\n0\t1\t98765432109876543210.5\t1\n", "a time is above"),
+        (HEAD + "vector 0 N x ETV\n0\t1\t9223373\t1\n", "a time is above"),
         (HEAD + "vector 0 N x EV\n0\t1\t1\n", "vector 0 has the columns 'EV'"),
         (HEAD + "5\t1\t1\t1\n", "no line 'vector 5 ..' declares it"),
         (HEAD + "vector 0 N x ETV\n0\t1\t1\t1\t1\t1\n", "a line of values is not"),
@@ -149,6 +151,14 @@ def test_vectors_without_event_numbers(tmp_path):
     path = written(tmp_path, "x.vec", OMNETPP_HEAD + "vector 3 N.t x:vector TV\n3\t0.5\t1\n3\t1\t2\n")
     vector = Results.read(path).vector("N.t", "x:vector")
     assert vector["time"].tolist() == [0.5, 1] and vector["value"].tolist() == [1, 2]
+
+
+def test_which_files_are_meant(tmp_path):
+    for name in ("a.sca", "b/a.vec", "a.sca.part", "page.html"):
+        (tmp_path / name).parent.mkdir(exist_ok=True)
+        written(tmp_path, name, HEAD)
+    named = [str(it.relative_to(tmp_path)) for it in paths_of([tmp_path / "*", tmp_path, tmp_path / "**/*", tmp_path / "a.sca.part"])]
+    assert named == ["a.sca", "b/a.vec", "a.sca.part"]
 
 
 def test_no_files(tmp_path):
