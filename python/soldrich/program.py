@@ -53,6 +53,8 @@ class Program:
         os.set_blocking(self._process.stdin.fileno(), False)
         self._end = weakref.finalize(self, _end, self._process)
         self._told_read = 0
+        # lines of it that were logged while the first answer was waited for, and may say why none comes
+        self._logged: list[str] = []
 
     @property
     def pid(self) -> int:
@@ -75,9 +77,12 @@ class Program:
         """Returns the first line of standard output. What the program tells meanwhile is logged, as that it is compiled."""
         deadline = time.monotonic() + self.seconds + COMPILE_SECONDS
         while True:
-            for line in self.told():
+            lines = self.told()
+            self._logged += lines
+            for line in lines:
                 LOG.info("%s", line)
             if self._has_line(min(deadline, time.monotonic() + 0.5)):
+                self._logged.clear()
                 return self._take_line()
             if time.monotonic() >= deadline:
                 self._give_up(NoAnswer("the first run", self.seconds + COMPILE_SECONDS))
@@ -134,7 +139,7 @@ class Program:
             status = self._process.wait(1)
         except subprocess.TimeoutExpired:
             return PipeBroken("the program closed its streams, and goes on; it was ended")
-        return ProgramEnded(status, "\n".join(self.told()))
+        return ProgramEnded(status, "\n".join([*self._logged, *self.told()]))
 
     def _give_up(self, error: SoldrichError) -> None:
         self.close()

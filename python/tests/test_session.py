@@ -4,12 +4,13 @@ from __future__ import annotations
 import os
 import pathlib
 import pickle
+import re
 import signal
 import stat
 import time
 
 import pytest
-from conftest import PROGRAM, example
+from conftest import PROGRAM, TOP, example
 
 from soldrich import NoAnswer, PipeBroken, ProgramEnded, Refused, Session, SessionClosed, SoldrichError
 from soldrich.program import find_program
@@ -84,6 +85,9 @@ TEXTS = [
     (b"[General]\nnetwork = N\n**.count = (\n", TICK, "IniSyntax", None, 3, "x.ini:3: "),
     (INI, TICK + TICK, "DuplicateType", None, None, "Tick"),
     (INI, TICK.replace(b"t: Tick", b"t: Tock"), "UnknownType", None, None, "Tock"),
+    (INI, TICK + b"simple A extends A {}\n", "InheritanceCircle", None, None, "A"),
+    (INI, TICK.replace(b"t: Tick;", b"t: Tick; t: Tick;"), "KindClash", None, None, "t"),
+    (INI, TICK + b"moduleinterface I { gates: input g; }\nsimple A like I {}\n", "Interface", None, None, "g"),
     (b"", TICK, "NoSuchNetwork", None, None, "network = NAME"),
     (INI, b" " * ((1 << 20) + 1), "TooLarge", None, None, "1 MiB"),
 ]
@@ -135,6 +139,18 @@ def test_errors_go_from_one_process_to_another():
     for error in (Refused("run x", "Command", "why", 3), NoAnswer("run 1", 0.5), ProgramEnded(-9, "told")):
         copy = pickle.loads(pickle.dumps(error))
         assert str(copy) == str(error) and vars(copy) == vars(error)
+
+
+def test_every_refusal_is_tried():
+    """Of texts, and of edits: all that docs/REFUSALS.md lists, but want of memory."""
+    page = (TOP / "docs/REFUSALS.md").read_text()
+    sections = dict(re.findall(r"^## (.*)\n([^#]*)", page, re.M))
+    for section, tried in (("Refusals of texts", TEXTS), ("Refusals of edits", EDITS)):
+        listed = {name for row in re.findall(r"^\| (`.*?) \|", sections[section], re.M) for name in re.findall(r"`([A-Z]\w+)", row)}
+        missing = listed - {it[1] if tried is EDITS else it[2] for it in tried} - {"NoMemory", "NoSuchConfig", "ChainFault"}
+        assert not missing, section
+        # (these two have tests of their own, above)
+        assert {"NoSuchConfig", "ChainFault"} <= listed
 
 
 # --- what it answers
@@ -255,6 +271,14 @@ def test_a_program_that_fails(tmp_path, script, error):
         with begin(program=stand_in(tmp_path, script), seconds=1.0) as session:
             session.run()
     assert time.monotonic() - begun < 20
+
+
+def test_a_refusal_that_comes_late(tmp_path):
+    """What it says is read while the first answer is waited for, and is why none comes."""
+    script = "echo 'nedrun: IniSyntax line 3' >&2; echo 'x.ini:3: what is wrong' >&2; sleep 1.2; exit 2"
+    with pytest.raises(Refused) as refused:
+        begin(program=stand_in(tmp_path, script))
+    assert (refused.value.name, refused.value.line, refused.value.explanation) == ("IniSyntax", 3, "x.ini:3: what is wrong")
 
 
 def test_a_program_that_is_not_there(tmp_path):
