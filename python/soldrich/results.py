@@ -13,6 +13,7 @@ import numpy as np
 import pandas as pd
 
 from .errors import ResultFileError
+from .filters import filter_of
 from .patterns import pattern
 from .result_files import Item, ResultFile, read_file
 
@@ -24,18 +25,19 @@ ENDINGS = (".sca", ".vec")
 COLUMNS = ["runID", "type", "module", "name", "attrname", "attrvalue", "value", "exact", "vectime", "vecvalue", "vecps", "vecevent"]
 
 
-def read_result_files(patterns: Patterns) -> pd.DataFrame:
+def read_result_files(patterns: Patterns, filter_expression: str | None = None) -> pd.DataFrame:
     """Reads all result files that patterns name (`results/*.sca`; `**` stands for folders too), and returns a row for each scalar,
-    vector, parameter, attribute and entry of the configuration."""
-    found = paths_of(patterns)
+    vector, parameter, attribute and entry of the configuration. A filter chooses scalars, vectors and parameters (`filters`)."""
+    is_meant = filter_of(filter_expression) if filter_expression else lambda file, item: True
     rows, seen = [], set()
-    for path in found:
+    for path in paths_of(patterns):
         for file in read_file(path):
+            items = [it for it in file.items if is_meant(file, it)]
             # (the scalar file and the vector file of a run begin with the same lines)
-            if file.run not in seen:
+            if file.run not in seen and (items or not filter_expression):
                 rows.extend(_run_rows(file))
-            seen.add(file.run)
-            for item in file.items:
+                seen.add(file.run)
+            for item in items:
                 rows.extend(_item_rows(file, item))
     return pd.DataFrame(rows, columns=COLUMNS, dtype=object).astype({"value": float})
 

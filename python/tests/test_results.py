@@ -147,6 +147,45 @@ def test_what_is_no_result_file(tmp_path, text, told):
     assert str(error.value).startswith(str(path)) or "time" in told
 
 
+@pytest.mark.parametrize(
+    "expression, names",
+    [
+        ("rx:count", ["rx:count"]),
+        ("name =~ *:count", ["rx:count"]),
+        ('module =~ "FifoNet.*" AND type =~ vector', ["qlen:vector", "lifetime:vector", "late:vector"]),
+        ("type =~ scalar AND NOT (name =~ rx* OR name =~ *:timeavg)", ["bits sent", "nothing:mean"]),
+        ('name =~ "bits sent" OR attr:source =~ qlen', ["bits sent", "qlen:vector"]),
+        ("itervar:n =~ 3", []),
+        ("itervar:n =~ 2 AND runattr:network =~ FifoNet AND config:network =~ * AND run =~ General** AND file =~ **.sca AND type =~ param", ["msgLength"]),
+    ],
+)
+@pytest.mark.filterwarnings("ignore::soldrich.result_files.SkippedResults")
+def test_a_filter(tmp_path, expression, names):
+    written(tmp_path, "x.sca", OMNETPP_HEAD + OMNETPP_SCALARS)
+    written(tmp_path, "x.vec", OMNETPP_HEAD + OMNETPP_VECTORS)
+    frame = read_result_files(tmp_path, expression)
+    assert frame[frame["type"].isin(["scalar", "vector", "param"])]["name"].tolist() == names
+    assert bool(len(frame[frame["type"] == "runattr"])) == bool(names)
+
+
+@pytest.mark.parametrize(
+    "expression, told",
+    [
+        ("module =~", "a pattern is missing"),
+        ("(rx:count", "a parenthesis isn't closed"),
+        ("a b", "'b' stands where AND, OR or the end is expected"),
+        ("modul =~ a", "'modul' is no field; there are file, run"),
+        ("AND", "'AND' stands where a field or a pattern is expected"),
+        ('"open', "can't be read"),
+    ],
+)
+def test_what_is_no_filter(tmp_path, expression, told):
+    written(tmp_path, "x.sca", HEAD)
+    with pytest.raises(ResultFileError) as error:
+        read_result_files(tmp_path, expression)
+    assert told in str(error.value) and expression in str(error.value)
+
+
 def test_vectors_without_event_numbers(tmp_path):
     path = written(tmp_path, "x.vec", OMNETPP_HEAD + "vector 3 N.t x:vector TV\n3\t0.5\t1\n3\t1\t2\n")
     vector = Results.read(path).vector("N.t", "x:vector")
