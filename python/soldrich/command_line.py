@@ -21,7 +21,8 @@ def main(words: Sequence[str] | None = None) -> int:
     LOG.addHandler(logging.StreamHandler())
     LOG.setLevel(logging.INFO)
     # so that what was begun is ended: a session and its folder
-    signal.signal(signal.SIGTERM, lambda *_: sys.exit(128 + signal.SIGTERM))
+    for it in (signal.SIGTERM, signal.SIGHUP):
+        signal.signal(it, lambda number, _: sys.exit(128 + number))
     try:
         options.command(options)
     except KeyboardInterrupt:
@@ -89,7 +90,7 @@ def _watch(options: argparse.Namespace) -> None:
     options.output.mkdir(parents=True, exist_ok=True)
     files = ModelFiles(ini, tuple(neds), tuple(options.folder))
     page = options.output / "report.html" if options.report else None
-    watch(files, Options(options.config, options.output, options.limit, options.interval), page)
+    watch(files, Options(options.config, options.output, options.limit, options.interval, options.report), page)
 
 
 def _report(options: argparse.Namespace) -> None:

@@ -1,6 +1,7 @@
 """A model that is held by a session, and follows texts as they are saved."""
 from __future__ import annotations
 
+import hashlib
 from collections.abc import Callable
 from dataclasses import dataclass
 from pathlib import Path
@@ -19,12 +20,13 @@ IN_WORDS = {Kind.INSERT: "inserted", Kind.REPLACE: "replaced", Kind.REMOVE: "rem
 
 @dataclass(frozen=True)
 class Options:
-    """How the sessions of a live model are begun."""
+    """How the sessions of a live model are begun, and whether the vectors of its results are read: of a long run that takes a while."""
 
     config: str
     output: Path
     limit: int
     interval: int
+    reads_vectors: bool
 
 
 @dataclass(frozen=True)
@@ -51,6 +53,7 @@ class Step:
     before: Results | None
     after: Results
     files: tuple[Path, Path]
+    has_other_vectors: bool
 
     @property
     def changed_scalars(self) -> list[ScalarPair]:
@@ -66,6 +69,7 @@ class LiveModel:
         self._session: Session | None = None
         self._held: Model | None = None
         self._results: Results | None = None
+        self._vectors: bytes | None = None
 
     @property
     def held(self) -> Model | None:
@@ -129,12 +133,13 @@ class LiveModel:
         return self._step([], why, None, session.first_run)
 
     def _step(self, edits: list[str], begun: str | None, valid_to: int | None, run: Run) -> Step:
-        session, before = self._session, self._results
+        session, before, vectors = self._session, self._results, self._vectors
         why = None if begun else session.why()
         notes = session.notes()
         files = session.write()
-        self._results = Results.read(files)
-        return Step(edits, begun, valid_to, run, why, notes, before, self._results, files)
+        self._results = Results.read(files if self._options.reads_vectors else files[0])
+        self._vectors = _digest_of_vectors(files[1])
+        return Step(edits, begun, valid_to, run, why, notes, before, self._results, files, vectors != self._vectors)
 
     def _edits(self, model: Model) -> list[Edit]:
         """Returns the edits that make these texts of those that the session holds."""
@@ -195,3 +200,11 @@ class LiveModel:
             return f"{edit.source.path} was read anew"
         text = edit.text if edit.kind is not Kind.REMOVE else self._held.ini.lines[edit.before]
         return f"{model.ini.path}: {IN_WORDS[edit.kind]}: {text}"
+
+
+def _digest_of_vectors(path: Path) -> bytes:
+    """Returns a sum of what a vector file says behind its header, which names the configuration and ends with an empty line."""
+    with path.open("rb") as file:
+        while file.readline().strip():
+            pass
+        return hashlib.file_digest(file, "blake2b").digest()

@@ -48,9 +48,9 @@ class StepPrinter:
     def _scalars(self, step: Step) -> None:
         changed = step.changed_scalars
         if step.before is None:
-            self.line(f"{len(step.after.scalars)} scalars and {len(step.after.vectors)} vectors")
+            self.line(f"{len(step.after.scalars)} scalars")
         elif not changed:
-            self.line("no scalar changed")
+            self.line("no scalar changed, but a vector did" if step.has_other_vectors else "no scalar and no vector changed")
         elif self._console.is_terminal:
             self._console.print(_table(changed[:MOST_ROWS]))
         else:

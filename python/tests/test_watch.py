@@ -3,13 +3,16 @@ from __future__ import annotations
 
 import os
 import pathlib
+import random
 import shutil
 import signal
 
 import pytest
 from conftest import EXAMPLES, TOP, example, fresh_run
 from processes import Started, children_of
+from test_chance import other_number
 
+from soldrich import Refused, Session
 from soldrich.live_model import LiveModel, Options
 from soldrich.sources import Model, ModelFiles, Source, ned_files_below
 
@@ -123,7 +126,7 @@ def test_a_ned_file(folder, watched):
     lines = watched.until(*DONE)
     assert lines[0] == "fifo.ned was read anew"
     assert lines[1].startswith("the last run is valid up to event 1; 21 of 22 events ran again, from event 1")
-    assert lines[2] == "no scalar changed"
+    assert lines[2] == "no scalar and no vector changed"
     broken = changed(folder, "gen.out -->", "gen.out --", "fifo.ned")
     save_by_rename(folder / "fifo.ned", broken)
     line = broken[: broken.index("gen.out --")].count("\n") + 1
@@ -205,7 +208,7 @@ def test_saves_that_take_an_example_to_another_configuration_and_back(it, tmp_pa
     ini = Source.read(it.ini)
     other = Source(ini.path, ini.text.replace(b"= 2", b"= 3").replace(b"= 5", b"= 7") + b"# a line at the end\n")
     neds = tuple(map(Source.read, it.neds))
-    with LiveModel(Options(it.config, tmp_path / "out", 300, 1)) as live:
+    with LiveModel(Options(it.config, tmp_path / "out", 300, 1, True)) as live:
         first = live.take(Model(ini, neds))
         written = [path.read_bytes() for path in first.files]
         step = live.take(Model(other, neds))
@@ -216,6 +219,65 @@ def test_saves_that_take_an_example_to_another_configuration_and_back(it, tmp_pa
         back = live.take(Model(ini, neds))
         assert [path.read_bytes() for path in back.files] == written
         assert back.begun is None
+
+
+def test_a_vector_that_changed(folder, watched):
+    # a job takes 50 ms in place of 100: as many jobs, and no more of them at once, but at other times
+    save_by_rename(folder / "omnetpp.ini", changed(folder, "bitsPerSec = 1000bps", "bitsPerSec = 2000bps"))
+    lines = watched.until(*DONE)
+    assert lines[1] == "the last run is valid up to event 1; 21 of 22 events ran again, from event 1: time-limit"
+    assert lines[2] == "no scalar changed, but a vector did"
+
+
+def text_by_chance(text: str, chance: random.Random) -> str:
+    """A text with some lines changed, moved, doubled or gone."""
+    lines = text.split("\n")
+    for _ in range(chance.randint(1, 4)):
+        at = chance.randrange(len(lines))
+        kind = chance.choice(["number", "number", "move", "double", "remove", "comment"])
+        if kind == "number":
+            lines[at] = other_number(lines[at], chance)
+        elif kind == "move":
+            lines.insert(chance.randrange(len(lines)), lines.pop(at))
+        elif kind == "double":
+            lines.insert(chance.randrange(len(lines)), lines[at])
+        elif kind == "remove" and len(lines) > 3:
+            del lines[at]
+        else:
+            lines.insert(at, "# a note")
+    return "\n".join(lines)
+
+
+@pytest.mark.parametrize("number", range(18))
+def test_saves_by_chance(number, tmp_path):
+    """Texts by chance, saved one after another: each is refused as a fresh program refuses it, or has the results of a fresh run."""
+    chance, it = random.Random(number), EXAMPLES[number % len(EXAMPLES)]
+    neds, texts = tuple(map(Source.read, it.neds)), [path.read_text() for path in it.neds]
+    ini = it.ini.read_text()
+    with LiveModel(Options(it.config, tmp_path / "out", 300, chance.choice([1, 7]), False)) as live:
+        live.take(Model(Source("x.ini", ini.encode()), neds))
+        for step in range(4):
+            other = text_by_chance(ini, chance)
+            fresh = fresh_or_refused(tmp_path / str(step), other, texts, it.config)
+            try:
+                taken = live.take(Model(Source("x.ini", other.encode()), neds))
+            except Refused as refused:
+                assert refused.name == fresh
+                continue
+            ini = other
+            if taken:
+                assert (taken.run.outcome, *(path.read_bytes() for path in taken.files)) == fresh
+                assert taken.begun is None
+
+
+def fresh_or_refused(folder: pathlib.Path, ini: str, neds: list[str], config: str) -> tuple[str, bytes, bytes] | str:
+    """A fresh run of texts, or the name of the refusal."""
+    folder.mkdir()
+    try:
+        Session(Source("x.ini", ini.encode()), [Source(f"{at}.ned", it.encode()) for at, it in enumerate(neds)], config, limit=0).close()
+    except Refused as refused:
+        return refused.name
+    return fresh_run(folder, ini, neds, config, 300)
 
 
 def test_the_top_script_starts_it():
