@@ -4,6 +4,7 @@ from __future__ import annotations
 import contextlib
 import logging
 import os
+import signal
 import tempfile
 from collections.abc import Iterator
 from pathlib import Path
@@ -61,8 +62,20 @@ def _client(workers: int, scheduler: str | None) -> Iterator[Client]:
         return
     options = {"threads_per_worker": 1, "dashboard_address": ":0", "memory_limit": 0, "silence_logs": logging.CRITICAL}
     with tempfile.TemporaryDirectory(prefix="soldrich-") as folder:
-        with LocalCluster(n_workers=workers, local_directory=folder, **options) as cluster, Client(cluster) as client:
+        with _without_interrupts():
+            cluster = LocalCluster(n_workers=workers, local_directory=folder, **options)
+        with cluster, Client(cluster) as client:
             yield client
+
+
+@contextlib.contextmanager
+def _without_interrupts() -> Iterator[None]:
+    """Lets processes be started that Ctrl-C doesn't reach: it ends this one, which ends them."""
+    before = signal.signal(signal.SIGINT, signal.SIG_IGN)
+    try:
+        yield
+    finally:
+        signal.signal(signal.SIGINT, before)
 
 
 def _run(client: Client, read: Study) -> tuple[list[Outcome], int]:

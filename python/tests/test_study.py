@@ -2,15 +2,19 @@
 from __future__ import annotations
 
 import itertools
+import json
 import os
 import pathlib
 import shutil
 import signal
+import subprocess
+import sys
 import time
+from collections.abc import Callable
 
 import pandas as pd
 import pytest
-from conftest import example, fresh_run
+from conftest import ENVIRONMENT, example, fresh_run
 from processes import Started, children_of
 
 from soldrich import Refused, StudyError
@@ -207,6 +211,36 @@ def test_a_base_that_is_refused(folder, capsys):
     (folder / "omnetpp.ini").write_text("[General]\n")
     assert main(["study", str(folder / "study.toml")]) == 1
     assert "the base is refused: NoSuchNetwork" in capsys.readouterr().err
+
+
+def test_a_scheduler_that_is_there(folder):
+    """Two processes as `dask-scheduler` and `dask-worker` are on other machines, and the same table."""
+    file = folder / "scheduler.json"
+    commands = (
+        ["distributed.cli.dask_scheduler", "--port", "0", "--no-dashboard", "--scheduler-file", str(file)],
+        ["distributed.cli.dask_worker", "--scheduler-file", str(file), "--nthreads", "2", "--local-directory", str(folder)],
+    )
+    started = []
+    try:
+        for command in commands:
+            streams = {"stdout": subprocess.DEVNULL, "stderr": subprocess.DEVNULL}
+            started.append(subprocess.Popen([sys.executable, "-W", "ignore", "-m", *command], env=ENVIRONMENT, **streams))
+            until(file.exists)
+        address = json.loads(file.read_text())["address"]
+        assert main(["study", "--scheduler", address, str(folder / "study.toml")]) == 0
+    finally:
+        for it in reversed(started):
+            it.terminate()
+            it.wait(30)
+    compare_with_fresh_runs(read_study_table(folder / "study.csv").frame, folder)
+
+
+def until(is_so: Callable[[], bool]) -> None:
+    """Waits until something is so."""
+    end = time.monotonic() + 60
+    while not is_so():
+        assert time.monotonic() < end
+        time.sleep(0.05)
 
 
 def test_a_scheduler_that_is_not_there(folder, capsys, monkeypatch):
