@@ -9,9 +9,7 @@ from collections.abc import Sequence
 from pathlib import Path
 
 from .errors import SoldrichError
-from .program import LOG
-
-EVENTS = 1_000_000
+from .program import EVENTS, LOG, SECONDS
 
 
 def main(words: Sequence[str] | None = None) -> int:
@@ -48,6 +46,7 @@ def _add_watch(commands: argparse._SubParsersAction) -> None:
     it.add_argument("-l", "--limit", type=_number, default=EVENTS, help="how many events are executed at most")
     it.add_argument("-k", "--interval", type=_number, default=1, help="after how many events the state is stored, at first")
     it.add_argument("-o", "--output", type=Path, default=Path("results"), metavar="DIR", help="where the result files are written")
+    it.add_argument("--seconds", type=_number, default=int(SECONDS), help="how long a run may take, until its program is ended")
     it.add_argument("-n", "--folder", type=Path, action="append", default=[], metavar="DIR", help="all NED files below this folder")
     it.add_argument("--report", action="store_true", help="writes DIR/report.html at each step, which reloads itself")
     it.add_argument("files", type=Path, nargs="*", metavar="FILE", help="the ini file, omnetpp.ini if none is named, and the NED files")
@@ -90,7 +89,8 @@ def _watch(options: argparse.Namespace) -> None:
     options.output.mkdir(parents=True, exist_ok=True)
     files = ModelFiles(ini, tuple(neds), tuple(options.folder))
     page = options.output / "report.html" if options.report else None
-    watch(files, Options(options.config, options.output, options.limit, options.interval, options.report), page)
+    how = Options(options.config, options.output, options.limit, options.interval, options.seconds, options.report)
+    watch(files, how, page)
 
 
 def _report(options: argparse.Namespace) -> None:

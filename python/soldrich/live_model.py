@@ -26,6 +26,7 @@ class Options:
     output: Path
     limit: int
     interval: int
+    seconds: float
     reads_vectors: bool
 
 
@@ -71,11 +72,6 @@ class LiveModel:
         self._results: Results | None = None
         self._vectors: bytes | None = None
 
-    @property
-    def held(self) -> Model | None:
-        """The texts that the session holds; None before the first that were taken."""
-        return self._held
-
     def take(self, model: Model) -> Step | None:
         """Makes these texts the session's, runs, and writes the results. Returns None where they are what it holds.
 
@@ -85,6 +81,9 @@ class LiveModel:
         try:
             return self._take(model)
         except SessionLost as lost:
+            if self._session is None or self._session.is_open:
+                # (it was the one that was just begun)
+                raise
             return self._begin(model, f"the session was lost: {lost}")
 
     def _take(self, model: Model) -> Step | None:
@@ -127,7 +126,7 @@ class LiveModel:
     def _begin(self, model: Model, why: str) -> Step:
         """Begins a session of these texts in the place of the one that there is."""
         it = self._options
-        session = Session(model.ini, model.neds, it.config, it.limit, it.interval, output=it.output)
+        session = Session(model.ini, model.neds, it.config, it.limit, it.interval, output=it.output, seconds=it.seconds)
         self.close()
         self._session, self._held = session, model
         return self._step([], why, None, session.first_run)

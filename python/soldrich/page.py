@@ -5,7 +5,7 @@ import json
 import os
 import time
 from collections.abc import Sequence
-from dataclasses import dataclass, field
+from dataclasses import dataclass
 from pathlib import Path
 
 import jinja2
@@ -71,10 +71,6 @@ class Page:
     config_head: str = ""
     drawing: str | None = None
     reloads: bool = False
-    plots: list[Plot] = field(init=False)
-
-    def __post_init__(self) -> None:
-        object.__setattr__(self, "plots", [plot for part in self.parts for plot in part.plots])
 
     def write(self, path: Path) -> Path:
         """Writes the page. It takes its place whole, so that a browser never reads half of it."""
@@ -91,7 +87,7 @@ class Page:
         environment = jinja2.Environment(
             loader=jinja2.FileSystemLoader(TEMPLATES), autoescape=True, trim_blocks=True, lstrip_blocks=True, undefined=jinja2.StrictUndefined
         )
-        figures = "{" + ",".join(f"{json.dumps(it.id)}:{it.figure.to_json()}" for it in self.plots) + "}"
+        figures = "{" + ",".join(f"{json.dumps(it.id)}:{it.figure.to_json()}" for part in self.parts for it in part.plots) + "}"
         reloads = {"address": _script(json.dumps(_stamp_path(path).name)), "stamp": _script(json.dumps(stamp))}
         return environment.get_template("report.html.jinja").render(
             title=self.title,

@@ -16,6 +16,9 @@ from pathlib import Path
 from .errors import NoAnswer, PipeBroken, ProgramEnded, SessionClosed, SoldrichError
 
 LOG = logging.getLogger("soldrich")
+# how many events a run executes at most, and how many seconds an answer may take, where nothing else is said
+EVENTS = 1_000_000
+SECONDS = 600.0
 # how long the first answer may take besides: the first call of ./nedrun compiles the program
 COMPILE_SECONDS = 1200.0
 

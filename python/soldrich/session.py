@@ -10,11 +10,10 @@ from pathlib import Path
 
 from .answers import Edited, Run, edited_of, numbers_of, refusal_of, run_of
 from .errors import ProgramEnded, Refused, UnknownAnswer
-from .program import Program, find_program
+from .program import EVENTS, SECONDS, Program, find_program
 from .results import Results, read_result_files
 from .sources import Source
 
-EVENTS = 1_000_000
 # a file, or a text and the path by which it is spoken of
 Text = str | os.PathLike | Source
 
@@ -36,7 +35,7 @@ class Session:
         interval: int = 1,
         program: str | os.PathLike | None = None,
         output: str | os.PathLike | None = None,
-        seconds: float = 600.0,
+        seconds: float = SECONDS,
     ):
         """Begins a session.
 
@@ -50,11 +49,12 @@ class Session:
         # the program reads copies: a file that an editor replaces meanwhile is what it was when it was read here
         self._shown: dict[str, str] = {}
         self._program: Program | None = None
-        neds = [neds] if isinstance(neds, Text) else list(neds)
+        # what the program told a person and nobody asked for yet
+        self._notes: list[str] = []
         self.output = Path(output) if output is not None else Path(self._folder.name, "results")
-        words = [str(program or find_program()), "-c", config, "-l", str(limit), "-k", str(interval)]
-        words += ["-o", str(self.output), "-f", self._copy(ini), *map(self._copy, neds)]
         try:
+            words = [str(program or find_program()), "-c", config, "-l", str(limit), "-k", str(interval), "-o", str(self.output)]
+            words += ["-f", self._copy(ini), *map(self._copy, [neds] if isinstance(neds, Text) else neds)]
             self._program = Program(words, seconds)
             self.first_run = self._begin()
         except BaseException:
@@ -173,27 +173,32 @@ class Session:
 
     def listing(self, command: str) -> list[str]:
         """Returns what a command lists. A program that doesn't know it yet raises Refused, of the name Command."""
-        self._program.told()
-        count = numbers_of(self._ask(command), "listed")[0]
-        return self._program.told()[-count:] if count else []
+        answer, listed = self._ask_for_list(command)
+        numbers_of(answer, "listed")
+        return listed
 
     def why(self) -> str | None:
         """Returns what made the last run differ from the one before it, in the program's words; None if it doesn't know the command."""
-        self._program.told()
         try:
-            answer = self._ask("why")
+            answer, listed = self._ask_for_list("why")
         except Refused as refused:
             if refused.name == "Command":
                 return None
             raise
-        told = self._as_given("\n".join(self._program.told()))
-        return told if re.fullmatch(r"listed \d+", answer) else "\n".join(filter(None, [answer, told]))
+        return "\n".join(listed) if answer.startswith("listed ") else answer
 
     def notes(self) -> str:
         """Returns what the program told a person since that was last asked for, as it does behind an answer: it is all there when
         the next command is answered."""
         self._program.ask("held")
-        return self._as_given("\n".join(self._program.told()))
+        told = [*self._notes, *self._program.told()]
+        self._notes.clear()
+        return self._as_given("\n".join(told))
+
+    @property
+    def is_open(self) -> bool:
+        """The session was neither closed nor lost."""
+        return self._program is not None and self._program.is_open
 
     @property
     def pid(self) -> int:
@@ -215,7 +220,7 @@ class Session:
         self.close()
 
     def _repr_html_(self) -> str:
-        if not self._program.is_open:
+        if not self.is_open:
             return "<p>a session that is closed</p>"
         rows = {
             "configuration": self.selected(),
@@ -253,6 +258,15 @@ class Session:
         if refusal:
             raise Refused(command, refusal[0], self.notes(), refusal[1])
         return answer
+
+    def _ask_for_list(self, command: str) -> tuple[str, list[str]]:
+        """Asks a command, and returns its answer and what it lists: the last ones of the lines that the program told before it."""
+        answer = self._ask(command)
+        found = re.fullmatch(r"listed (\d+)", answer)
+        told = self._program.told()
+        first = len(told) - (int(found[1]) if found else 0)
+        self._notes += told[:first]
+        return answer, self._as_given("\n".join(told[first:])).split("\n") if told[first:] else []
 
     def _edit(self, command: str) -> Edited:
         return edited_of(self._ask(command))

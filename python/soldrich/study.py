@@ -2,6 +2,7 @@
 from __future__ import annotations
 
 import contextlib
+import dataclasses
 import logging
 import os
 import signal
@@ -42,9 +43,8 @@ def study(path: Path, output: Path | None, workers: int | None = None, scheduler
 
 def _try_base(read: Study) -> None:
     """Begins a session of the base without any event: what is wrong with it is said once, and not by each variant."""
-    base = read.base
     try:
-        VariantSession(type(base)(base.ini, base.neds, base.config, 0, base.interval)).close()
+        VariantSession(dataclasses.replace(read.base, limit=0)).close()
     except Refused as refused:
         raise StudyError(f"the base is refused: {refused.name}: {refused.explanation}") from None
 

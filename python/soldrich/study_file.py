@@ -8,10 +8,10 @@ from dataclasses import dataclass
 from pathlib import Path
 
 from .errors import StudyError
+from .program import EVENTS, SECONDS
 from .sources import Source, ned_files_below
 from .variants import Base, Configuration, Connection, Edit, Entry, NedFile, Variant
 
-EVENTS = 1_000_000
 # how factors are combined: each choice with each, or the first ones, the second ones ..
 WAYS = {"cross": itertools.product, "zip": zip}
 
@@ -84,7 +84,7 @@ class _Reader:
         return value
 
     def base(self, table: dict) -> Base:
-        self.knows(table, "[base]", {"ini", "neds", "folder", "config", "limit", "interval"})
+        self.knows(table, "[base]", {"ini", "neds", "folder", "config", "limit", "interval", "seconds"})
         if not isinstance(table.get("ini"), str):
             raise self.wrong("base.ini", "this has to be the path of the ini file")
         neds = list(self.strings(table["neds"], "base.neds", "a list of NED files")) if "neds" in table else []
@@ -95,7 +95,9 @@ class _Reader:
             raise self.wrong("[base]", "there is no NED file: neds = [..] names them, or folder = \"..\" one with NED files below it")
         limit, interval = self.number(table, "limit", EVENTS), self.number(table, "interval", 1)
         sources = tuple(self.source(it, "[base]") for it in paths)
-        return Base(self.source(self._path.parent / table["ini"], "base.ini"), sources, str(table.get("config", "General")), limit, interval)
+        seconds = self.number(table, "seconds", int(SECONDS))
+        ini = self.source(self._path.parent / table["ini"], "base.ini")
+        return Base(ini, sources, str(table.get("config", "General")), limit, interval, seconds)
 
     def source(self, path: Path, where: str) -> Source:
         try:

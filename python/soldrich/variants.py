@@ -22,6 +22,7 @@ class Base:
     config: str
     limit: int
     interval: int
+    seconds: float
 
 
 @dataclass(frozen=True)
@@ -110,7 +111,7 @@ class VariantSession:
     """
 
     def __init__(self, base: Base):
-        self._session = Session(base.ini, base.neds, base.config, base.limit, base.interval)
+        self._session = Session(base.ini, base.neds, base.config, base.limit, base.interval, seconds=base.seconds)
         self._base = base
         # what is made now: the selected configuration, the entries in each section, and edits of NED files with how they are taken back
         self._config = base.config

@@ -150,7 +150,7 @@ def test_only_what_a_variant_reaches_runs_again():
 def read_base(it, ini: Source):
     from soldrich.variants import Base
 
-    return Base(ini, tuple(map(Source.read, it.neds)), "General", 1000, 1)
+    return Base(ini, tuple(map(Source.read, it.neds)), "General", 1000, 1, 600)
 
 
 def test_connections_and_ned_files(tmp_path):

@@ -208,7 +208,7 @@ def test_saves_that_take_an_example_to_another_configuration_and_back(it, tmp_pa
     ini = Source.read(it.ini)
     other = Source(ini.path, ini.text.replace(b"= 2", b"= 3").replace(b"= 5", b"= 7") + b"# a line at the end\n")
     neds = tuple(map(Source.read, it.neds))
-    with LiveModel(Options(it.config, tmp_path / "out", 300, 1, True)) as live:
+    with LiveModel(Options(it.config, tmp_path / "out", 300, 1, 600, True)) as live:
         first = live.take(Model(ini, neds))
         written = [path.read_bytes() for path in first.files]
         step = live.take(Model(other, neds))
@@ -254,7 +254,7 @@ def test_saves_by_chance(number, tmp_path):
     chance, it = random.Random(number), EXAMPLES[number % len(EXAMPLES)]
     neds, texts = tuple(map(Source.read, it.neds)), [path.read_text() for path in it.neds]
     ini = it.ini.read_text()
-    with LiveModel(Options(it.config, tmp_path / "out", 300, chance.choice([1, 7]), False)) as live:
+    with LiveModel(Options(it.config, tmp_path / "out", 300, chance.choice([1, 7]), 600, False)) as live:
         live.take(Model(Source("x.ini", ini.encode()), neds))
         for step in range(4):
             other = text_by_chance(ini, chance)
