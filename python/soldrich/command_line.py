@@ -25,8 +25,11 @@ def main(words: Sequence[str] | None = None) -> int:
         options.command(options)
     except KeyboardInterrupt:
         return 128 + signal.SIGINT if options.command is not _watch else 0
-    except (SoldrichError, OSError) as error:
+    except SoldrichError as error:
         print(f"soldrich: {error}", file=sys.stderr)
+        return 1
+    except OSError as error:
+        print(f"soldrich: {error.filename}: {error.strerror}", file=sys.stderr)
         return 1
     return 0
 

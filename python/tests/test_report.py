@@ -100,7 +100,7 @@ def shown_range(browser) -> list[float]:
     return browser.execute_script("return document.querySelector('.chart').layout.xaxis.range")
 
 
-def test_a_plot_zooms(browser, tmp_path):
+def test_a_plot_zooms_and_says_what_is_under_the_mouse(browser, tmp_path):
     page = tmp_path / "page.html"
     main(["report", "-o", str(page), str(run_of(example("queueing_line"), tmp_path / "results"))])
     open_page(browser, page)
@@ -112,6 +112,11 @@ def test_a_plot_zooms(browser, tmp_path):
     assert zoomed[1] - zoomed[0] == pytest.approx((whole[1] - whole[0]) / 2)
     browser.find_element(By.CSS_SELECTOR, ".tools button[data-move=all]").click()
     WebDriverWait(browser, 10).until(lambda it: shown_range(it) == pytest.approx(whole))
+    # what the third value is, under the mouse: the page of the example has it
+    browser.execute_script("Plotly.Fx.hover(document.querySelector('.chart'), [{curveNumber: 0, pointNumber: 2}])")
+    shown = WebDriverWait(browser, 10).until(lambda it: it.find_element(By.CSS_SELECTOR, ".chart .hoverlayer").text)
+    # (the lines of the box have no ends in an SVG)
+    assert "event 60.2 s3" in shown.replace("\n", "")
     # with a mouse: from a third of the plot to two thirds
     drag = """
         const area = document.querySelector('.chart .nsewdrag'), box = area.getBoundingClientRect();

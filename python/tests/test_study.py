@@ -207,6 +207,11 @@ def test_what_is_no_study(folder, text, told):
     assert str(error.value).startswith(str(folder / "study.toml")) and told in str(error.value)
 
 
+def test_a_study_that_is_not_there(tmp_path, capsys):
+    assert main(["study", str(tmp_path / "study.toml")]) == 1
+    assert capsys.readouterr().err == f"soldrich: {tmp_path}/study.toml: No such file or directory\n"
+
+
 def test_a_base_that_is_refused(folder, capsys):
     (folder / "omnetpp.ini").write_text("[General]\n")
     assert main(["study", str(folder / "study.toml")]) == 1
