@@ -1,4 +1,5 @@
-"""The workbench of the simulator Soldrich: sessions of its program `nedrun`, results as data frames, reports and studies."""
+"""The workbench of the simulator Soldrich: sessions of its program `nedrun`, results as data frames, reports and
+studies."""
 from .answers import Edited, Fault, Run
 from .errors import (
     NoAnswer,

@@ -18,8 +18,8 @@ class Fault:
 
 @dataclass(frozen=True)
 class Run:
-    """A run that was made: `outcome` as the program answers it, the event after which it began (None for setup), and how many
-    events were executed since then. `explanation` is what the program said about a fault, in words."""
+    """A run that was made: `outcome` as the program answers it, the event after which it began (None for setup), and
+    how many events were executed since then. `explanation` is what the program said about a fault, in words."""
 
     outcome: str
     started_from: int | None
@@ -40,8 +40,8 @@ class Run:
 
 @dataclass(frozen=True)
 class Edited:
-    """An edit that was made: up to which event the last run is one of the changed model too (None if not even its start is), and
-    the number of the message that it added, if it did."""
+    """An edit that was made: up to which event the last run is one of the changed model too (None if not even its
+    start is), and the number of the message that it added, if it did."""
 
     valid_to: int | None
     injection: int | None = None

@@ -47,28 +47,70 @@ def _add_watch(commands: argparse._SubParsersAction) -> None:
     it = commands.add_parser("watch", help="runs a model again at each save of its files, and says what changed")
     it.add_argument("-c", "--config", default="General", help="the configuration of the ini file that is run")
     it.add_argument("-l", "--limit", type=_number, default=EVENTS, help="how many events are executed at most")
-    it.add_argument("-k", "--interval", type=_number, default=1, help="after how many events the state is stored, at first")
-    it.add_argument("-o", "--output", type=Path, default=Path("results"), metavar="DIR", help="where the result files are written")
-    it.add_argument("--seconds", type=_number, default=int(SECONDS), help="how long a run may take, until its program is ended")
-    it.add_argument("-n", "--folder", type=Path, action="append", default=[], metavar="DIR", help="all NED files below this folder")
+    it.add_argument(
+        "-k", "--interval", type=_number, default=1, help="after how many events the state is stored, at first"
+    )
+    it.add_argument(
+        "-o", "--output", type=Path, default=Path("results"), metavar="DIR", help="where the result files are written"
+    )
+    it.add_argument(
+        "--seconds", type=_number, default=int(SECONDS), help="how long a run may take, until its program is ended"
+    )
+    it.add_argument(
+        "-n", "--folder", type=Path, action="append", default=[], metavar="DIR", help="all NED files below this folder"
+    )
     it.add_argument("--report", action="store_true", help="writes DIR/report.html at each step, which reloads itself")
-    it.add_argument("files", type=Path, nargs="*", metavar="FILE", help="the ini file, omnetpp.ini if none is named, and the NED files")
+    it.add_argument(
+        "files",
+        type=Path,
+        nargs="*",
+        metavar="FILE",
+        help="the ini file, omnetpp.ini if none is named, and the NED files",
+    )
     it.set_defaults(command=_watch)
 
 
 def _add_report(commands: argparse._SubParsersAction) -> None:
     it = commands.add_parser("report", help="makes a page of the results of a run, of two runs, or of a study")
-    it.add_argument("-o", "--output", type=Path, default=Path("report.html"), metavar="PAGE", help="the page that is written")
-    it.add_argument("results", type=Path, nargs="+", metavar="RESULTS", help="a result file, CONFIG-#0 for both files of a run, or a study's table; of two runs, both")
-    it.add_argument("-m", "--model", type=Path, action="append", default=[], metavar="FILE", help="the ini file, and again for each NED file: then the network is drawn")
+    it.add_argument(
+        "-o", "--output", type=Path, default=Path("report.html"), metavar="PAGE", help="the page that is written"
+    )
+    it.add_argument(
+        "results",
+        type=Path,
+        nargs="+",
+        metavar="RESULTS",
+        help="a result file, CONFIG-#0 for both files of a run, or a study's table; of two runs, both",
+    )
+    it.add_argument(
+        "-m",
+        "--model",
+        type=Path,
+        action="append",
+        default=[],
+        metavar="FILE",
+        help="the ini file, and again for each NED file: then the network is drawn",
+    )
     it.set_defaults(command=_report)
 
 
 def _add_study(commands: argparse._SubParsersAction) -> None:
     it = commands.add_parser("study", help="runs the variants of a model")
-    it.add_argument("-o", "--output", type=Path, metavar="TABLE", help="the table that is written, .csv or .parquet; the study's name and .csv if it is left out")
-    it.add_argument("--workers", type=_number, help="how many processes run variants here; as many as there are processors if it is left out")
-    it.add_argument("--scheduler", metavar="tcp://..", help="a scheduler of dask.distributed that is there, with workers")
+    it.add_argument(
+        "-o",
+        "--output",
+        type=Path,
+        metavar="TABLE",
+        help="the table that is written, .csv or .parquet; the study's name and .csv if it is left out",
+    )
+    it.add_argument(
+        "--workers",
+        type=_number,
+        help="how many processes run variants here; as many as there are processors if it is left out",
+    )
+    it.add_argument(
+        "--scheduler", metavar="tcp://..", help="a scheduler of dask.distributed that is there, with workers"
+    )
     it.add_argument("study", type=Path, metavar="STUDY.toml", help="what varies (docs/WORKBENCH.md)")
     it.set_defaults(command=_study)
 

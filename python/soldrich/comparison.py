@@ -44,8 +44,8 @@ class Point:
 
 @dataclass(frozen=True)
 class VectorPair:
-    """A vector in both runs; None where a run has none of this name. `index` is that of the first value in which they differ, None if
-    they are equal."""
+    """A vector in both runs; None where a run has none of this name. `index` is that of the first value in which
+    they differ, None if they are equal."""
 
     module: str
     name: str
@@ -86,7 +86,8 @@ def vector_pairs(before: Results, after: Results) -> list[VectorPair]:
 def vectors_by_key(results: Results) -> dict[Key, Vector]:
     """Returns the vectors by module and name."""
     return {
-        (it.module, it.name): Vector(it.vecevent, it.vecps, it.vecvalue) for it in results.vectors.itertuples(index=False)
+        (it.module, it.name): Vector(it.vecevent, it.vecps, it.vecvalue)
+        for it in results.vectors.itertuples(index=False)
     }
 
 
@@ -101,7 +102,11 @@ def _parts_at(before: Vector | None, after: Vector | None) -> int | None:
         return 0
     length = min(len(before.values), len(after.values))
     is_other = np.zeros(length, bool)
-    for one, other in ((before.events, after.events), (before.picoseconds, after.picoseconds), (before.values, after.values)):
+    for one, other in (
+        (before.events, after.events),
+        (before.picoseconds, after.picoseconds),
+        (before.values, after.values),
+    ):
         is_other |= one[:length] != other[:length]
     first = np.flatnonzero(is_other)
     if len(first):

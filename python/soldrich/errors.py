@@ -9,11 +9,13 @@ class SoldrichError(Exception):
 class Refused(SoldrichError):
     """The program refused texts, a command or an edit. Nothing was changed by it.
 
-    `name` is the refusal's name (docs/REFUSALS.md), `line` and `file` are those that the program gave with it, if it did,
-    and `explanation` is all that it said about it in words.
+    `name` is the refusal's name (docs/REFUSALS.md), `line` and `file` are those that the program gave with it, if it
+    did, and `explanation` is all that it said about it in words.
     """
 
-    def __init__(self, command: str, name: str, explanation: str = "", line: int | None = None, file: int | None = None):
+    def __init__(
+        self, command: str, name: str, explanation: str = "", line: int | None = None, file: int | None = None
+    ):
         super().__init__(command, name, explanation, line, file)
         self.command, self.name, self.explanation, self.line, self.file = command, name, explanation, line, file
 
@@ -26,7 +28,8 @@ class SessionLost(SoldrichError):
 
 
 class ProgramEnded(SessionLost):
-    """The program ended, or didn't start. `status` is its exit status, less than 0 for a signal, or None if it didn't start."""
+    """The program ended, or didn't start. `status` is its exit status, less than 0 for a signal, or None if it
+    didn't start."""
 
     def __init__(self, status: int | None, told: str):
         super().__init__(status, told)

@@ -34,7 +34,8 @@ NOTHING = Shown(Vector(*(np.empty(0, np.int64) for _ in range(3))), 0)
 
 
 def thinned(vector: Vector) -> Shown:
-    """Leaves out points where there are too many: of each of equally many points in a row the least and the greatest value stay."""
+    """Leaves out points where there are too many: of each of equally many points in a row the least and the greatest
+    value stay."""
     count = len(vector.values)
     if count <= MOST_POINTS:
         return Shown(vector, count)
@@ -76,12 +77,19 @@ def pair_figure(pair: VectorPair, before: Shown | None, after: Shown | None) -> 
 
 
 def factors_figure(rows: pd.DataFrame, factors: list[str]) -> go.Figure:
-    """Returns a figure of a scalar over the factors of a study: along the first one, a line for each choice of the others."""
+    """Returns a figure of a scalar over the factors of a study: along the first one, a line for each choice of the
+    others."""
     figure = _figure("", factors[0] if factors else "variant")
     along = rows[factors[0]].astype(str) if factors else rows["variant"]
-    others = rows[factors[1:]].astype(str).agg(", ".join, axis=1) if len(factors) > 1 else pd.Series("", index=rows.index)
+    others = (
+        rows[factors[1:]].astype(str).agg(", ".join, axis=1) if len(factors) > 1 else pd.Series("", index=rows.index)
+    )
     for name, part in rows.groupby(others, sort=False):
-        figure.add_trace(go.Scatter(x=along[part.index].tolist(), y=part["value"].tolist(), name=name or "value", mode="lines+markers"))
+        figure.add_trace(
+            go.Scatter(
+                x=along[part.index].tolist(), y=part["value"].tolist(), name=name or "value", mode="lines+markers"
+            )
+        )
     figure.update_layout(showlegend=len(figure.data) > 1)
     # (the values of a factor stand in the order of the study, as words)
     figure.update_xaxes(type="category", categoryorder="array", categoryarray=list(dict.fromkeys(along)))
@@ -92,7 +100,9 @@ def _figure(unit: str = "s", along: str = "time") -> go.Figure:
     layout = {"margin": {"l": 56, "r": 16, "t": 32, "b": 44}, "height": 320, "hovermode": "closest", "template": "none"}
     axis = {"title": {"text": f"{along} in {unit}" if unit else along}, "zeroline": False}
     legend = {"orientation": "h", "y": 1.07, "yanchor": "bottom"}
-    return go.Figure(layout={**layout, "xaxis": axis, "yaxis": {"zeroline": False, "rangemode": "tozero"}, "legend": legend})
+    return go.Figure(
+        layout={**layout, "xaxis": axis, "yaxis": {"zeroline": False, "rangemode": "tozero"}, "legend": legend}
+    )
 
 
 def _add(figure: go.Figure, shown: Shown, name: str, dash: str = "solid") -> None:

@@ -18,11 +18,14 @@ CHANGES = {"created", "modified", "moved", "deleted", "closed"}
 
 
 class FileChanges(FileSystemEventHandler):
-    """Tells when files of a model changed. It watches their folders, so that a file may be replaced, or be gone for a while."""
+    """Tells when files of a model changed. It watches their folders, so that a file may be replaced, or be gone for
+    a while."""
 
     def __init__(self, files: ModelFiles):
         # (a path that is a link changes where it is replaced, and where it leads to)
-        self._paths = {form for it in (files.ini, *files.neds) for form in (it.resolve(), it.parent.resolve() / it.name)}
+        self._paths = {
+            form for it in (files.ini, *files.neds) for form in (it.resolve(), it.parent.resolve() / it.name)
+        }
         self._folders = [it.resolve() for it in files.folders]
         self._changes: queue.SimpleQueue[float] = queue.SimpleQueue()
         self._observer = Observer()
@@ -46,8 +49,8 @@ class FileChanges(FileSystemEventHandler):
             self._changes.put(time.monotonic())
 
     def wait(self, seconds: float | None = None) -> float | None:
-        """Waits until a file changed, and all have been quiet for a moment. Returns the time of the first change by the monotonic
-        clock, or None if there was none in those seconds."""
+        """Waits until a file changed, and all have been quiet for a moment. Returns the time of the first change by
+        the monotonic clock, or None if there was none in those seconds."""
         try:
             first = self._changes.get(timeout=seconds)
         except queue.Empty:

@@ -27,7 +27,8 @@ NAMED: dict[str, Callable[[ResultFile, Item], dict[str, str]]] = {
 
 
 def filter_of(expression: str) -> Filter:
-    """Reads an expression: FIELD =~ PATTERN, combined by AND, OR, NOT and parentheses; a pattern alone is one for the name."""
+    """Reads an expression: FIELD =~ PATTERN, combined by AND, OR, NOT and parentheses; a pattern alone is one for
+    the name."""
     return _Reader(expression).whole()
 
 

@@ -20,7 +20,8 @@ IN_WORDS = {Kind.INSERT: "inserted", Kind.REPLACE: "replaced", Kind.REMOVE: "rem
 
 @dataclass(frozen=True)
 class Options:
-    """How the sessions of a live model are begun, and whether the vectors of its results are read: of a long run that takes a while."""
+    """How the sessions of a live model are begun, and whether the vectors of its results are read: of a long run
+    that takes a while."""
 
     config: str
     output: Path
@@ -75,8 +76,8 @@ class LiveModel:
     def take(self, model: Model) -> Step | None:
         """Makes these texts the session's, runs, and writes the results. Returns None where they are what it holds.
 
-        Raises Refused where they are refused: then the session and the results are what they were. Where the session was lost
-        another one is begun.
+        Raises Refused where they are refused: then the session and the results are what they were. Where the session
+        was lost another one is begun.
         """
         try:
             return self._take(model)
@@ -100,7 +101,8 @@ class LiveModel:
         except Refused:
             if len(edits) == 1:
                 raise
-            # each one is an edit of the text before it: only a fresh session knows what is wrong with the whole, if anything is
+            # each one is an edit of the text before it: only a fresh session knows what is wrong with the whole, if
+            # anything is
             return self._begin(model, "these edits can't be made one after another")
         shown = [self._in_words(it, model) for it in edits]
         self._held = model
@@ -147,8 +149,8 @@ class LiveModel:
         return [*changed, *line_edits(self._session.ini_lines(), model.ini.lines)]
 
     def _make(self, edits: list[Edit]) -> Edited:
-        """Makes edits, in the order in which the session takes them: one that is refused may be taken after others. Raises Refused
-        where it takes no more: then all are taken back."""
+        """Makes edits, in the order in which the session takes them: one that is refused may be taken after others.
+        Raises Refused where it takes no more: then all are taken back."""
         waiting, made, back = list(edits), [], []
         lines = self._session.ini_lines()
         while waiting:
@@ -188,7 +190,8 @@ class LiveModel:
         return edited
 
     def _take_back(self, back: list[Callable[[], Edited]]) -> None:
-        """Takes edits back, the last one first, and runs the model again as it was, so that all of that run is known again."""
+        """Takes edits back, the last one first, and runs the model again as it was, so that all of that run is known
+        again."""
         for it in reversed(back):
             it()
         if back:
@@ -202,7 +205,8 @@ class LiveModel:
 
 
 def _digest_of_vectors(path: Path) -> bytes:
-    """Returns a sum of what a vector file says behind its header, which names the configuration and ends with an empty line."""
+    """Returns a sum of what a vector file says behind its header, which names the configuration and ends with an
+    empty line."""
     with path.open("rb") as file:
         while file.readline().strip():
             pass

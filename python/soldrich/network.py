@@ -70,8 +70,11 @@ def connection_of(line: str) -> Connection:
 
 
 def drawing(network: Network) -> str:
-    """Draws a network as SVG: compound modules as boxes around what is inside of them, connections with their channels."""
-    graph = graphviz.Digraph(graph_attr={"rankdir": "LR", "bgcolor": "transparent", "fontname": "sans-serif", "pad": "0.1"})
+    """Draws a network as SVG: compound modules as boxes around what is inside of them, connections with their
+    channels."""
+    graph = graphviz.Digraph(
+        graph_attr={"rankdir": "LR", "bgcolor": "transparent", "fontname": "sans-serif", "pad": "0.1"}
+    )
     graph.attr("node", shape="box", style="rounded,filled", fontname="sans-serif", fontsize="11", margin="0.12,0.06")
     graph.attr("edge", fontname="sans-serif", fontsize="9", arrowsize="0.6")
     it = _Drawn(network)
@@ -90,7 +93,9 @@ class _Drawn:
         self._compounds = {_around(it) for it in paths}
         self._connections = [it for it in network.connections if {_around(it.start), _around(it.end)} <= paths]
         # (a gate of a compound module is a point at its border)
-        self._gates = {gate for it in self._connections for gate in (it.start, it.end) if _around(gate) in self._compounds}
+        self._gates = {
+            gate for it in self._connections for gate in (it.start, it.end) if _around(gate) in self._compounds
+        }
 
     def add_inside(self, graph: graphviz.Digraph, around: str) -> None:
         """Adds the modules that stand right inside of another one; the network stands in none."""
@@ -101,7 +106,9 @@ class _Drawn:
             if it.path not in self._compounds:
                 graph.node(_id(it.path), label)
                 continue
-            with graph.subgraph(name=f"cluster_{_id(it.path)}", graph_attr={"label": label, "style": "rounded", "fontsize": "11"}) as inner:
+            with graph.subgraph(
+                name=f"cluster_{_id(it.path)}", graph_attr={"label": label, "style": "rounded", "fontsize": "11"}
+            ) as inner:
                 for gate in sorted(self._gates):
                     if _around(gate) == it.path:
                         inner.node(_id(gate), "", shape="point", width="0.06", tooltip=gate)

@@ -1,4 +1,5 @@
-"""The page of a report: one HTML file with all that it needs in it, made by jinja2 of the templates beside this module."""
+"""The page of a report: one HTML file with all that it needs in it, made by jinja2 of the templates beside this
+module."""
 from __future__ import annotations
 
 import json
@@ -85,9 +86,17 @@ class Page:
 
     def _html(self, path: Path, stamp: str) -> str:
         environment = jinja2.Environment(
-            loader=jinja2.FileSystemLoader(TEMPLATES), autoescape=True, trim_blocks=True, lstrip_blocks=True, undefined=jinja2.StrictUndefined
+            loader=jinja2.FileSystemLoader(TEMPLATES),
+            autoescape=True,
+            trim_blocks=True,
+            lstrip_blocks=True,
+            undefined=jinja2.StrictUndefined,
         )
-        figures = "{" + ",".join(f"{json.dumps(it.id)}:{it.figure.to_json()}" for part in self.parts for it in part.plots) + "}"
+        figures = (
+            "{"
+            + ",".join(f"{json.dumps(it.id)}:{it.figure.to_json()}" for part in self.parts for it in part.plots)
+            + "}"
+        )
         reloads = {"address": _script(json.dumps(_stamp_path(path).name)), "stamp": _script(json.dumps(stamp))}
         return environment.get_template("report.html.jinja").render(
             title=self.title,

@@ -5,8 +5,9 @@ import re
 
 
 def pattern(text: str) -> re.Pattern[str]:
-    """Returns an expression for a pattern: `*` is anything without a dot, `**` anything, `?` one character but a dot, `{a-z}` one
-    of these characters, and `{1..20}` a whole number between these, as in OMNeT++ ("Wildcard Patterns" of its manual)."""
+    """Returns an expression for a pattern: `*` is anything without a dot, `**` anything, `?` one character but a
+    dot, `{a-z}` one of these characters, and `{1..20}` a whole number between these, as in OMNeT++ ("Wildcard
+    Patterns" of its manual)."""
     made, at = [], 0
     for found in re.finditer(r"\*\*|\*|\?|\{(\d+)\.\.(\d+)\}|\{(\^?[^}]+)\}", text):
         made.append(re.escape(text[at : found.start()]))

@@ -24,7 +24,8 @@ COMPILE_SECONDS = 1200.0
 
 
 def find_program() -> Path:
-    """Returns the program: what NEDRUN names, or ./nedrun of the repository around this package, or the `nedrun` on the PATH."""
+    """Returns the program: what NEDRUN names, or ./nedrun of the repository around this package, or the `nedrun` on
+    the PATH."""
     named = os.environ.get("NEDRUN")
     if named:
         return Path(named).resolve()
@@ -77,7 +78,8 @@ class Program:
         return self.hear(line)
 
     def hear_first(self) -> str:
-        """Returns the first line of standard output. What the program tells meanwhile is logged, as that it is compiled."""
+        """Returns the first line of standard output. What the program tells meanwhile is logged, as that it is
+        compiled."""
         deadline = time.monotonic() + self.seconds + COMPILE_SECONDS
         while True:
             lines = self.told()
@@ -109,7 +111,8 @@ class Program:
         self._told.close()
 
     def _has_line(self, deadline: float) -> bool:
-        """Reads until there is a line. Answers no where there is none at the deadline, a time of the monotonic clock."""
+        """Reads until there is a line. Answers no where there is none at the deadline, a time of the monotonic
+        clock."""
         output = self._process.stdout.fileno()
         while b"\n" not in self._said:
             if not select.select([output], [], [], max(0.0, deadline - time.monotonic()))[0]:
@@ -150,8 +153,8 @@ class Program:
 
 
 def _end(process: subprocess.Popen) -> None:
-    """Ends a process: its input ends, which is enough for a program that waits; else it, and what it started, is asked by a signal,
-    and then made to."""
+    """Ends a process: its input ends, which is enough for a program that waits; else it, and what it started, is
+    asked by a signal, and then made to."""
     with contextlib.suppress(BrokenPipeError, BlockingIOError):
         process.stdin.close()
     for number, seconds in ((None, 0.5), (signal.SIGTERM, 2), (signal.SIGKILL, 30)):

@@ -23,23 +23,31 @@ LISTED = 200
 
 
 def report(paths: Sequence[Path], output: Path, model: Sequence[Path] = ()) -> Path:
-    """Writes the page of these results: of one run, of two, or a study's table. The network is drawn if the model's files are named."""
+    """Writes the page of these results: of one run, of two, or a study's table. The network is drawn if the model's
+    files are named."""
     if len(paths) == 1 and is_study_table(paths[0]):
         return write_study_page(output, read_study_table(paths[0]), str(paths[0]))
     if len(paths) > 2:
-        raise ResultFileError(f"a page shows one run or two, and {len(paths)} were named: CONFIG-#0 stands for both files of a run")
+        raise ResultFileError(
+            f"a page shows one run or two, and {len(paths)} were named: CONFIG-#0 stands for both files of a run"
+        )
     runs = [Results.read(files_of_run(it)) for it in paths]
     before, after = (None, runs[0]) if len(runs) == 1 else runs
-    return write_run_page(output, before, after, names=[str(it) for it in paths], svg=_drawing(model, after) if model else None)
+    return write_run_page(
+        output, before, after, names=[str(it) for it in paths], svg=_drawing(model, after) if model else None
+    )
 
 
 def files_of_run(path: Path) -> list[Path]:
-    """Returns the files of one run, by one of them, by their name without the ending, or by the folder where they are alone."""
+    """Returns the files of one run, by one of them, by their name without the ending, or by the folder where they
+    are alone."""
     if path.is_dir():
         stems = sorted({it.with_suffix("") for it in path.iterdir() if it.suffix in (".sca", ".vec")})
         if len(stems) != 1:
             shown = ", ".join(it.name for it in stems) or "none"
-            raise ResultFileError(f"{path}: this folder has the results of {len(stems)} runs ({shown}): name one, as {path}/General-#0")
+            raise ResultFileError(
+                f"{path}: this folder has the results of {len(stems)} runs ({shown}): name one, as {path}/General-#0"
+            )
         path = stems[0]
     stem = path.with_suffix("") if path.suffix in (".sca", ".vec") else path
     found = [it for it in (Path(f"{stem}.sca"), Path(f"{stem}.vec")) if it.is_file()]
@@ -49,7 +57,12 @@ def files_of_run(path: Path) -> list[Path]:
 
 
 def write_run_page(
-    output: Path, before: Results | None, after: Results, names: Sequence[str] = ("the run before", "the last run"), svg: str | None = None, reloads: bool = False
+    output: Path,
+    before: Results | None,
+    after: Results,
+    names: Sequence[str] = ("the run before", "the last run"),
+    svg: str | None = None,
+    reloads: bool = False,
 ) -> Path:
     """Writes the page of a run, beside an earlier one if there is one; `svg` is the drawing of the network."""
     attributes = _pairs(get_runattrs(after.frame))
@@ -116,12 +129,15 @@ def _config(results: Results) -> Table | None:
 def _scalars_part(results: Results) -> Part:
     rows = [[it.module, it.name, _shown(it.exact)] for it in results.scalars.itertuples(index=False)]
     columns = [Column("module"), Column("scalar"), Column("value", True)]
-    return Part("scalars", "Scalars", [] if rows else ["None was recorded."], Table("Scalars", columns, rows) if rows else None)
+    return Part(
+        "scalars", "Scalars", [] if rows else ["None was recorded."], Table("Scalars", columns, rows) if rows else None
+    )
 
 
 def _vectors_part(results: Results) -> Part:
     plots = [
-        _vector_plot(f"vector-{at}", f"{module} {name}", vector) for at, ((module, name), vector) in enumerate(vectors_by_key(results).items())
+        _vector_plot(f"vector-{at}", f"{module} {name}", vector)
+        for at, ((module, name), vector) in enumerate(vectors_by_key(results).items())
     ]
     return Part("vectors", "Vectors", [] if plots else ["None was recorded."], plots=plots)
 
@@ -139,14 +155,18 @@ def _summary(vector: Vector) -> str:
         return "no values"
     first, last = (seconds_shown(int(vector.picoseconds[it])) for it in (0, -1))
     span = f"at {first}" if first == last else f"from {first} to {last}"
-    return f"{_counted(len(values), 'value')} {span}; least {_shown(np.min(values).item())}, greatest {_shown(np.max(values).item())}, last {_shown(values[-1].item())}"
+    least, greatest, last_one = (_shown(it.item()) for it in (np.min(values), np.max(values), values[-1]))
+    return f"{_counted(len(values), 'value')} {span}; least {least}, greatest {greatest}, last {last_one}"
 
 
 def _thinning(shown: figures.Shown) -> list[str]:
     if not shown.is_thinned:
         return []
     buckets = figures.MOST_POINTS // 2
-    return [f"Thinned: the plot has {len(shown.vector.values):,} of {shown.count:,} values, the least and the greatest of each of {buckets:,} buckets."]
+    return [
+        f"Thinned: the plot has {len(shown.vector.values):,} of {shown.count:,} values, "
+        f"the least and the greatest of each of {buckets:,} buckets."
+    ]
 
 
 def _values_table(vector: Vector) -> Table:
@@ -162,9 +182,10 @@ def _values_table(vector: Vector) -> Table:
 
 def _lead(scalars: Sequence[ScalarPair], vectors: Sequence[VectorPair]) -> str:
     changed = sum(not it.is_equal for it in scalars), sum(not it.is_equal for it in vectors)
+    in_all = _counted(len(scalars), "scalar"), _counted(len(vectors), "vector")
     if not any(changed):
-        return f"Both runs have the same results: {_counted(len(scalars), 'scalar')} and {_counted(len(vectors), 'vector')}."
-    text = f"{changed[0]} of {_counted(len(scalars), 'scalar')} and {changed[1]} of {_counted(len(vectors), 'vector')} differ."
+        return f"Both runs have the same results: {in_all[0]} and {in_all[1]}."
+    text = f"{changed[0]} of {in_all[0]} and {changed[1]} of {in_all[1]} differ."
     points = [it for it in (pair.first_difference for pair in vectors if not pair.is_equal) if it]
     if points:
         first = min(points, key=lambda it: (it.picoseconds, it.event))
@@ -178,13 +199,23 @@ def _changed_entries_part(before: Results, after: Results) -> Part | None:
     if not keys:
         return None
     rows = [[it, old.get(it, ""), new.get(it, "")] for it in keys]
-    return Part("entries", "What differs in the configuration", table=Table("Entries", [Column("key"), Column("before"), Column("after")], rows))
+    return Part(
+        "entries",
+        "What differs in the configuration",
+        table=Table("Entries", [Column("key"), Column("before"), Column("after")], rows),
+    )
 
 
 def _scalar_pairs_part(pairs: Sequence[ScalarPair]) -> Part:
     columns = [Column("module"), Column("scalar"), *(Column(it, True) for it in ("before", "after", "difference"))]
     rows = [
-        [it.module, it.name, _shown(it.before), _shown(it.after), "" if it.difference is None else _grown(it.difference)]
+        [
+            it.module,
+            it.name,
+            _shown(it.before),
+            _shown(it.after),
+            "" if it.difference is None else _grown(it.difference),
+        ]
         for it in pairs
         if not it.is_equal
     ]
@@ -215,7 +246,10 @@ def _vector_pairs_part(pairs: Sequence[VectorPair]) -> Part:
 
 def _pair_plot(id: str, pair: VectorPair) -> Plot:
     before, after = (None if it is None else figures.thinned(it) for it in (pair.before, pair.after))
-    lines = [f"{when}: {_summary(it) if it else 'there is none'}" for when, it in (("before", pair.before), ("after", pair.after))]
+    lines = [
+        f"{when}: {_summary(it) if it else 'there is none'}"
+        for when, it in (("before", pair.before), ("after", pair.after))
+    ]
     first = pair.first_difference
     if first:
         lines.insert(0, f"They part at event {first.event}, at {seconds_shown(first.picoseconds)}.")
@@ -223,32 +257,62 @@ def _pair_plot(id: str, pair: VectorPair) -> Plot:
     columns = [Column("run"), Column("event", True), Column("time", True), Column("value", True)]
     rows = [[when, *_point_shown(it)] for when, it in zip(("before", "after"), pair.parting)]
     name = f"{pair.module} {pair.name}"
-    return Plot(id, name, figures.pair_figure(pair, before, after), lines, Table("Where they part", columns, rows), "the values where they part")
+    return Plot(
+        id,
+        name,
+        figures.pair_figure(pair, before, after),
+        lines,
+        Table("Where they part", columns, rows),
+        "the values where they part",
+    )
 
 
 def _point_shown(point: Point | None) -> list[str]:
-    return ["none", "", ""] if point is None else [str(point.event), seconds_shown(point.picoseconds), _shown(point.value)]
+    return (
+        ["none", "", ""] if point is None else [str(point.event), seconds_shown(point.picoseconds), _shown(point.value)]
+    )
 
 
 # --- a study
 
 
 def write_study_page(output: Path, table: StudyTable, name: str) -> Path:
-    """Writes the page of a study: a chart for each scalar over the factors, and what was refused or ended in a fault."""
+    """Writes the page of a study: a chart for each scalar over the factors, and what was refused or ended in a
+    fault."""
     plots = []
     for at, ((module, scalar), rows) in enumerate(table.scalars.groupby(["module", "name"], sort=False)):
-        listed = Table("The values", [*map(Column, table.factors), Column("value", True)], rows[[*table.factors, "value"]].astype(str).values.tolist())
-        plots.append(Plot(f"scalar-{at}", f"{module} {scalar}", figures.factors_figure(rows, table.factors), [], listed, f"its {len(rows)} values"))
+        listed = Table(
+            "The values",
+            [*map(Column, table.factors), Column("value", True)],
+            rows[[*table.factors, "value"]].astype(str).values.tolist(),
+        )
+        plots.append(
+            Plot(
+                f"scalar-{at}",
+                f"{module} {scalar}",
+                figures.factors_figure(rows, table.factors),
+                [],
+                listed,
+                f"its {len(rows)} values",
+            )
+        )
     troubled = table.troubled
     columns = [Column("variant", True), *map(Column, table.factors), Column("outcome"), Column("reason")]
     rows = troubled[["variant", *table.factors, "outcome", "reason"]].astype(str).values.tolist()
     parts = [Part("charts", "Scalars over the factors", plots=plots)]
     if rows:
-        parts.append(Part("troubled", "Variants that were refused or ended in a fault", table=Table("Such variants", columns, rows)))
+        parts.append(
+            Part(
+                "troubled",
+                "Variants that were refused or ended in a fault",
+                table=Table("Such variants", columns, rows),
+            )
+        )
     variants = table.variants
+    events, executed = int(variants["events"].sum()), int(variants["executed"].sum())
     lead = (
         f"{_counted(len(variants), 'variant')} of {', '.join(table.factors) or 'no factors'}. "
-        f"{int(variants['executed'].sum()):,} of {int(variants['events'].sum()):,} events were executed; the others were valid already."
+        f"{executed:,} of {events:,} events were executed; the others were valid already."
     )
     return Page(title="A study", lead=lead, made_of=name, parts=parts).write(output)
 

@@ -28,7 +28,8 @@ class SkippedResults(UserWarning):
 
 @dataclass
 class Item:
-    """A scalar (`value`), a parameter of a module (`value` too, as a text) or a vector (`vector`), with its attributes."""
+    """A scalar (`value`), a parameter of a module (`value` too, as a text) or a vector (`vector`), with its
+    attributes."""
 
     type: str
     module: str
@@ -74,7 +75,9 @@ def read_file(path: str | Path) -> list[ResultFile]:
         reader.take(number, line)
     reader.give_values(_values(path, data, reader.widest))
     if not reader.runs:
-        raise ResultFileError(f"{path}: there is no run in it: a result file begins with the lines 'version 3' and 'run NAME'")
+        raise ResultFileError(
+            f"{path}: there is no run in it: a result file begins with the lines 'version 3' and 'run NAME'"
+        )
     if reader.skipped:
         shown = ", ".join(f"{count} of the kind '{kind}'" for kind, count in reader.skipped.items())
         warnings.warn(f"{path}: skipped, as they are not read: {shown}", SkippedResults, stacklevel=3)
@@ -172,7 +175,9 @@ class _Reader:
         for part in np.split(order, cuts):
             number = int(numbers[part[0]])
             if number not in self._vectors:
-                raise ResultFileError(f"{self.path}: there are values of vector {number}, and no line 'vector {number} ..' declares it")
+                raise ResultFileError(
+                    f"{self.path}: there are values of vector {number}, and no line 'vector {number} ..' declares it"
+                )
             item, columns = self._vectors[number]
             item.vector = _vector(self.path, number, columns, table, part)
 
@@ -199,13 +204,16 @@ def _values(path: Path, data: bytes, width: int) -> pd.DataFrame:
         with warnings.catch_warnings():
             # (it only warns of a line with more columns)
             warnings.simplefilter("error", pd.errors.ParserWarning)
-            return pd.read_csv(io.BytesIO(data), delim_whitespace=True, header=None, names=names, index_col=False, dtype=kinds)
+            return pd.read_csv(
+                io.BytesIO(data), delim_whitespace=True, header=None, names=names, index_col=False, dtype=kinds
+            )
     except (ValueError, pd.errors.ParserError, pd.errors.ParserWarning) as error:
         raise ResultFileError(f"{path}: a line of values is not NUMBER, EVENT, TIME and VALUE ({error})") from None
 
 
 def _vector(path: Path, number: int, columns: str, table: pd.DataFrame, part: np.ndarray) -> Vector:
-    """Takes the lines of one vector out of the table: its columns are ETV, or TV, or other letters in OMNeT++'s order."""
+    """Takes the lines of one vector out of the table: its columns are ETV, or TV, or other letters in OMNeT++'s
+    order."""
     texts = dict(zip(columns, ("first", "second", "third")))
     if "T" not in texts or "V" not in texts or len(columns) > 3:
         raise ResultFileError(f"{path}: vector {number} has the columns '{columns}'; 'TV' and 'ETV' are read")
@@ -230,7 +238,8 @@ def _numbers(values: np.ndarray) -> np.ndarray:
 
 
 def picoseconds(texts: np.ndarray) -> np.ndarray:
-    """Reads times in seconds, decimal and without exponent, as whole picoseconds: exactly, where a float of seconds would round."""
+    """Reads times in seconds, decimal and without exponent, as whole picoseconds: exactly, where a float of seconds
+    would round."""
     letters = np.ascontiguousarray(texts).view(np.uint8).reshape(len(texts), texts.dtype.itemsize)
     total = np.zeros(len(texts), np.uint64)
     is_behind = np.zeros(len(texts), bool)
@@ -251,7 +260,7 @@ def picoseconds(texts: np.ndarray) -> np.ndarray:
         total = np.where(is_counted, total * TEN + digit, total)
         left -= is_counted & is_behind
         is_behind |= is_point
-    scale = TEN**left.astype(np.uint64)
+    scale = TEN ** left.astype(np.uint64)
     _see_that_it_fits(total, scale)
     return (total * scale).astype(np.int64)
 

@@ -1,6 +1,6 @@
-"""Results as data frames, in the form of OMNeT++'s own `omnetpp.scave.results`: a notebook that was written for that one works with
-`from soldrich import results`. Beside its columns stand `vecps`, the times of a vector as whole picoseconds, `vecevent`, the numbers
-of its events, and `exact`, a scalar as the whole number that the file says."""
+"""Results as data frames, in the form of OMNeT++'s own `omnetpp.scave.results`: a notebook that was written for that
+one works with `from soldrich import results`. Beside its columns stand `vecps`, the times of a vector as whole
+picoseconds, `vecevent`, the numbers of its events, and `exact`, a scalar as the whole number that the file says."""
 from __future__ import annotations
 
 import glob
@@ -22,12 +22,26 @@ if TYPE_CHECKING:
 
 Patterns = str | os.PathLike | Iterable[str | os.PathLike]
 ENDINGS = (".sca", ".vec")
-COLUMNS = ["runID", "type", "module", "name", "attrname", "attrvalue", "value", "exact", "vectime", "vecvalue", "vecps", "vecevent"]
+COLUMNS = [
+    "runID",
+    "type",
+    "module",
+    "name",
+    "attrname",
+    "attrvalue",
+    "value",
+    "exact",
+    "vectime",
+    "vecvalue",
+    "vecps",
+    "vecevent",
+]
 
 
 def read_result_files(patterns: Patterns, filter_expression: str | None = None) -> pd.DataFrame:
-    """Reads all result files that patterns name (`results/*.sca`; `**` stands for folders too), and returns a row for each scalar,
-    vector, parameter, attribute and entry of the configuration. A filter chooses scalars, vectors and parameters (`filters`)."""
+    """Reads all result files that patterns name (`results/*.sca`; `**` stands for folders too), and returns a row
+    for each scalar, vector, parameter, attribute and entry of the configuration. A filter chooses scalars, vectors
+    and parameters (`filters`)."""
     is_meant = filter_of(filter_expression) if filter_expression else lambda file, item: True
     rows, seen = [], set()
     for path in paths_of(patterns):
@@ -43,14 +57,21 @@ def read_result_files(patterns: Patterns, filter_expression: str | None = None) 
 
 
 def paths_of(patterns: Patterns) -> list[Path]:
-    """Returns the result files that patterns name, by their endings: a folder names those in it. A path without pattern is taken as it is."""
+    """Returns the result files that patterns name, by their endings: a folder names those in it. A path without
+    pattern is taken as it is."""
     made: list[Path] = []
     for it in [patterns] if isinstance(patterns, (str, os.PathLike)) else patterns:
         text = os.fspath(it)
         inside = os.path.join(glob.escape(text), "*") if os.path.isdir(text) else text
-        found = [text] if os.path.isfile(text) else [path for path in sorted(glob.glob(inside, recursive=True)) if path.endswith(ENDINGS)]
+        found = (
+            [text]
+            if os.path.isfile(text)
+            else [path for path in sorted(glob.glob(inside, recursive=True)) if path.endswith(ENDINGS)]
+        )
         if not found:
-            raise ResultFileError(f"{text}: there is no such result file: they are named as CONFIG-#0.sca and CONFIG-#0.vec")
+            raise ResultFileError(
+                f"{text}: there is no such result file: they are named as CONFIG-#0.sca and CONFIG-#0.vec"
+            )
         made.extend(Path(path) for path in found if Path(path) not in made)
     return made
 
@@ -58,13 +79,17 @@ def paths_of(patterns: Patterns) -> list[Path]:
 def _run_rows(file: ResultFile) -> list[dict]:
     kinds = {"runattr": file.attributes.items(), "itervar": file.itervars.items(), "config": file.config}
     return [
-        {"runID": file.run, "type": kind, "attrname": name, "attrvalue": value} for kind, pairs in kinds.items() for name, value in pairs
+        {"runID": file.run, "type": kind, "attrname": name, "attrvalue": value}
+        for kind, pairs in kinds.items()
+        for name, value in pairs
     ]
 
 
 def _item_rows(file: ResultFile, item: Item) -> list[dict]:
     row = {"runID": file.run, "type": item.type, "module": item.module, "name": item.name}
-    attributes = [{**row, "type": "attr", "attrname": name, "attrvalue": value} for name, value in item.attributes.items()]
+    attributes = [
+        {**row, "type": "attr", "attrname": name, "attrvalue": value} for name, value in item.attributes.items()
+    ]
     if item.type == "scalar":
         row |= {"value": item.value, "exact": item.value}
     elif item.type == "param":
@@ -82,7 +107,8 @@ def get_scalars(
     include_itervars: bool = False,
     include_config_entries: bool = False,
 ) -> pd.DataFrame:
-    """Returns a row for each scalar: runID, module, name, value, exact, and a column for each attribute that is asked for."""
+    """Returns a row for each scalar: runID, module, name, value, exact, and a column for each attribute that is
+    asked for."""
     rows = frame[frame["type"] == "scalar"][["runID", "module", "name", "value", "exact"]]
     return _with_attributes(rows, frame, include_attrs, include_runattrs, include_itervars, include_config_entries)
 
@@ -94,7 +120,8 @@ def get_vectors(
     include_itervars: bool = False,
     include_config_entries: bool = False,
 ) -> pd.DataFrame:
-    """Returns a row for each vector: runID, module, name, vectime, vecvalue, vecps, vecevent, and the attributes that are asked for."""
+    """Returns a row for each vector: runID, module, name, vectime, vecvalue, vecps, vecevent, and the attributes
+    that are asked for."""
     rows = frame[frame["type"] == "vector"][["runID", "module", "name", "vectime", "vecvalue", "vecps", "vecevent"]]
     return _with_attributes(rows, frame, include_attrs, include_runattrs, include_itervars, include_config_entries)
 
@@ -126,7 +153,12 @@ def _pairs(frame: pd.DataFrame, kind: str) -> pd.DataFrame:
 
 
 def _with_attributes(
-    rows: pd.DataFrame, frame: pd.DataFrame, attrs: bool = False, runattrs: bool = False, itervars: bool = False, config: bool = False
+    rows: pd.DataFrame,
+    frame: pd.DataFrame,
+    attrs: bool = False,
+    runattrs: bool = False,
+    itervars: bool = False,
+    config: bool = False,
 ) -> pd.DataFrame:
     kinds = {"runattr": runattrs, "itervar": itervars, "config": config}
     for kind in (it for it, is_wanted in kinds.items() if is_wanted):
@@ -138,7 +170,8 @@ def _with_attributes(
 
 
 def _columns(frame: pd.DataFrame, kind: str, keys: list[str]) -> pd.DataFrame:
-    """Returns a row for each key, and a column for each attribute of that kind: of an entry that stands twice the first counts."""
+    """Returns a row for each key, and a column for each attribute of that kind: of an entry that stands twice the
+    first counts."""
     wide = frame[frame["type"] == kind].pivot_table(index=keys, columns="attrname", values="attrvalue", aggfunc="first")
     wide.columns.name = None
     return wide.reset_index()
@@ -181,12 +214,17 @@ class Results:
         if len(found) != 1:
             raise KeyError(f"there are {len(found)} vectors '{name}' of '{module}'")
         row = found.iloc[0]
-        return pd.DataFrame({"event": row["vecevent"], "ps": row["vecps"], "time": row["vectime"], "value": row["vecvalue"]})
+        return pd.DataFrame(
+            {"event": row["vecevent"], "ps": row["vecps"], "time": row["vectime"], "value": row["vecvalue"]}
+        )
 
     def matching(self, of: str) -> pd.DataFrame:
-        """Returns the vectors whose module and name, with a dot between, match a pattern such as `**.queue.length:*`."""
+        """Returns the vectors whose module and name, with a dot between, match a pattern such as
+        `**.queue.length:*`."""
         rows, expression = self.vectors, pattern(of)
-        is_meant = [bool(expression.fullmatch(f"{module}.{name}")) for module, name in zip(rows["module"], rows["name"])]
+        is_meant = [
+            bool(expression.fullmatch(f"{module}.{name}")) for module, name in zip(rows["module"], rows["name"])
+        ]
         return rows[np.array(is_meant, bool)]
 
     def plot(self, of: str = "**") -> plotly.graph_objects.Figure:

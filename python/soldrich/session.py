@@ -21,9 +21,10 @@ Text = str | os.PathLike | Source
 class Session:
     """One `nedrun` process, and the model that it holds.
 
-    The texts are read when the session begins, and the program makes a first run of them, which is `first_run`. Each edit is
-    answered by how far the last run stays valid, and `run` executes only the events behind that. What is refused raises Refused
-    and changes nothing. Use it as a context manager, or call `close`: either way the process ends.
+    The texts are read when the session begins, and the program makes a first run of them, which is `first_run`. Each
+    edit is answered by how far the last run stays valid, and `run` executes only the events behind that. What is
+    refused raises Refused and changes nothing. Use it as a context manager, or call `close`: either way the process
+    ends.
     """
 
     def __init__(
@@ -40,8 +41,8 @@ class Session:
         """Begins a session.
 
         ini, neds: the files; config: the selected configuration; limit: how many events a run executes at most;
-        interval: after each multiple of how many events the state is stored, which doubles as a run grows;
-        program: what to start (`find_program` says what else); output: the folder of the result files, one of the session's own
+        interval: after each multiple of how many events the state is stored, which doubles as a run grows; program:
+        what to start (`find_program` says what else); output: the folder of the result files, one of the session's own
         if none is named; seconds: how long an answer may take.
         """
         self.limit = limit
@@ -53,8 +54,9 @@ class Session:
         self._notes: list[str] = []
         self.output = Path(output) if output is not None else Path(self._folder.name, "results")
         try:
-            words = [str(program or find_program()), "-c", config, "-l", str(limit), "-k", str(interval), "-o", str(self.output)]
-            words += ["-f", self._copy(ini), *map(self._copy, [neds] if isinstance(neds, Text) else neds)]
+            words = [str(program or find_program()), "-c", config, "-l", str(limit), "-k", str(interval)]
+            words += ["-o", str(self.output), "-f", self._copy(ini)]
+            words += map(self._copy, [neds] if isinstance(neds, Text) else neds)
             self._program = Program(words, seconds)
             self.first_run = self._begin()
         except BaseException:
@@ -106,7 +108,8 @@ class Session:
     # --- edits
 
     def insert(self, line: int, text: str) -> Edited:
-        """Puts a line before that line of the ini text; lines count from 1, and one number more adds a line at the end."""
+        """Puts a line before that line of the ini text; lines count from 1, and one number more adds a line at the
+        end."""
         return self._edit(f"ini insert {line} {text}")
 
     def replace(self, line: int, text: str) -> Edited:
@@ -118,11 +121,13 @@ class Session:
         return self._edit(f"ini remove {line}")
 
     def ned(self, file: int, path: Text) -> Edited:
-        """Takes what that path holds as the NED file of that number; files count from 0, in the order in which they were given."""
+        """Takes what that path holds as the NED file of that number; files count from 0, in the order in which they
+        were given."""
         return self._edit(f"ned {file} {self._copy(path)}")
 
     def connect(self, type: str, place: int, text: str) -> Edited:
-        """Puts a connection, or a group, before that item of the connections of a module or network type; items count from 0."""
+        """Puts a connection, or a group, before that item of the connections of a module or network type; items
+        count from 0."""
         return self._edit(f"connect {type} {place} {text}")
 
     def disconnect(self, type: str, place: int) -> Edited:
@@ -133,7 +138,9 @@ class Session:
         """Selects a configuration of the ini text."""
         return self._edit(f"config {name}")
 
-    def inject(self, path: str, time: str, priority: int = 0, kind: int = 0, bits: int = 0, payload: bytes = b"") -> Edited:
+    def inject(
+        self, path: str, time: str, priority: int = 0, kind: int = 0, bits: int = 0, payload: bytes = b""
+    ) -> Edited:
         """Lets a message from outside arrive at the simple module of that path, at a time such as "2500ms"."""
         return self._edit(f"inject {path} {time} {priority} {kind} {bits} {payload.hex() or '-'}")
 
@@ -178,7 +185,8 @@ class Session:
         return listed
 
     def why(self) -> str | None:
-        """Returns what made the last run differ from the one before it, in the program's words; None if it doesn't know the command."""
+        """Returns what made the last run differ from the one before it, in the program's words; None if it doesn't
+        know the command."""
         try:
             answer, listed = self._ask_for_list("why")
         except Refused as refused:
@@ -188,8 +196,8 @@ class Session:
         return "\n".join(listed) if answer.startswith("listed ") else answer
 
     def notes(self) -> str:
-        """Returns what the program told a person since that was last asked for, as it does behind an answer: it is all there when
-        the next command is answered."""
+        """Returns what the program told a person since that was last asked for, as it does behind an answer: it is
+        all there when the next command is answered."""
         self._program.ask("held")
         told = [*self._notes, *self._program.told()]
         self._notes.clear()
@@ -208,7 +216,8 @@ class Session:
     # --- the end
 
     def close(self) -> None:
-        """Ends the session: the program ends, and its folder of copies and, if it has one of its own, of results is removed."""
+        """Ends the session: the program ends, and its folder of copies and, if it has one of its own, of results is
+        removed."""
         if self._program:
             self._program.close()
         self._folder.cleanup()
@@ -260,7 +269,8 @@ class Session:
         return answer
 
     def _ask_for_list(self, command: str) -> tuple[str, list[str]]:
-        """Asks a command, and returns its answer and what it lists: the last ones of the lines that the program told before it."""
+        """Asks a command, and returns its answer and what it lists: the last ones of the lines that the program told
+        before it."""
         answer = self._ask(command)
         found = re.fullmatch(r"listed (\d+)", answer)
         told = self._program.told()

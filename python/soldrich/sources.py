@@ -52,7 +52,8 @@ class ModelFiles:
 
 
 def ned_files_below(folders: Iterable[Path]) -> list[Path]:
-    """Returns the NED files below folders, as `nedrun -n` takes them: in the order of their paths, without names that begin with a dot."""
+    """Returns the NED files below folders, as `nedrun -n` takes them: in the order of their paths, without names
+    that begin with a dot."""
     found = []
     for folder in folders:
         for where, inner, names in os.walk(folder):

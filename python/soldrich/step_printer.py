@@ -50,7 +50,9 @@ class StepPrinter:
         if step.before is None:
             self.line(f"{len(step.after.scalars)} scalars")
         elif not changed:
-            self.line("no scalar changed, but a vector did" if step.has_other_vectors else "no scalar and no vector changed")
+            self.line(
+                "no scalar changed, but a vector did" if step.has_other_vectors else "no scalar and no vector changed"
+            )
         elif self._console.is_terminal:
             self._console.print(_table(changed[:MOST_ROWS]))
         else:
@@ -64,7 +66,11 @@ def _validity(step: Step) -> str:
     run = step.run
     if step.begun:
         return f"{run.outcome}: {run.executed} events"
-    valid = "no event of the last run is valid" if step.valid_to is None else f"the last run is valid up to event {step.valid_to}"
+    valid = (
+        "no event of the last run is valid"
+        if step.valid_to is None
+        else f"the last run is valid up to event {step.valid_to}"
+    )
     start = "the start" if run.started_from is None else f"event {run.started_from}"
     return f"{valid}; {run.executed} of {run.events} events ran again, from {start}: {run.outcome}"
 

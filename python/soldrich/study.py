@@ -79,11 +79,15 @@ def _without_interrupts() -> Iterator[None]:
 
 
 def _run(client: Client, read: Study) -> tuple[list[Outcome], int]:
-    """Runs all variants, and returns what came of them, in their order, and how many events the runs of the base had."""
+    """Runs all variants, and returns what came of them, in their order, and how many events the runs of the base
+    had."""
     base = client.submit(base_of, read.base, pure=False)
     # in their order: from one variant to the next the last factor changes first
     how = {"retries": RETRIES, "pure": False}
-    tasks = {client.submit(run_variant, base, Task(it, read.keep), priority=-it.number, **how): it.number for it in read.variants}
+    tasks = {
+        client.submit(run_variant, base, Task(it, read.keep), priority=-it.number, **how): it.number
+        for it in read.variants
+    }
     outcomes = {}
     columns = (TextColumn("{task.description}"), BarColumn(), MofNCompleteColumn(), TimeRemainingColumn())
     console = Console(stderr=True)
@@ -111,7 +115,13 @@ def _table(read: Study, outcomes: list[Outcome]) -> StudyTable:
     rows = []
     for variant, it in zip(read.variants, outcomes):
         row = {"variant": it.variant, **{factor.name: shown for factor, shown in zip(read.factors, variant.shown)}}
-        row |= {"outcome": it.outcome, "reason": it.reason, "valid_to": it.valid_to, "events": it.events, "executed": it.executed}
+        row |= {
+            "outcome": it.outcome,
+            "reason": it.reason,
+            "valid_to": it.valid_to,
+            "events": it.events,
+            "executed": it.executed,
+        }
         rows.extend({**row, "module": module, "name": name, "value": value} for module, name, value in it.scalars)
         if not it.scalars:
             rows.append(row)
@@ -121,5 +131,8 @@ def _table(read: Study, outcomes: list[Outcome]) -> StudyTable:
 def _summary(table: StudyTable, base_events: int) -> str:
     variants = table.variants
     events, executed = int(variants["events"].sum()), int(variants["executed"].sum())
-    text = f"{len(variants)} variants, {len(table.troubled)} of them refused, lost or ended by a fault, of {events:,} events in all"
-    return f"{text}: {executed:,} of these were executed, {events - executed:,} saved; {base_events:,} were executed for the base"
+    return (
+        f"{len(variants)} variants, {len(table.troubled)} of them refused, lost or ended by a fault, "
+        f"of {events:,} events in all: {executed:,} of these were executed, {events - executed:,} saved; "
+        f"{base_events:,} were executed for the base"
+    )

@@ -46,8 +46,10 @@ def read_study(path: Path) -> Study:
     base = reader.base(reader.table(table, "base", "a table [base], with the ini file and the NED files"))
     how = reader.table(table, "study") if "study" in table else {}
     reader.knows(how, "[study]", {"combine", "keep"})
-    factors = tuple(reader.factor(name, value) for name, value in reader.table(table, "factors", "a table [factors]").items())
-    keep = reader.strings(how.get("keep", ["**"]), "study.keep", "a list of patterns such as \"**.rx:count\"")
+    factors = tuple(
+        reader.factor(name, value) for name, value in reader.table(table, "factors", "a table [factors]").items()
+    )
+    keep = reader.strings(how.get("keep", ["**"]), "study.keep", 'a list of patterns such as "**.rx:count"')
     return Study(base, factors, tuple(reader.combined(factors, how.get("combine", "cross"))), keep)
 
 
@@ -92,7 +94,9 @@ class _Reader:
         if "folder" in table:
             paths += ned_files_below([self._path.parent / table["folder"]])
         if not paths:
-            raise self.wrong("[base]", "there is no NED file: neds = [..] names them, or folder = \"..\" one with NED files below it")
+            raise self.wrong(
+                "[base]", 'there is no NED file: neds = [..] names them, or folder = ".." one with NED files below it'
+            )
         limit, interval = self.number(table, "limit", EVENTS), self.number(table, "interval", 1)
         sources = tuple(self.source(it, "[base]") for it in paths)
         seconds = self.number(table, "seconds", int(SECONDS))
@@ -111,10 +115,16 @@ class _Reader:
         if isinstance(value, list):
             values = self.strings(value, where, "a list of texts, the values of that key")
             return Factor(name, values, tuple(Entry(name, it) for it in values))
-        kinds: dict[str, Callable[[dict, str], list]] = {"config": self._configs, "connect": self._connections, "ned": self._neds}
+        kinds: dict[str, Callable[[dict, str], list]] = {
+            "config": self._configs,
+            "connect": self._connections,
+            "ned": self._neds,
+        }
         kind = next((it for it in kinds if isinstance(value, dict) and it in value), None)
         if kind is None:
-            raise self.wrong(where, "a factor is a list of values, or a table with config = [..], connect = [..] or ned = [..]")
+            raise self.wrong(
+                where, "a factor is a list of values, or a table with config = [..], connect = [..] or ned = [..]"
+            )
         shown = self.strings(value[kind], f"{where}.{kind}", "a list of texts")
         return Factor(name, shown, tuple(kinds[kind](value, where)))
 
@@ -125,7 +135,7 @@ class _Reader:
     def _connections(self, table: dict, where: str) -> list[Connection | None]:
         self.knows(table, where, {"connect", "type", "place"})
         if not isinstance(table.get("type"), str):
-            raise self.wrong(where, "type = \"..\" has to name the module or network type that gets the connection")
+            raise self.wrong(where, 'type = ".." has to name the module or network type that gets the connection')
         place = self.number(table, "place", 0)
         return [Connection(table["type"], place, it) if it else None for it in table["connect"]]
 

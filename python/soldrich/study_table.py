@@ -53,7 +53,9 @@ class StudyTable:
         try:
             self.frame.to_parquet(path, index=False)
         except ImportError as error:
-            raise StudyError(f"{path}: to write Parquet pandas needs pyarrow, which is not installed: take a path that ends with .csv") from error
+            raise StudyError(
+                f"{path}: to write Parquet pandas needs pyarrow, which is not there: take a path that ends with .csv"
+            ) from error
 
 
 def made_of(rows: Sequence[dict], factors: Sequence[str]) -> StudyTable:
@@ -71,7 +73,9 @@ def read_study_table(path: Path) -> StudyTable:
     """Reads a table that a study wrote."""
     frame = pd.read_parquet(path) if path.suffix == ".parquet" else _read_csv(path)
     if list(frame.columns[:1]) != [FIRST] or list(frame.columns[-len(LAST) :]) != LAST:
-        raise StudyError(f"{path}: this is no table of a study: its columns are {FIRST}, the factors, {', '.join(LAST)}")
+        raise StudyError(
+            f"{path}: this is no table of a study: its columns are {FIRST}, the factors, {', '.join(LAST)}"
+        )
     return StudyTable(frame)
 
 

@@ -21,7 +21,8 @@ class Task:
 
 
 def run_variant(base: Base, task: Task) -> Outcome:
-    """Runs a variant in this worker's session. Raises SessionLost where the program was lost: then the next call begins another one."""
+    """Runs a variant in this worker's session. Raises SessionLost where the program was lost: then the next call
+    begins another one."""
     with _LOCK:
         if base not in _SESSIONS:
             _SESSIONS[base] = VariantSession(base)
@@ -33,7 +34,8 @@ def run_variant(base: Base, task: Task) -> Outcome:
 
 
 def base_of(base: Base) -> Base:
-    """Returns the base. As a task of its own it is sent to each worker once, and made again where the worker that had it died."""
+    """Returns the base. As a task of its own it is sent to each worker once, and made again where the worker that
+    had it died."""
     return base
 
 

@@ -8,8 +8,8 @@ from enum import Enum
 
 
 class Kind(Enum):
-    """What an edit does with a line. In this order edits leave most of a run valid: a line that moved stands twice for a moment, not
-    nowhere."""
+    """What an edit does with a line. In this order edits leave most of a run valid: a line that moved stands twice
+    for a moment, not nowhere."""
 
     INSERT = 0
     REPLACE = 1
@@ -18,8 +18,8 @@ class Kind(Enum):
 
 @dataclass(frozen=True)
 class LineEdit:
-    """An edit of one line: `before` is the line of the old text, counted from 0, that it replaces or removes, or before which it puts
-    another one. `order` counts those that are put before the same line."""
+    """An edit of one line: `before` is the line of the old text, counted from 0, that it replaces or removes, or
+    before which it puts another one. `order` counts those that are put before the same line."""
 
     kind: Kind
     before: int

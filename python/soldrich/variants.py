@@ -106,14 +106,15 @@ class Outcome:
 class VariantSession:
     """A session of the base, which becomes one variant after another.
 
-    From one to the next it makes only the edits in which they differ, so that only what these reach runs again. A study keeps
-    scalars: that vectors are not recorded is no matter of an event, and spares writing them.
+    From one to the next it makes only the edits in which they differ, so that only what these reach runs again. A study
+    keeps scalars: that vectors are not recorded is no matter of an event, and spares writing them.
     """
 
     def __init__(self, base: Base):
         self._session = Session(base.ini, base.neds, base.config, base.limit, base.interval, seconds=base.seconds)
         self._base = base
-        # what is made now: the selected configuration, the entries in each section, and edits of NED files with how they are taken back
+        # what is made now: the selected configuration, the entries in each section, and edits of NED files with how
+        # they are taken back
         self._config = base.config
         self._entries: dict[str, list[Entry]] = {}
         self._of_types: list[Connection | NedFile] = []
@@ -133,17 +134,20 @@ class VariantSession:
         self._session.close()
 
     def outcome_of(self, variant: Variant, keep: tuple[str, ...]) -> Outcome:
-        """Runs a variant. Of its scalars those are kept whose module and name, with a dot between, match one of the patterns."""
+        """Runs a variant. Of its scalars those are kept whose module and name, with a dot between, match one of the
+        patterns."""
         try:
             valid_to = self._become(variant)
         except Refused as refused:
             return Outcome(variant.number, f"refused {refused.name}", refused.explanation)
         run = self._session.run()
-        return Outcome(variant.number, run.outcome, run.explanation, valid_to, run.events, run.executed, self._scalars(keep))
+        return Outcome(
+            variant.number, run.outcome, run.explanation, valid_to, run.events, run.executed, self._scalars(keep)
+        )
 
     def _become(self, variant: Variant) -> int | None:
-        """Makes the session's model this variant, and returns up to which event the run before is one of it. Raises Refused where it
-        is none: then the model is one between."""
+        """Makes the session's model this variant, and returns up to which event the run before is one of it. Raises
+        Refused where it is none: then the model is one between."""
         valid: list[int | None] = [self._session.last_run.events]
         if variant.of_types != self._of_types:
             self._take_types_back(valid)
@@ -181,8 +185,8 @@ class VariantSession:
         self._of_types = []
 
     def _select(self, config: str, entries: list[Entry], valid: list[int | None]) -> None:
-        """Selects a configuration. The entries stand in its section before they go from that of the other one: so what is equal in
-        both configurations stays as it is."""
+        """Selects a configuration. The entries stand in its section before they go from that of the other one: so
+        what is equal in both configurations stays as it is."""
         try:
             self._make_entries(config, entries, valid)
             valid.append(self._session.config(config).valid_to)
@@ -230,4 +234,8 @@ class VariantSession:
         expressions = [pattern(it) for it in keep]
         (run,) = read_file(self._session.write()[0])
         scalars = (it for it in run.items if it.type == "scalar")
-        return tuple((it.module, it.name, it.value) for it in scalars if any(one.fullmatch(f"{it.module}.{it.name}") for one in expressions))
+        return tuple(
+            (it.module, it.name, it.value)
+            for it in scalars
+            if any(one.fullmatch(f"{it.module}.{it.name}") for one in expressions)
+        )

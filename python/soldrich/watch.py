@@ -35,7 +35,8 @@ class _Watch:
         self._is_troubled = False
 
     def take(self, saved_at: float) -> None:
-        """Takes what the files hold now, and prints what that came to. They were saved at that time of the monotonic clock."""
+        """Takes what the files hold now, and prints what that came to. They were saved at that time of the monotonic
+        clock."""
         try:
             step = self._live.take(self._read())
         except OSError as error:

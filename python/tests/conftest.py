@@ -73,15 +73,30 @@ def each_example(request) -> Example:
     return request.param
 
 
-def fresh_run(folder: pathlib.Path, ini: str, neds: list[str], config: str, limit: int, messages: tuple[str, ...] = ()) -> tuple[str, bytes, bytes]:
+def fresh_run(
+    folder: pathlib.Path, ini: str, neds: list[str], config: str, limit: int, messages: tuple[str, ...] = ()
+) -> tuple[str, bytes, bytes]:
     """Runs texts by a program of their own, and returns the outcome and both files. Messages are `inject` commands."""
     folder.mkdir(parents=True, exist_ok=True)
     paths = [folder / f"{number}.ned" for number in range(len(neds))]
     for path, text in zip([folder / "omnetpp.ini", *paths], [ini, *neds]):
         path.write_text(text)
-    words = [PROGRAM, "-c", config, "-l", str(0 if messages else limit), "-o", str(folder), "-f", str(folder / "omnetpp.ini"), *map(str, paths)]
+    words = [
+        PROGRAM,
+        "-c",
+        config,
+        "-l",
+        str(0 if messages else limit),
+        "-o",
+        str(folder),
+        "-f",
+        str(folder / "omnetpp.ini"),
+        *map(str, paths),
+    ]
     commands = "".join(f"{it}\n" for it in (*messages, f"run {limit}", "write"))
     ran = subprocess.run(words, input=commands, capture_output=True, text=True, timeout=300)
     assert ran.returncode == 0, ran.stderr
     answer = ran.stdout.splitlines()[-2]
-    return answer.rpartition(" from ")[0].removeprefix("done "), *((folder / f"{config}-#0.{it}").read_bytes() for it in ("sca", "vec"))
+    return answer.rpartition(" from ")[0].removeprefix("done "), *(
+        (folder / f"{config}-#0.{it}").read_bytes() for it in ("sca", "vec")
+    )

@@ -24,7 +24,9 @@ class Started:
         # (what a process leaves that is killed goes with the folder)
         rest = pathlib.Path(folder, ".rest")
         rest.mkdir(exist_ok=True)
-        self.process = subprocess.Popen(command, cwd=folder, env={**ENVIRONMENT, "TMPDIR": str(rest)}, text=True, **streams)
+        self.process = subprocess.Popen(
+            command, cwd=folder, env={**ENVIRONMENT, "TMPDIR": str(rest)}, text=True, **streams
+        )
         self._lines: queue.Queue[str] = queue.Queue()
         threading.Thread(target=self._read, daemon=True).start()
         self.read: list[str] = []
@@ -72,5 +74,7 @@ class Started:
 
 def children_of(pid: int) -> list[int]:
     """The processes that this process started."""
-    listed = subprocess.run(["ps", "-o", "pid=", "--ppid", str(pid)], capture_output=True, text=True, check=False).stdout
+    listed = subprocess.run(
+        ["ps", "-o", "pid=", "--ppid", str(pid)], capture_output=True, text=True, check=False
+    ).stdout
     return [int(it) for it in listed.split()]

@@ -1,4 +1,5 @@
-"""Scripts of edits by chance: after each step the results of the session are those of a fresh run of the texts as edited."""
+"""Scripts of edits by chance: after each step the results of the session are those of a fresh run of the texts as
+edited."""
 from __future__ import annotations
 
 import random
@@ -17,7 +18,8 @@ LIMIT = 300
 
 
 class Texts:
-    """The texts, the configuration and the messages, as edited: kept here by the rules of the commands, and not by the program."""
+    """The texts, the configuration and the messages, as edited: kept here by the rules of the commands, and not by
+    the program."""
 
     def __init__(self, it: Example):
         self.lines = it.ini.read_text().removesuffix("\n").split("\n")
@@ -27,7 +29,9 @@ class Texts:
 
     def fresh(self, folder) -> tuple[str, bytes, bytes]:
         ini = "\n".join(self.lines) + "\n"
-        return fresh_run(folder, ini, self.neds, self.config, LIMIT, tuple(self.messages[it] for it in sorted(self.messages)))
+        return fresh_run(
+            folder, ini, self.neds, self.config, LIMIT, tuple(self.messages[it] for it in sorted(self.messages))
+        )
 
 
 def other_number(text: str, chance: random.Random) -> str:

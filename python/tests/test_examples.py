@@ -1,4 +1,5 @@
-"""Each example's session, made by calls: its answers and its files are those that were worked out by hand and are kept with it."""
+"""Each example's session, made by calls: its answers and its files are those that were worked out by hand and are
+kept with it."""
 from __future__ import annotations
 
 from conftest import TOP, Example
@@ -46,7 +47,9 @@ def edit(session: Session, word: str, rest: str) -> Edited:
 
 
 def answer_of_run(run: Run) -> str:
-    return f"done {run.outcome} from {'start' if run.started_from is None else run.started_from} executed {run.executed}"
+    return (
+        f"done {run.outcome} from {'start' if run.started_from is None else run.started_from} executed {run.executed}"
+    )
 
 
 def answer_of_edit(edited: Edited) -> str:

@@ -10,7 +10,13 @@ from soldrich import Session, UnknownAnswer
 from soldrich.network import Connection, Module, Network, connection_of, drawing, module_of, network_of
 
 NETWORK = Network(
-    (Module("Net", "Net"), Module("Net.a", "Source"), Module("Net.sub", "Pair"), Module("Net.sub.q[0]", "Queue"), Module("Net.b<c", "Sink")),
+    (
+        Module("Net", "Net"),
+        Module("Net.a", "Source"),
+        Module("Net.sub", "Pair"),
+        Module("Net.sub.q[0]", "Queue"),
+        Module("Net.b<c", "Sink"),
+    ),
     (
         Connection("Net.a.out", "Net.sub.in", "Line delay 10ms datarate 10kbps"),
         Connection("Net.sub.in", "Net.sub.q[0].in"),
@@ -41,4 +47,7 @@ def test_a_program_that_does_not_list_them():
     it = example("queueing_line")
     with Session(it.ini, it.neds) as session:
         network = network_of(session)
-        assert network is None or {module.path for module in network.modules} >= {"QueueingLine.queue", "QueueingLine.sink"}
+        assert network is None or {module.path for module in network.modules} >= {
+            "QueueingLine.queue",
+            "QueueingLine.sink",
+        }

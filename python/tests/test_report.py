@@ -120,8 +120,11 @@ def test_a_plot_zooms_and_says_what_is_under_the_mouse(browser, tmp_path):
     # with a mouse: from a third of the plot to two thirds
     drag = """
         const area = document.querySelector('.chart .nsewdrag'), box = area.getBoundingClientRect();
-        const at = (kind, part) => area.ownerDocument.elementFromPoint(box.x + box.width * part, box.y + box.height / 2).dispatchEvent(
-            new MouseEvent(kind, {bubbles: true, clientX: box.x + box.width * part, clientY: box.y + box.height / 2, button: 0, buttons: 1}));
+        const at = (kind, part) => {
+            const place = {clientX: box.x + box.width * part, clientY: box.y + box.height / 2};
+            const event = new MouseEvent(kind, {bubbles: true, button: 0, buttons: 1, ...place});
+            document.elementFromPoint(place.clientX, place.clientY).dispatchEvent(event);
+        };
         at('mousedown', 1 / 3); at('mousemove', 1 / 2); at('mousemove', 2 / 3); at('mouseup', 2 / 3);
     """
     browser.execute_script(drag)
@@ -157,14 +160,21 @@ def test_light_and_dark_and_a_phone(browser, tmp_path):
     try:
         grounds = []
         for theme in ("light", "dark"):
-            browser.execute_cdp_cmd("Emulation.setEmulatedMedia", {"features": [{"name": "prefers-color-scheme", "value": theme}]})
-            browser.execute_cdp_cmd("Emulation.setDeviceMetricsOverride", {"width": 375, "height": 700, "deviceScaleFactor": 2, "mobile": True})
+            browser.execute_cdp_cmd(
+                "Emulation.setEmulatedMedia", {"features": [{"name": "prefers-color-scheme", "value": theme}]}
+            )
+            browser.execute_cdp_cmd(
+                "Emulation.setDeviceMetricsOverride",
+                {"width": 375, "height": 700, "deviceScaleFactor": 2, "mobile": True},
+            )
             open_page(browser, page)
             grounds.append(browser.execute_script("return getComputedStyle(document.body).backgroundColor"))
             # nothing is wider than the phone
             assert browser.execute_script("return document.documentElement.scrollWidth") <= 375
         browser.find_element(By.ID, "theme").click()
-        assert browser.execute_script("return getComputedStyle(document.body).backgroundColor") == grounds[0] != grounds[1]
+        assert (
+            browser.execute_script("return getComputedStyle(document.body).backgroundColor") == grounds[0] != grounds[1]
+        )
     finally:
         browser.execute_cdp_cmd("Emulation.setEmulatedMedia", {"features": []})
         browser.execute_cdp_cmd("Emulation.clearDeviceMetricsOverride", {})
@@ -229,7 +239,9 @@ def test_a_page_says_that_it_is_thinned(tmp_path):
 def test_where_runs_part(tmp_path):
     def results(name: str, lines: str) -> Results:
         path = tmp_path / name
-        path.write_text(f"version 3\nrun General-0\n\nvector 0 N.t x:vector ETV\nscalar N.t a 1\nscalar N.t {name} 5\n{lines}")
+        path.write_text(
+            f"version 3\nrun General-0\n\nvector 0 N.t x:vector ETV\nscalar N.t a 1\nscalar N.t {name} 5\n{lines}"
+        )
         return Results.read(path)
 
     one = results("one", "0\t1\t1\t7\n0\t2\t2\t7\n0\t5\t3\t7\n")
@@ -241,11 +253,20 @@ def test_where_runs_part(tmp_path):
     (pair,) = vector_pairs(one, one)
     assert pair.is_equal and pair.first_difference is None
     pairs = scalar_pairs(one, other)
-    assert [(it.name, it.before, it.after, it.difference) for it in pairs] == [("a", 1, 1, 0), ("other", None, 5, None), ("one", 5, None, None)]
+    assert [(it.name, it.before, it.after, it.difference) for it in pairs] == [
+        ("a", 1, 1, 0),
+        ("other", None, 5, None),
+        ("one", 5, None, None),
+    ]
 
 
 def test_times_are_shown_exactly():
-    assert [seconds_shown(it) for it in (0, 1, 10**12, 1_500_000_000_000)] == ["0 s", "0.000000000001 s", "1 s", "1.5 s"]
+    assert [seconds_shown(it) for it in (0, 1, 10**12, 1_500_000_000_000)] == [
+        "0 s",
+        "0.000000000001 s",
+        "1 s",
+        "1.5 s",
+    ]
 
 
 def test_results_that_are_not_there(tmp_path, capsys):

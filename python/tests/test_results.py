@@ -10,10 +10,19 @@ import pytest
 from soldrich import ResultFileError, Results, read_result_files
 from soldrich.patterns import pattern
 from soldrich.result_files import SkippedResults, picoseconds
-from soldrich.results import get_config_entries, get_itervars, get_runattrs, get_runs, get_scalars, get_vectors, paths_of
+from soldrich.results import (
+    get_config_entries,
+    get_itervars,
+    get_runattrs,
+    get_runs,
+    get_scalars,
+    get_vectors,
+    paths_of,
+)
 
 HEAD = "version 3\nrun General-0\nattr configname General\nattr network N\nconfig network N\nconfig **.count 3\n\n"
-# as OMNeT++ 6 writes them: with quotes, attributes of results, statistics and histograms, real values, vectors without event numbers
+# as OMNeT++ 6 writes them: with quotes, attributes of results, statistics and histograms, real values, vectors without
+# event numbers
 OMNETPP_HEAD = """version 3
 run General-0-20240102-10:11:12-77
 attr configname General
@@ -62,8 +71,18 @@ def written(tmp_path, name: str, text: str):
 
 
 def test_a_run(tmp_path):
-    written(tmp_path, "General-#0.sca", HEAD + "scalar N.t fired:count 3\nscalar N.t sum 170141183460469231731687303715884105727\n")
-    written(tmp_path, "General-#0.vec", HEAD + "vector 0 N.t fired:vector ETV\nvector 1 N.t x:vector ETV\n0\t1\t0.5\t4\n1\t1\t0.5\t-9\n0\t2\t9223372.036854775807\t5\n")
+    written(
+        tmp_path,
+        "General-#0.sca",
+        HEAD + "scalar N.t fired:count 3\nscalar N.t sum 170141183460469231731687303715884105727\n",
+    )
+    written(
+        tmp_path,
+        "General-#0.vec",
+        HEAD
+        + "vector 0 N.t fired:vector ETV\nvector 1 N.t x:vector ETV\n"
+        + "0\t1\t0.5\t4\n1\t1\t0.5\t-9\n0\t2\t9223372.036854775807\t5\n",
+    )
     frame = read_result_files(tmp_path / "*")
     assert list(frame.columns[:7]) == ["runID", "type", "module", "name", "attrname", "attrvalue", "value"]
     assert {"vectime", "vecvalue"} <= set(frame.columns)
@@ -93,7 +112,10 @@ def test_the_functions_of_omnetpp(tmp_path):
     wide = get_scalars(frame, include_runattrs=True, include_config_entries=True)
     assert wide.loc[0, ["configname", "**.count"]].tolist() == ["General", "3"]
     assert get_runs(frame)["configname"].tolist() == ["General"]
-    assert get_runattrs(frame).values.tolist() == [["General-0", "configname", "General"], ["General-0", "network", "N"]]
+    assert get_runattrs(frame).values.tolist() == [
+        ["General-0", "configname", "General"],
+        ["General-0", "network", "N"],
+    ]
     assert get_config_entries(frame)["name"].tolist() == ["network", "**.count"]
     assert len(get_vectors(frame)) == 0
 
@@ -156,7 +178,11 @@ def test_what_is_no_result_file(tmp_path, text, told):
         ("type =~ scalar AND NOT (name =~ rx* OR name =~ *:timeavg)", ["bits sent", "nothing:mean"]),
         ('name =~ "bits sent" OR attr:source =~ qlen', ["bits sent", "qlen:vector"]),
         ("itervar:n =~ 3", []),
-        ("itervar:n =~ 2 AND runattr:network =~ FifoNet AND config:network =~ * AND run =~ General** AND file =~ **.sca AND type =~ param", ["msgLength"]),
+        (
+            "itervar:n =~ 2 AND runattr:network =~ FifoNet AND config:network =~ * "
+            "AND run =~ General** AND file =~ **.sca AND type =~ param",
+            ["msgLength"],
+        ),
     ],
 )
 @pytest.mark.filterwarnings("ignore::soldrich.result_files.SkippedResults")
@@ -196,7 +222,10 @@ def test_which_files_are_meant(tmp_path):
     for name in ("a.sca", "b/a.vec", "a.sca.part", "page.html"):
         (tmp_path / name).parent.mkdir(exist_ok=True)
         written(tmp_path, name, HEAD)
-    named = [str(it.relative_to(tmp_path)) for it in paths_of([tmp_path / "*", tmp_path, tmp_path / "**/*", tmp_path / "a.sca.part"])]
+    named = [
+        str(it.relative_to(tmp_path))
+        for it in paths_of([tmp_path / "*", tmp_path, tmp_path / "**/*", tmp_path / "a.sca.part"])
+    ]
     assert named == ["a.sca", "b/a.vec", "a.sca.part"]
 
 
@@ -207,13 +236,22 @@ def test_no_files(tmp_path):
 
 def test_times_are_exact():
     texts = np.array(["0", "1", "0.000000000001", "12.5", "9223372.036854775807", "3.1400000000000000000"], "S24")
-    assert picoseconds(texts).tolist() == [0, 10**12, 1, 12_500_000_000_000, 9_223_372_036_854_775_807, 3_140_000_000_000]
+    assert picoseconds(texts).tolist() == [
+        0,
+        10**12,
+        1,
+        12_500_000_000_000,
+        9_223_372_036_854_775_807,
+        3_140_000_000_000,
+    ]
 
 
 def test_a_large_vector_file_is_read_in_time(tmp_path):
     count = 400_000
     lines = "".join(f"{at % 4}\t{at}\t{at // 4000}.{at % 4000:04}\t{at * 7 % 1000}\n" for at in range(count))
-    path = written(tmp_path, "x.vec", HEAD + "".join(f"vector {it} N.t[{it}] x:vector ETV\n" for it in range(4)) + lines)
+    path = written(
+        tmp_path, "x.vec", HEAD + "".join(f"vector {it} N.t[{it}] x:vector ETV\n" for it in range(4)) + lines
+    )
     begun = time.process_time()
     results = Results.read(path)
     seconds = time.process_time() - begun

@@ -49,12 +49,27 @@ EDITS = [
     (lambda it: it.config("Slow"), "NoSuchConfig", None, "there is no configuration 'Slow'"),
     (lambda it: it.ned(1, Source("x.ned", TICK)), "NoSuchFile", None, "they count from 0"),
     (lambda it: it.ned(0, Source("cut.ned", b"simple Tick\n{\n")), "NedSyntax", 2, "cut.ned:2: "),
-    (lambda it: it.ned(0, Source("long.ned", b" " * ((1 << 20) + 1))), "TooLarge", None, "long.ned: the file is longer than 1 MiB"),
+    (
+        lambda it: it.ned(0, Source("long.ned", b" " * ((1 << 20) + 1))),
+        "TooLarge",
+        None,
+        "long.ned: the file is longer than 1 MiB",
+    ),
     (lambda it: it.ned(0, Source("t.ned", TICK + b"simple Tick {}\n")), "DuplicateType", None, "Tick"),
-    (lambda it: it.ned(0, Source("t.ned", TICK.replace(b"t: Tick", b"t: Tock"))), "UnknownType", None, "did you mean 'Tick'?"),
+    (
+        lambda it: it.ned(0, Source("t.ned", TICK.replace(b"t: Tick", b"t: Tock"))),
+        "UnknownType",
+        None,
+        "did you mean 'Tick'?",
+    ),
     (lambda it: it.ned(0, Source("t.ned", TICK + b"simple A extends A {}\n")), "InheritanceCircle", None, "A"),
     (lambda it: it.ned(0, Source("t.ned", TICK.replace(b"t: Tick;", b"t: Tick; t: Tick;"))), "KindClash", None, "t"),
-    (lambda it: it.ned(0, Source("t.ned", TICK + b"moduleinterface I { gates: input g; }\nsimple A like I {}\n")), "Interface", None, "g"),
+    (
+        lambda it: it.ned(0, Source("t.ned", TICK + b"moduleinterface I { gates: input g; }\nsimple A like I {}\n")),
+        "Interface",
+        None,
+        "g",
+    ),
     (lambda it: it.connect("Zed", 0, "a.out --> b.in;"), "NoSuchType", None, "'Zed'"),
     (lambda it: it.connect("N", 0, "a.out -->"), "NedSyntax", 1, "the connection"),
     (lambda it: it.disconnect("N", 0), "NoSuchConnection", None, "places count from 0"),
@@ -146,14 +161,21 @@ def test_every_refusal_is_tried():
     page = (TOP / "docs/REFUSALS.md").read_text()
     sections = dict(re.findall(r"^## (.*)\n([^#]*)", page, re.M))
     for section, tried in (("Refusals of texts", TEXTS), ("Refusals of edits", EDITS)):
-        listed = {name for row in re.findall(r"^\| (`.*?) \|", sections[section], re.M) for name in re.findall(r"`([A-Z]\w+)", row)}
-        missing = listed - {it[1] if tried is EDITS else it[2] for it in tried} - {"NoMemory", "NoSuchConfig", "ChainFault"}
+        listed = {
+            name
+            for row in re.findall(r"^\| (`.*?) \|", sections[section], re.M)
+            for name in re.findall(r"`([A-Z]\w+)", row)
+        }
+        missing = (
+            listed - {it[1] if tried is EDITS else it[2] for it in tried} - {"NoMemory", "NoSuchConfig", "ChainFault"}
+        )
         assert not missing, section
         # (these two have tests of their own, above)
         assert {"NoSuchConfig", "ChainFault"} <= listed
 
 
 # --- what it answers
+
 
 def test_undo_and_messages(session):
     assert session.replace(3, "**.count = 5").valid_to is None
@@ -197,6 +219,7 @@ def test_results_in_a_folder_that_is_named(tmp_path):
 
 
 # --- how it ends
+
 
 def test_nothing_is_left_behind(session):
     folder = session.output.parent
@@ -278,7 +301,11 @@ def test_a_refusal_that_comes_late(tmp_path):
     script = "echo 'nedrun: IniSyntax line 3' >&2; echo 'x.ini:3: what is wrong' >&2; sleep 1.2; exit 2"
     with pytest.raises(Refused) as refused:
         begin(program=stand_in(tmp_path, script))
-    assert (refused.value.name, refused.value.line, refused.value.explanation) == ("IniSyntax", 3, "x.ini:3: what is wrong")
+    assert (refused.value.name, refused.value.line, refused.value.explanation) == (
+        "IniSyntax",
+        3,
+        "x.ini:3: what is wrong",
+    )
 
 
 def test_a_program_that_is_not_there(tmp_path):

@@ -1,4 +1,5 @@
-"""`soldrich study`: each variant has the results of a fresh run of its texts, however it was made, and whatever happened to its worker."""
+"""`soldrich study`: each variant has the results of a fresh run of its texts, however it was made, and whatever
+happened to its worker."""
 from __future__ import annotations
 
 import itertools
@@ -50,7 +51,9 @@ def folder(tmp_path) -> pathlib.Path:
     return tmp_path
 
 
-def fresh_scalars(folder: pathlib.Path, ini: str, neds: list[str], config: str, limit: int) -> tuple[str, dict[tuple[str, str], int]]:
+def fresh_scalars(
+    folder: pathlib.Path, ini: str, neds: list[str], config: str, limit: int
+) -> tuple[str, dict[tuple[str, str], int]]:
     """The outcome and the scalars of a fresh run, read by hand."""
     outcome, scalars, _ = fresh_run(folder, ini, neds, config, limit)
     lines = [it.split(" ") for it in scalars.decode().split("\n") if it.startswith("scalar ")]
@@ -101,7 +104,10 @@ def test_a_study(folder, capsys):
 def test_a_worker_that_is_killed(folder):
     """Its variants run again elsewhere, and the table is what it would have been."""
     gaps = ", ".join(f'"{it}ms"' for it in range(50, 130))
-    text = f'[base]\nini = "omnetpp.ini"\nneds = ["queueing_line.ned"]\nlimit = 2000\n[factors]\n"**.gap" = [{gaps}]\n"**.count" = ["400"]\n'
+    text = (
+        '[base]\nini = "omnetpp.ini"\nneds = ["queueing_line.ned"]\nlimit = 2000\n'
+        f'[factors]\n"**.gap" = [{gaps}]\n"**.count" = ["400"]\n'
+    )
     (folder / "study.toml").write_text(text)
     with Started(["study", "--workers", "2", "study.toml"], folder) as it:
         worker = until_a_worker_runs(it.process.pid)
@@ -113,7 +119,9 @@ def test_a_worker_that_is_killed(folder):
     ini, neds = LINE.ini.read_text(), [LINE.neds[0].read_text()]
     for number in (0, 17, 79):
         entries = f"[General]\n**.gap = {50 + number}ms\n**.count = 400\n"
-        outcome, scalars = fresh_scalars(folder / str(number), ini.replace("[General]\n", entries), neds, "General", 2000)
+        outcome, scalars = fresh_scalars(
+            folder / str(number), ini.replace("[General]\n", entries), neds, "General", 2000
+        )
         rows = table.frame[table.frame["variant"] == number]
         assert set(rows["outcome"]) == {outcome}
         assert {(it.module, it.name): it.value for it in rows.itertuples()} == scalars
@@ -154,7 +162,8 @@ def read_base(it, ini: Source):
 
 
 def test_connections_and_ned_files(tmp_path):
-    """Connections and NED files as factors, one variant after another in one session: each as a fresh run of the texts."""
+    """Connections and NED files as factors, one variant after another in one session: each as a fresh run of the
+    texts."""
     for path in (RING.ini, *RING.neds, CAMPUS.ini, *CAMPUS.neds, CAMPUS.folder / "faster/links.ned"):
         to = tmp_path / path.relative_to(path.parents[1] if path.parent.name != "faster" else path.parents[2])
         to.parent.mkdir(parents=True, exist_ok=True)
@@ -162,7 +171,8 @@ def test_connections_and_ned_files(tmp_path):
     chord = "node[1].port++ <--> Link <--> node[3].port++;"
     (tmp_path / "ring.toml").write_text(
         f'[base]\nini = "{RING.name}/omnetpp.ini"\nneds = ["{RING.name}/{RING.neds[0].name}"]\n'
-        f'[factors]\nchord = {{ connect = ["", "{chord}", "nothing"], type = "Ring", place = 1 }}\nconfig = {{ config = ["General", "Cut"] }}\n'
+        f'[factors]\nchord = {{ connect = ["", "{chord}", "nothing"], type = "Ring", place = 1 }}\n'
+        'config = { config = ["General", "Cut"] }\n'
     )
     study = read_study(tmp_path / "ring.toml")
     outcomes = [run_variant(study.base, Task(it, study.keep)) for it in study.variants]
@@ -174,13 +184,16 @@ def test_connections_and_ned_files(tmp_path):
     neds = ", ".join(f'"{CAMPUS.name}/{it.name}"' for it in CAMPUS.neds)
     (tmp_path / "campus.toml").write_text(
         f'[base]\nini = "{CAMPUS.name}/omnetpp.ini"\nneds = [{neds}]\n'
-        f'[study]\ncombine = "zip"\n[factors]\nlinks = {{ ned = ["campus/links.ned", "campus/faster/links.ned"], file = 2 }}\n"**.no.such" = ["1", "2"]\n'
+        '[study]\ncombine = "zip"\n[factors]\n"**.no.such" = ["1", "2"]\n'
+        'links = { ned = ["campus/links.ned", "campus/faster/links.ned"], file = 2 }\n'
     )
     study = read_study(tmp_path / "campus.toml")
     outcomes = [run_variant(study.base, Task(it, study.keep)) for it in study.variants]
     texts = [it.read_text() for it in CAMPUS.neds]
     for number, links in enumerate((texts[2], (CAMPUS.folder / "faster/links.ned").read_text())):
-        outcome, scalars = fresh_scalars(tmp_path / f"c{number}", CAMPUS.ini.read_text(), [*texts[:2], links], "General", 1_000_000)
+        outcome, scalars = fresh_scalars(
+            tmp_path / f"c{number}", CAMPUS.ini.read_text(), [*texts[:2], links], "General", 1_000_000
+        )
         assert (outcomes[number].outcome, {it[:2]: it[2] for it in outcomes[number].scalars}) == (outcome, scalars)
     assert close_sessions() > 0
 
@@ -192,12 +205,18 @@ def test_connections_and_ned_files(tmp_path):
         ("[factors]\n", "base: this has to be a table [base]"),
         ('[base]\nini = "omnetpp.ini"\n[factors]\n', "there is no NED file"),
         ('[base]\nini = "no.ini"\nneds = ["queueing_line.ned"]\n[factors]\n', "no.ini can't be read: No such file"),
-        ('[base]\nini = "omnetpp.ini"\nneds = ["queueing_line.ned"]\nlimt = 3\n[factors]\n', "'limt' means nothing there; there are config, folder"),
+        (
+            '[base]\nini = "omnetpp.ini"\nneds = ["queueing_line.ned"]\nlimt = 3\n[factors]\n',
+            "'limt' means nothing there; there are config, folder",
+        ),
         (STUDY.replace("300", "-1"), "limit: this has to be a whole number"),
         (STUDY.replace('["5", "9"]', "[5, 9]"), "factors.'QueueingLine.source.count': this has to be a list of texts"),
         (STUDY.replace("config = [", "confg = ["), "a factor is a list of values, or a table with config"),
         (STUDY.replace("[study]", '[study]\ncombine = "mix"'), "'mix' is not one of cross, zip"),
-        (STUDY.replace("[study]", '[study]\ncombine = "zip"'), "to be zipped all factors need as many choices; there are QueueingLine.source.count 2"),
+        (
+            STUDY.replace("[study]", '[study]\ncombine = "zip"'),
+            "to be zipped all factors need as many choices; there are QueueingLine.source.count 2",
+        ),
     ],
 )
 def test_what_is_no_study(folder, text, told):
@@ -223,13 +242,23 @@ def test_a_scheduler_that_is_there(folder):
     file = folder / "scheduler.json"
     commands = (
         ["distributed.cli.dask_scheduler", "--port", "0", "--no-dashboard", "--scheduler-file", str(file)],
-        ["distributed.cli.dask_worker", "--scheduler-file", str(file), "--nthreads", "2", "--local-directory", str(folder)],
+        [
+            "distributed.cli.dask_worker",
+            "--scheduler-file",
+            str(file),
+            "--nthreads",
+            "2",
+            "--local-directory",
+            str(folder),
+        ],
     )
     started = []
     try:
         for command in commands:
             streams = {"stdout": subprocess.DEVNULL, "stderr": subprocess.DEVNULL}
-            started.append(subprocess.Popen([sys.executable, "-W", "ignore", "-m", *command], env=ENVIRONMENT, **streams))
+            started.append(
+                subprocess.Popen([sys.executable, "-W", "ignore", "-m", *command], env=ENVIRONMENT, **streams)
+            )
             until(file.exists)
         address = json.loads(file.read_text())["address"]
         assert main(["study", "--scheduler", address, str(folder / "study.toml")]) == 0
@@ -256,10 +285,17 @@ def test_a_scheduler_that_is_not_there(folder, capsys, monkeypatch):
 
 def test_a_table_is_read_as_it_was_written(tmp_path):
     row = {"variant": 0, "a": "NA", "b": "", "outcome": "event-limit", "valid_to": None, "events": 3, "executed": 2}
-    rows = [{**row, "module": "N.t", "name": "x", "value": 2**127 - 1}, {**row, "variant": 1, "outcome": "refused X", "reason": "why"}]
+    rows = [
+        {**row, "module": "N.t", "name": "x", "value": 2**127 - 1},
+        {**row, "variant": 1, "outcome": "refused X", "reason": "why"},
+    ]
     made_of(rows, ["a", "b"]).write(tmp_path / "x.csv")
     table = read_study_table(tmp_path / "x.csv")
-    assert table.factors == ["a", "b"] and table.frame["a"].tolist() == ["NA", "NA"] and table.frame["b"].tolist() == ["", ""]
+    assert (
+        table.factors == ["a", "b"]
+        and table.frame["a"].tolist() == ["NA", "NA"]
+        and table.frame["b"].tolist() == ["", ""]
+    )
     assert table.scalars["value"].tolist() == [2**127 - 1]
     assert table.troubled["reason"].tolist() == ["why"]
     with pytest.raises(StudyError, match="pyarrow"):
@@ -274,7 +310,10 @@ def test_a_session_goes_on_after_a_refusal():
     it = example("three_ticks")
     session = VariantSession(read_base(it, Source.read(it.ini)))
     try:
-        outcomes = [session.outcome_of(Variant(at, (), (Entry("**.count", value),)), ("**",)) for at, value in enumerate(("4", "(", "5"))]
+        outcomes = [
+            session.outcome_of(Variant(at, (), (Entry("**.count", value),)), ("**",))
+            for at, value in enumerate(("4", "(", "5"))
+        ]
         assert [it.outcome for it in outcomes] == ["no-more-events", "refused IniSyntax", "no-more-events"]
         assert [it.scalars[0][2] for it in outcomes if it.scalars] == [4, 5]
     finally:

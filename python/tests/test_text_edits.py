@@ -29,7 +29,11 @@ def test_a_value_that_changed_is_one_edit():
 
 def test_a_line_is_replaced_by_one_of_the_same_key():
     edits = line_edits(["a = 1", "b = 1"], ["c = 3", "a = 2", "b = 2"])
-    assert [(it.kind, it.before, it.text) for it in edits] == [(Kind.INSERT, 0, "c = 3"), (Kind.REPLACE, 0, "a = 2"), (Kind.REPLACE, 1, "b = 2")]
+    assert [(it.kind, it.before, it.text) for it in edits] == [
+        (Kind.INSERT, 0, "c = 3"),
+        (Kind.REPLACE, 0, "a = 2"),
+        (Kind.REPLACE, 1, "b = 2"),
+    ]
 
 
 def test_a_line_that_moved_is_put_in_before_it_is_taken_out():

@@ -19,7 +19,9 @@ FILE = re.compile(r"Put this into `([^`]+)`")
 def blocks_with_what_stands_before() -> list[tuple[str, list[str]]]:
     """The blocks of the page, each with the text before it."""
     parts = re.split(r"((?:^    .*\n(?:\n(?=    ))?)+)", PAGE, flags=re.M)
-    return [(before, [it[4:] for it in block.rstrip("\n").split("\n")]) for before, block in zip(parts[::2], parts[1::2])]
+    return [
+        (before, [it[4:] for it in block.rstrip("\n").split("\n")]) for before, block in zip(parts[::2], parts[1::2])
+    ]
 
 
 def without_times(lines: list[str]) -> list[str]:
@@ -64,7 +66,9 @@ class Tutorial:
             if command.startswith("./soldrich watch"):
                 self.watched = Started(command.split()[1:], self.folder)
                 continue
-            ran = subprocess.run(["bash", "-c", command], cwd=self.folder, env=ENVIRONMENT, capture_output=True, text=True, timeout=120)
+            ran = subprocess.run(
+                ["bash", "-c", command], cwd=self.folder, env=ENVIRONMENT, capture_output=True, text=True, timeout=120
+            )
             assert ran.returncode == 0, ran.stderr
             assert ran.stdout.splitlines() == wanted, command
 

@@ -49,7 +49,9 @@ def save_by_rename(path: pathlib.Path, text: str) -> None:
 
 def results_are_fresh(folder: pathlib.Path, ned: str = "fifo.ned") -> bool:
     """The files are those of a fresh run of the texts as they are on disk."""
-    _, *files = fresh_run(folder / "fresh", (folder / "omnetpp.ini").read_text(), [(folder / ned).read_text()], "Fifo1", 1_000_000)
+    _, *files = fresh_run(
+        folder / "fresh", (folder / "omnetpp.ini").read_text(), [(folder / ned).read_text()], "Fifo1", 1_000_000
+    )
     return files == [(folder / f"results/Fifo1-#0.{it}").read_bytes() for it in ("sca", "vec")]
 
 
@@ -107,7 +109,9 @@ def test_a_save_that_is_broken_and_mended(folder, watched):
     before = (folder / "results/Fifo1-#0.sca").read_bytes()
     whole = (folder / "omnetpp.ini").read_text()
     # two lines are changed, and one of them is refused: the other one isn't made either
-    (folder / "omnetpp.ini").write_text(whole.replace("msgLength = 100b", "msgLength = (").replace("limit = 1s", "limit = 2s"))
+    (folder / "omnetpp.ini").write_text(
+        whole.replace("msgLength = 100b", "msgLength = (").replace("limit = 1s", "limit = 2s")
+    )
     lines = watched.until(*DONE)
     assert lines[-1].startswith("refused IniSyntax: omnetpp.ini:8: the value '('")
     assert (folder / "results/Fifo1-#0.sca").read_bytes() == before
@@ -122,7 +126,9 @@ def test_a_save_that_is_broken_and_mended(folder, watched):
 
 def test_a_ned_file(folder, watched):
     # the capacity is read where the first job comes
-    save_by_rename(folder / "fifo.ned", changed(folder, "capacity = default(1000000)", "capacity = default(5)", "fifo.ned"))
+    save_by_rename(
+        folder / "fifo.ned", changed(folder, "capacity = default(1000000)", "capacity = default(5)", "fifo.ned")
+    )
     lines = watched.until(*DONE)
     assert lines[0] == "fifo.ned was read anew"
     assert lines[1].startswith("the last run is valid up to event 1; 21 of 22 events ran again, from event 1")
@@ -250,7 +256,8 @@ def text_by_chance(text: str, chance: random.Random) -> str:
 
 @pytest.mark.parametrize("number", range(18))
 def test_saves_by_chance(number, tmp_path):
-    """Texts by chance, saved one after another: each is refused as a fresh program refuses it, or has the results of a fresh run."""
+    """Texts by chance, saved one after another: each is refused as a fresh program refuses it, or has the results of
+    a fresh run."""
     chance, it = random.Random(number), EXAMPLES[number % len(EXAMPLES)]
     neds, texts = tuple(map(Source.read, it.neds)), [path.read_text() for path in it.neds]
     ini = it.ini.read_text()
@@ -274,7 +281,12 @@ def fresh_or_refused(folder: pathlib.Path, ini: str, neds: list[str], config: st
     """A fresh run of texts, or the name of the refusal."""
     folder.mkdir()
     try:
-        Session(Source("x.ini", ini.encode()), [Source(f"{at}.ned", it.encode()) for at, it in enumerate(neds)], config, limit=0).close()
+        Session(
+            Source("x.ini", ini.encode()),
+            [Source(f"{at}.ned", it.encode()) for at, it in enumerate(neds)],
+            config,
+            limit=0,
+        ).close()
     except Refused as refused:
         return refused.name
     return fresh_run(folder, ini, neds, config, 300)
