@@ -19,7 +19,9 @@ LOG = logging.getLogger("soldrich")
 # how many events a run executes at most, and how many seconds an answer may take, where nothing else is said
 EVENTS = 1_000_000
 SECONDS = 600.0
-# how long the first answer may take besides: the first call of ./nedrun compiles the program
+# the one of the repository around this package, whose first call compiles the program: so its first answer may take
+# longer by these seconds
+LAUNCHER = Path(__file__).resolve().parents[2] / "nedrun"
 COMPILE_SECONDS = 1200.0
 
 
@@ -29,9 +31,8 @@ def find_program() -> Path:
     named = os.environ.get("NEDRUN")
     if named:
         return Path(named).resolve()
-    launcher = Path(__file__).resolve().parents[2] / "nedrun"
-    if launcher.is_file():
-        return launcher
+    if LAUNCHER.is_file():
+        return LAUNCHER
     found = shutil.which("nedrun")
     if found:
         return Path(found)
@@ -44,6 +45,7 @@ class Program:
     def __init__(self, words: list[str], seconds: float):
         """Starts it with these words; `seconds` is how long an answer may take."""
         self.seconds = seconds
+        self._is_launched = Path(words[0]) == LAUNCHER
         self._said = b""
         # what it tells a person is kept in a file, so that it never waits for a reader
         self._told = tempfile.TemporaryFile()
@@ -80,7 +82,8 @@ class Program:
     def hear_first(self) -> str:
         """Returns the first line of standard output. What the program tells meanwhile is logged, as that it is
         compiled."""
-        deadline = time.monotonic() + self.seconds + COMPILE_SECONDS
+        seconds = self.seconds + (COMPILE_SECONDS if self._is_launched else 0)
+        deadline = time.monotonic() + seconds
         while True:
             lines = self.told()
             self._logged += lines
@@ -90,7 +93,7 @@ class Program:
                 self._logged.clear()
                 return self._take_line()
             if time.monotonic() >= deadline:
-                self._give_up(NoAnswer("the first run", self.seconds + COMPILE_SECONDS))
+                self._give_up(NoAnswer("the first run", seconds))
 
     def hear(self, command: str) -> str:
         """Returns the next line of standard output, the answer to this command."""

@@ -7,7 +7,7 @@ from dataclasses import dataclass
 from .errors import SessionLost
 from .variants import Base, Outcome, Variant, VariantSession
 
-# sessions of this process, by their base: one at a time, though a worker may have several threads
+# the session of this process, by its base: one at a time, though a worker may have several threads
 _SESSIONS: dict[Base, VariantSession] = {}
 _LOCK = threading.Lock()
 
@@ -25,6 +25,7 @@ def run_variant(base: Base, task: Task) -> Outcome:
     begins another one."""
     with _LOCK:
         if base not in _SESSIONS:
+            _end_sessions()
             _SESSIONS[base] = VariantSession(base)
         try:
             return _SESSIONS[base].outcome_of(task.variant, task.keep)
@@ -43,6 +44,10 @@ def close_sessions() -> int:
     """Ends the sessions of this process, and returns how many events their first runs had."""
     with _LOCK:
         events = sum(it.base_events for it in _SESSIONS.values())
-        while _SESSIONS:
-            _SESSIONS.popitem()[1].close()
+        _end_sessions()
         return events
+
+
+def _end_sessions() -> None:
+    while _SESSIONS:
+        _SESSIONS.popitem()[1].close()

@@ -256,8 +256,8 @@ def test_a_large_vector_file_is_read_in_time(tmp_path):
     results = Results.read(path)
     seconds = time.process_time() - begun
     assert [len(it) for it in results.vectors["vecvalue"]] == [count // 4] * 4
-    # 100 MB in ten seconds
-    assert seconds < 10 * path.stat().st_size / 1e8 + 0.3
+    # 100 MB in ten seconds, and twice as many where other work is beside it
+    assert seconds < 20 * path.stat().st_size / 1e8
 
 
 @pytest.mark.parametrize(

@@ -280,8 +280,9 @@ FIRST = "echo 'done no-more-events from start executed 3'; echo written"
     "script, error",
     [
         ("exit 7", ProgramEnded),
+        ("sleep 60", NoAnswer),
         (f"{FIRST}; exit 0", ProgramEnded),
-        (f"{FIRST}; exec <&-; sleep 60", PipeBroken),
+        (f"exec <&-; {FIRST}; sleep 60", PipeBroken),
         (f"{FIRST}; exec >&-; sleep 60", PipeBroken),
         (f"{FIRST}; sleep 60", NoAnswer),
         (f"{FIRST}; while read line; do echo nonsense; done", SoldrichError),

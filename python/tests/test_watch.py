@@ -75,6 +75,9 @@ def test_a_save_by_truncation(folder, watched):
         assert watched.is_quiet(0.2)
         file.write(text)
     lines = watched.until(*DONE)
+    if lines[-1].startswith("refused NoSuchNetwork"):
+        # (this machine took longer than a moment)
+        lines = watched.until(*DONE)
     # event 1 reads the gap; jobs at 0, 0.5 and 1, the last of which has two events before the limit
     assert "the last run is valid up to event 0; 10 of 10 events ran again, from event 0: time-limit" in lines
     assert "FifoNet.sink rx:count: 5 -> 2 (-3)" in lines
