@@ -3,6 +3,7 @@ from __future__ import annotations
 
 import argparse
 import logging
+import re
 import signal
 import sys
 from collections.abc import Sequence
@@ -57,7 +58,7 @@ def _add_watch(commands: argparse._SubParsersAction) -> None:
         "--seconds", type=_number, default=int(SECONDS), help="how long a run may take, until its program is ended"
     )
     it.add_argument(
-        "-n", "--folder", type=Path, action="append", default=[], metavar="DIR", help="all NED files below this folder"
+        "-n", "--folder", action="append", default=[], metavar="DIR", help="all NED files below it; ':' between several"
     )
     it.add_argument("--report", action="store_true", help="writes DIR/report.html at each step, which reloads itself")
     it.add_argument(
@@ -132,7 +133,8 @@ def _watch(options: argparse.Namespace) -> None:
     if not neds and not options.folder:
         raise SoldrichError("there is no NED file: name them after the ini file, or a folder of them with -n")
     options.output.mkdir(parents=True, exist_ok=True)
-    files = ModelFiles(ini, tuple(neds), tuple(options.folder))
+    folders = tuple(Path(it) for given in options.folder for it in re.split("[:;]", given))
+    files = ModelFiles(ini, tuple(neds), folders)
     page = options.output / "report.html" if options.report else None
     how = Options(options.config, options.output, options.limit, options.interval, options.seconds, options.report)
     watch(files, how, page)

@@ -59,4 +59,4 @@ def ned_files_below(folders: Iterable[Path]) -> list[Path]:
         for where, inner, names in os.walk(folder):
             inner[:] = [it for it in inner if not it.startswith(".")]
             found.extend(Path(where, it) for it in names if it.endswith(".ned") and not it.startswith("."))
-    return sorted(found)
+    return sorted(found, key=str)

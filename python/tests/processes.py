@@ -27,26 +27,27 @@ class Started:
         self.process = subprocess.Popen(
             command, cwd=folder, env={**ENVIRONMENT, "TMPDIR": str(rest)}, text=True, **streams
         )
-        self._lines: queue.Queue[str] = queue.Queue()
+        # its lines, and None at their end
+        self._lines: queue.Queue[str | None] = queue.Queue()
         threading.Thread(target=self._read, daemon=True).start()
-        self.read: list[str] = []
 
     def until(self, *beginnings: str) -> list[str]:
         """Returns the lines up to the next one that begins with one of these."""
         lines = []
         while True:
             try:
-                lines.append(self._lines.get(timeout=SECONDS))
+                line = self._lines.get(timeout=SECONDS)
             except queue.Empty:
-                raise AssertionError(f"after {lines} no line came that begins with {beginnings}") from None
-            self.read.append(lines[-1])
-            if lines[-1].startswith(beginnings):
+                line = None
+            assert line is not None, f"after {lines} no line came that begins with {beginnings}"
+            lines.append(line)
+            if line.startswith(beginnings):
                 return lines
 
     def is_quiet(self, seconds: float) -> bool:
         """No line comes in this time."""
         try:
-            self.read.append(self._lines.get(timeout=seconds))
+            self._lines.get(timeout=seconds)
         except queue.Empty:
             return True
         return False
@@ -70,6 +71,7 @@ class Started:
     def _read(self) -> None:
         for line in self.process.stdout:
             self._lines.put(line.rstrip("\n"))
+        self._lines.put(None)
 
 
 def children_of(pid: int) -> list[int]:

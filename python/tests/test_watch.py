@@ -196,6 +196,17 @@ def test_texts_that_are_broken_at_first(folder):
         assert "begun anew: there are other NED files" in it.until(*DONE)
 
 
+def test_several_folders(folder):
+    for name in ("one", "two"):
+        (folder / name).mkdir()
+    os.replace(folder / "fifo.ned", folder / "one/fifo.ned")
+    (folder / "two/more.ned").write_text("simple More {}\n")
+    with Started(["watch", "-c", "Fifo1", "-n", "one:two"], folder) as it:
+        assert it.until("watching")[0] == "time-limit: 22 events"
+        (folder / "two/more.ned").write_text("simple Other {}\n")
+        assert it.until(*DONE)[0] == "two/more.ned was read anew"
+
+
 def test_wrong_words(folder):
     with Started(["watch", "omnetpp.ini"], folder) as it:
         assert "there is no NED file" in it.until("soldrich: ")[-1]
@@ -203,10 +214,10 @@ def test_wrong_words(folder):
 
 
 def test_ned_files_below_a_folder(tmp_path):
-    for name in ("b/x.ned", "a/y.ned", "a/.hidden.ned", ".git/z.ned", "c.ned", "d.txt"):
+    for name in ("b/x.ned", "a/y.ned", "a/.hidden.ned", "a-b/y.ned", ".git/z.ned", "c.ned", "d.txt"):
         (tmp_path / name).parent.mkdir(exist_ok=True)
         (tmp_path / name).write_text("")
-    assert [str(it.relative_to(tmp_path)) for it in ned_files_below([tmp_path])] == ["a/y.ned", "b/x.ned", "c.ned"]
+    assert [str(it.relative_to(tmp_path)) for it in ned_files_below([tmp_path])] == ["a-b/y.ned", "a/y.ned", "b/x.ned", "c.ned"]
     files = ModelFiles(tmp_path / "d.txt", (), (tmp_path,))
     assert files.read().has_empty
 
