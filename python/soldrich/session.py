@@ -1,6 +1,7 @@
 """A session: one model, held by one process of the program, with its edits and its runs."""
 from __future__ import annotations
 
+import dataclasses
 import html
 import os
 import re
@@ -196,12 +197,11 @@ class Session:
         return "\n".join(listed) if answer.startswith("listed ") else answer
 
     def notes(self) -> str:
-        """Returns what the program told a person since that was last asked for, as it does behind an answer: it is
-        all there when the next command is answered."""
-        self._program.ask("held")
-        told = [*self._notes, *self._program.told()]
+        """Returns what the program told a person about runs and edits since that was last asked for, as that a message
+        from outside is discarded."""
+        told = self._as_given("\n".join(self._notes))
         self._notes.clear()
-        return self._as_given("\n".join(told))
+        return told
 
     @property
     def is_open(self) -> bool:
@@ -265,7 +265,7 @@ class Session:
         answer = self._program.ask(command)
         refusal = refusal_of(answer)
         if refusal:
-            raise Refused(command, refusal[0], self.notes(), refusal[1])
+            raise Refused(command, refusal[0], self._as_given("\n".join(self._told())), refusal[1])
         return answer
 
     def _ask_for_list(self, command: str) -> tuple[str, list[str]]:
@@ -278,9 +278,21 @@ class Session:
         self._notes += told[:first]
         return answer, self._as_given("\n".join(told[first:])).split("\n") if told[first:] else []
 
+    def _told(self) -> list[str]:
+        """Returns what the program told a person behind the last answer: it is all there when a next command is
+        answered."""
+        self._program.ask("held")
+        return self._program.told()
+
     def _edit(self, command: str) -> Edited:
-        return edited_of(self._ask(command))
+        edited = edited_of(self._ask(command))
+        self._notes += self._told()
+        return edited
 
     def _explained(self, run: Run) -> Run:
         """Returns the same run, with what the program said about its fault if it has one."""
-        return Run(run.outcome, run.started_from, run.executed, self.notes()) if run.fault else run
+        told = self._told()
+        if run.fault:
+            return dataclasses.replace(run, explanation=self._as_given("\n".join(told)))
+        self._notes += told
+        return run

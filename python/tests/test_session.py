@@ -190,6 +190,18 @@ def test_undo_and_messages(session):
     assert session.withdraw(1).valid_to == 2
 
 
+def test_what_is_told_of_an_edit(session):
+    assert session.notes() == ""
+    session.inject("N.nobody", "1s")
+    # a refusal between doesn't take it along, nor does a list
+    with pytest.raises(Refused) as refused:
+        session.remove(9)
+    assert refused.value.explanation.startswith("x.ini: there is no line")
+    assert session.selected() == "General"
+    assert session.notes() == "no module has the path 'N.nobody': as the model is now, the message is discarded"
+    assert session.notes() == ""
+
+
 def test_a_fault_is_explained(session):
     session.replace(3, "**.count = 5s")
     run = session.run()
