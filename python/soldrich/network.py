@@ -7,6 +7,7 @@ from dataclasses import dataclass
 import graphviz
 
 from .errors import Refused, UnknownAnswer
+from .program import LOG
 from .session import Session
 
 # more modules than a drawing is of use for
@@ -44,15 +45,18 @@ class Network:
 
 
 def network_of(session: Session) -> Network | None:
-    """Asks a session for its network. Returns None where the program has no commands that list it."""
+    """Asks a session for its network. Returns None where the program has no commands that list it, or lists it in
+    another form than is read here: then a page is without the drawing."""
     try:
         modules = session.listing("list modules")
         connections = session.listing("list connections")
+        return Network(tuple(map(module_of, modules)), tuple(map(connection_of, connections)))
     except Refused as refused:
-        if refused.name == "Command":
-            return None
-        raise
-    return Network(tuple(map(module_of, modules)), tuple(map(connection_of, connections)))
+        if refused.name != "Command":
+            raise
+    except UnknownAnswer as error:
+        LOG.warning("the network can't be drawn: %s", error)
+    return None
 
 
 def module_of(line: str) -> Module:

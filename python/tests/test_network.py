@@ -43,6 +43,26 @@ def test_lists_are_read():
         connection_of("nonsense")
 
 
+def listing_session(monkeypatch, modules: list[str], connections: list[str]) -> Session:
+    """A session of a program that lists these: a stand-in for one that has the commands."""
+    it = example("queueing_line")
+    session = Session(it.ini, it.neds)
+    lists = {"list modules": modules, "list connections": connections}
+    monkeypatch.setattr(session, "listing", lambda command: lists[command])
+    return session
+
+
+def test_a_program_that_lists_them(monkeypatch):
+    modules = ["Net Net", "Net.a Source", "Net.b Sink"]
+    with listing_session(monkeypatch, modules, ["Net.a.out --> Net.b.in"]) as session:
+        assert network_of(session) == Network(tuple(map(module_of, modules)), (Connection("Net.a.out", "Net.b.in"),))
+
+
+def test_a_program_that_lists_them_in_another_form(monkeypatch):
+    with listing_session(monkeypatch, ["Net Net"], ["from Net.a to Net.b"]) as session:
+        assert network_of(session) is None
+
+
 def test_a_program_that_does_not_list_them():
     it = example("queueing_line")
     with Session(it.ini, it.neds) as session:
