@@ -11,7 +11,7 @@ from pathlib import Path
 
 import jinja2
 import plotly.graph_objects as go
-from markupsafe import Markup
+from markupsafe import Markup, escape
 from plotly.offline import get_plotlyjs
 
 TEMPLATES = Path(__file__).parent / "page"
@@ -92,11 +92,9 @@ class Page:
             lstrip_blocks=True,
             undefined=jinja2.StrictUndefined,
         )
-        figures = (
-            "{"
-            + ",".join(f"{json.dumps(it.id)}:{it.figure.to_json()}" for part in self.parts for it in part.plots)
-            + "}"
-        )
+        environment.filters["breakable"] = _breakable
+        plots = [plot for part in self.parts for plot in part.plots]
+        figures = "{" + ",".join(f"{json.dumps(it.id)}:{it.figure.to_json()}" for it in plots) + "}"
         reloads = {"address": _script(json.dumps(_stamp_path(path).name)), "stamp": _script(json.dumps(stamp))}
         return environment.get_template("report.html.jinja").render(
             title=self.title,
@@ -126,3 +124,8 @@ def _template(name: str) -> str:
 def _script(json_text: str) -> Markup:
     """Returns JSON that may stand in a script: nothing in it ends that."""
     return Markup(json_text.replace("<", "\\u003c"))
+
+
+def _breakable(text: str) -> Markup:
+    """Returns a text that may go on in another line behind each dot, as paths do on a phone."""
+    return escape(text).replace(".", Markup(".<wbr>"))
