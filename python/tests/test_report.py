@@ -2,6 +2,7 @@
 from __future__ import annotations
 
 import json
+import os
 import pathlib
 import time
 
@@ -26,14 +27,16 @@ MOST_BYTES = 10_000_000
 
 
 @pytest.fixture(scope="module")
-def browser():
+def browser(tmp_path_factory):
     options = Options()
     options.binary_location = "/usr/bin/chromium"
     # (as root it wants the second word, and in a container the third)
     for word in ("--headless", "--no-sandbox", "--disable-dev-shm-usage", "--disable-gpu", "--window-size=1200,1000"):
         options.add_argument(word)
     options.set_capability("goog:loggingPrefs", {"browser": "ALL"})
-    driver = webdriver.Chrome(service=Service("/usr/bin/chromedriver"), options=options)
+    # (what it leaves goes with the folder)
+    environment = {**os.environ, "TMPDIR": str(tmp_path_factory.mktemp("browser"))}
+    driver = webdriver.Chrome(service=Service("/usr/bin/chromedriver", env=environment), options=options)
     yield driver
     driver.quit()
 
