@@ -10,5 +10,9 @@ pub mod Scripts
 pub mod ScriptLaws
 pub mod Numbers
 pub mod NumberLaws
+pub mod Pairs
+pub mod PairLaws
 pub mod Catalogues
 pub mod CatalogueLaws
+pub mod Joined
+pub mod JoinedLaws

@@ -9,7 +9,8 @@ use Rattle.std.specs.Option.{option_map}
 use Rattle.module_api.specs.Behaviour.{State}
 use Rattle.module_parts.specs.Numbers.{limit, next_number, number_of, state_of, read_number}
 
-number_of-state_of : (n : ℕ) → n < limit → number_of (state_of n) ≡ n
+-- the number of its own bytes
+pub number_of-state_of : (n : ℕ) → n < limit → number_of (state_of n) ≡ n
 unfolding number_of state_of
 number_of-state_of n h = from_be_bytes-to_be_bytes_8 n (lt_of_lt_of_le h (lit≤ tt))
 
@@ -36,7 +37,7 @@ small_by true n small = small refl
 small_by false n small = tt
 
 -- what is read is small
-read_number-small : (state : State) → IfSome (read_number state) (λ n. n < limit)
+pub read_number-small : (state : State) → IfSome (read_number state) (λ n. n < limit)
 unfolding read_number
 read_number-small state =
     small_by ((length state == 8) && nat_lt (number_of state) limit) (number_of state)

@@ -1,9 +1,11 @@
 //! The laws of scripts and of catalogues. The functions do nothing: their contracts are the laws.
 
 ghost use Rattle.std.specs.Prelude.{List};
+ghost use Rattle.module_api.specs.Behaviour.{Behaviour};
 ghost use Rattle.module_api.specs.Laws.{law_of_reads, IsLawful};
 ghost use Rattle.module_parts.specs.Catalogues.{CatalogueEntry, catalogue};
 ghost use Rattle.module_parts.specs.CatalogueLaws.{AllLawful};
+ghost use Rattle.module_parts.specs.Joined.{joined};
 ghost use Rattle.module_parts.specs.Scripts.{naming_of};
 
 use crate::player::Scripted;
@@ -17,4 +19,9 @@ pub fn scripts_read_by_listing<S: Scripted>()
 /// A catalogue of lawful kinds is lawful, at kinds that it doesn't know too.
 pub fn lawful_kinds_make_a_catalogue()
     ensures { (entries : List CatalogueEntry) → AllLawful entries → IsLawful (catalogue entries) }
+{}
+
+/// Two lawful catalogues as one are lawful.
+pub fn lawful_catalogues_join()
+    ensures { (a b : Behaviour) → IsLawful a → IsLawful b → IsLawful (joined a b) }
 {}

@@ -8,5 +8,6 @@ pub mod found;
 pub mod laws;
 pub mod looks;
 pub mod numbers;
+pub mod pairs;
 pub mod player;
 pub mod replies;
