@@ -1,4 +1,4 @@
--- The kinds that come with the program.
+-- The stock kinds.
 use Rattle.std.specs.Prelude.{List, [], ◌∷◌, codes}
 use Rattle.module_api.specs.Behaviour.{Behaviour}
 use Rattle.module_parts.specs.Catalogues.{CatalogueEntry, entry, catalogue}

@@ -1,5 +1,4 @@
-//! The modules that come with the program: what each of them is, that they keep the laws of a
-//! catalogue, and their code.
+//! The stock modules: what each of them is, that they keep the laws of a catalogue, and their code.
 #![tactic(auto)]
 
 pub mod arrivals;

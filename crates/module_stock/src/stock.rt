@@ -7,7 +7,7 @@ ghost use Rattle.module_stock.specs.Stock.{stock};
 use module_api::catalogue::Catalogue;
 use module_api::law::{reads_decide, states_are_kept};
 
-/// The kinds that come with the program. It has no code: a type parameter stands for it.
+/// The stock kinds. It has no code: a type parameter stands for it.
 pub struct Stock;
 
 impl Catalogue for Stock {
