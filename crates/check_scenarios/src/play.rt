@@ -1,4 +1,4 @@
-//! A scenario at a desk, with the stock modules.
+//! A scenario at a desk, with the modules that come with the program.
 
 ghost use Rattle.std.specs.Prelude.{◌≡◌, ◌≤◌, ℕ, ◌++◌, ◌∷◌, [], Some, IfOk, IfSome, IsSome, OnOk};
 ghost use Rattle.std.specs.Prelude.{OnErr, length};

@@ -12,7 +12,7 @@ use Rattle.checkpoint_runs.proofs.Counting.{begun_is}
 use Rattle.checkpoint_runs.specs.declared.running.Phase.{Phase}
 use Rattle.kernel_actions.specs.declared.position.Position.{Position}
 use Rattle.model_data.specs.declared.model.Model.{Model}
-use Rattle.module_stock.specs.declared.modules.StockModule.{StockModule}
+use Rattle.module_network.specs.declared.library.LibraryModule.{LibraryModule}
 use Rattle.checkpoint_runs.specs.declared.running.Phase.TheVariants.{Idle, Waiting, Declined}
 use Rattle.desk_server.specs.Boxes.{most_boxes}
 use Rattle.desk_server.specs.Served.{Machine, AreHeard, BeginsToHear, Hears, command_asked, fresh_machine}
@@ -235,7 +235,7 @@ supplied_turn b before after going_on wants is asked heard may running =
     )
 
 -- a box is placed, or it isn't, and the turn goes on
-pub went_serving : (b : Behaviour) (before mid after : Seen) (made : StockModule) (n : Next) → NeedsBox b before mid made → IsNextServing b mid after n → IsNextServing b before after n
+pub went_serving : (b : Behaviour) (before mid after : Seen) (made : LibraryModule) (n : Next) → NeedsBox b before mid made → IsNextServing b mid after n → IsNextServing b before after n
 went_serving b before mid after made next.GoOn needed went = ((λ s stands. went.0 s (needed.goes_on s stands)), omega (arith, went.1, needed.left))
 went_serving b before mid after made (next.Stop why) needed went = λ s stands. went s (needed.goes_on s stands)
 

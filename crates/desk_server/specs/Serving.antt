@@ -5,8 +5,8 @@ use Rattle.module_api.specs.Behaviour.{Behaviour}
 use Rattle.model_data.specs.declared.model.Model.{Model}
 use Rattle.desk_commands.specs.declared.commands.Command.{Command}
 use Rattle.desk_commands.specs.declared.commands.Command.TheVariants as command
-use Rattle.module_stock.specs.Modules.{module_of}
-use Rattle.module_stock.specs.declared.modules.StockModule.{StockModule}
+use Rattle.module_network.specs.Library.{box_of}
+use Rattle.module_network.specs.declared.library.LibraryModule.{LibraryModule}
 use Rattle.edit_session.specs.Editing.{Completed, Editing, completed, wanted_of, IsFor}
 use Rattle.edit_session.specs.Files.{scalars_of_run, vectors_of_run}
 use Rattle.checkpoint_runs.specs.Positions.{cut, start_of}
@@ -138,9 +138,9 @@ IsNextServing b before after (next.Stop why) = (s : Machine) → Stands b s befo
     → EndsServing b s after why
 
 -- A run waits for a box, and a module was made for it.
-pub record NeedsBox (b : Behaviour) (before after : Seen) (made : StockModule) : Type 0 where
+pub record NeedsBox (b : Behaviour) (before after : Seen) (made : LibraryModule) : Type 0 where
   pub goes_on : GoesOnServing b before after
-  pub wanted : IsFor b (wanted_of after.editing) (module_of made)
+  pub wanted : IsFor b (wanted_of after.editing) (box_of made)
   pub waits : IsSome (wanted_of after.editing)
   pub going : IsSome after.running
   pub left : left_seen after ≤ left_seen before
@@ -265,7 +265,7 @@ pub record WaitsIn (before after : Seen) (limit : ℕ) : Type 0 where
 -- a box is made for what the run waits for, or there may be no such box, and the run is told so
 abbrev pub IsMetIn : Behaviour → Editing → Editing → ServerStep → Type 0
 IsMetIn b before after (turn.Need made) =
-    (after ≡ before) × IsFor b (wanted_of after) (module_of made)
+    (after ≡ before) × IsFor b (wanted_of after) (box_of made)
 IsMetIn b before after (turn.Over next.GoOn) = after ≡ record before { phase = Declined }
 IsMetIn b before after (turn.Over (next.Stop why)) = ⊥
 
@@ -273,7 +273,7 @@ IsMetIn b before after (turn.Over (next.Stop why)) = ⊥
 -- what is made, or was told that there is none; or the client is gone.
 abbrev pub IsRunIn : Behaviour → ℕ → Seen → Seen → ServerStep → Type 0
 IsRunIn b limit before after (turn.Need made) =
-    WaitsIn before after limit × IsFor b (wanted_of after.editing) (module_of made)
+    WaitsIn before after limit × IsFor b (wanted_of after.editing) (box_of made)
     × IsSome (wanted_of after.editing)
     × (left_in_run after.editing ≤ left_in_run before.editing)
 IsRunIn b limit before after (turn.Over next.GoOn) =

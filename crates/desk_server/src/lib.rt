@@ -1,4 +1,4 @@
-//! The desk with the stock modules, and who asks at it.
+//! The desk with the modules that come with the program, and who asks at it.
 #![tactic(auto)]
 
 pub mod serving;

@@ -1,11 +1,11 @@
-//! A client at a desk with boxes of the stock modules: it asks one thing after the other, and hears
-//! what comes of it.
+//! A client at a desk with boxes of the modules that come with the program: it asks one thing after
+//! the other, and hears what comes of it.
 
 ghost use Rattle.std.specs.Prelude.{◌≡◌, ◌<◌, ◌≤◌, ℕ, [], ◌∷◌, ◌++◌, Some, None, IsSome, OnOk};
 ghost use Rattle.std.specs.Prelude.{IfOk, IfErr};
 ghost use Rattle.model_data.specs.declared.model.Model.{Model};
 ghost use Rattle.model_reading.specs.Models.{IsModelOf, IsRuledOut, Refuses};
-ghost use Rattle.module_stock.specs.Stock.{stock};
+ghost use Rattle.module_network.specs.Library.{library};
 ghost use Rattle.edit_session.specs.Editing.{wanted_of, IsFor};
 ghost use Rattle.desk_answers.specs.Turns.{editing_at, IsOfDesk};
 ghost use Rattle.desk_server.specs.Served.{fresh_machine};
@@ -30,8 +30,7 @@ use kernel::request::Request;
 use model_edits::edit::Edit;
 use model_reading::begin::BeginFault;
 use module_api::simple_module::SimpleModule;
-use module_stock::modules::StockModule;
-use module_stock::stock::Stock;
+use module_network::library::{Library, LibraryModule};
 use ned_trees::texts::NedTexts;
 use result_lines::writer::Out;
 use sim_values::NoMemory;
@@ -52,7 +51,7 @@ enum Next {
 #[derive(Drop)]
 enum ServerStep {
     /// A run waits for a box, and this goes into it.
-    Need(StockModule),
+    Need(LibraryModule),
     /// The turn is over, and this comes next.
     Over(Next),
 }
@@ -60,7 +59,7 @@ enum ServerStep {
 /// A desk with a client.
 #[derive(Drop)]
 struct Server<O, K> {
-    desk: Desk<Stock>,
+    desk: Desk<Library>,
     client: K,
     /// The limit of the run that is going on.
     running: Option<u64>,
@@ -86,14 +85,14 @@ impl<O: Out + Drop, K: Client<O> + Drop> Server<O, K> {
     /// What a run needs that waits for a box: a module of that kind, or to hear that there is none.
     fn need_of(&mut self, alloc: Global, request: &Request) -> ServerStep
         requires waits { wanted_of (editing_at SimpleModule-box self.old.desk) ≡ Some request.now }
-        requires sound { IsServer stock SimpleModule-box self.old }
-        ensures sound { IsServer stock SimpleModule-box self.new }
+        requires sound { IsServer library SimpleModule-box self.old }
+        ensures sound { IsServer library SimpleModule-box self.new }
         ensures client { self.new.client ≡ self.old.client }
         ensures running { self.new.running ≡ self.old.running }
         ensures met { let before = editing_at SimpleModule-box self.old.desk in
-            IsMetIn stock before (editing_at SimpleModule-box self.new.desk) result }
+            IsMetIn library before (editing_at SimpleModule-box self.new.desk) result }
     {
-        match StockModule::of_kind(alloc, request.kind.as_bytes()) {
+        match LibraryModule::of_kind(alloc, request.kind.as_bytes()) {
             Some(made) => ServerStep::Need(made),
             None => {
                 let _declined = self.desk.decline();
@@ -104,10 +103,10 @@ impl<O: Out + Drop, K: Client<O> + Drop> Server<O, K> {
 
     /// Begins the run to that limit, or goes on with it.
     fn run<W: Observer>(&mut self, alloc: Global, limit: u64, observer: &mut W) -> ServerStep
-        requires sound { IsServer stock SimpleModule-box self.old }
+        requires sound { IsServer library SimpleModule-box self.old }
         requires kept { K.keeps self.old.client }
-        ensures { Serves stock SimpleModule-box K.asked K.heard K.left K.keeps K.label K.stops
-            MayStopIn (IsRunIn stock limit) self.old self.new result }
+        ensures { Serves library SimpleModule-box K.asked K.heard K.left K.keeps K.label K.stops
+            MayStopIn (IsRunIn library limit) self.old self.new result }
     {
         match self.desk.run(limit, observer) {
             Ok(DeskTurn::Text(answer)) => {
@@ -137,10 +136,10 @@ impl<O: Out + Drop, K: Client<O> + Drop> Server<O, K> {
 
     /// Tells what the desk answers to a command that needs nothing but it.
     fn tell(&mut self, command: Command) -> Next
-        requires ready { IsReady stock SimpleModule-box K.keeps self.old }
+        requires ready { IsReady library SimpleModule-box K.keeps self.old }
         requires plain { IsOfDesk command }
-        ensures { Serves stock SimpleModule-box K.asked K.heard K.left K.keeps K.label K.stops
-            MayStopAt (HearsNext stock command) self.old self.new result }
+        ensures { Serves library SimpleModule-box K.asked K.heard K.left K.keeps K.label K.stops
+            MayStopAt (HearsNext library command) self.old self.new result }
     {
         match self.desk.reply(command) {
             Ok(answer) => self.hear(answer.text.as_bytes(), &answer.told),
@@ -151,9 +150,9 @@ impl<O: Out + Drop, K: Client<O> + Drop> Server<O, K> {
     /// Changes the NED file of that number to what the file of that path holds, which the client
     /// reads; or tells why not.
     fn ned(&mut self, number: u64, path: Text) -> Next
-        requires { IsReady stock SimpleModule-box K.keeps self.old }
-        ensures { Serves stock SimpleModule-box K.asked K.heard K.left K.keeps K.label K.stops
-            MayStopAt (HearsNext stock (commands.Ned number path)) self.old self.new result }
+        requires { IsReady library SimpleModule-box K.keeps self.old }
+        ensures { Serves library SimpleModule-box K.asked K.heard K.left K.keeps K.label K.stops
+            MayStopAt (HearsNext library (commands.Ned number path)) self.old self.new result }
     {
         match self.client.read(path.as_bytes()) {
             Ok(text) => self.tell(Command::Edit(Edit::ReplaceNed(number as usize, text))),
@@ -163,9 +162,9 @@ impl<O: Out + Drop, K: Client<O> + Drop> Server<O, K> {
 
     /// Writes the files of the last run, the scalar file first.
     fn write(&mut self) -> Next
-        requires { IsReady stock SimpleModule-box K.keeps self.old }
-        ensures { Serves stock SimpleModule-box K.asked K.heard K.left K.keeps K.label K.stops
-            MayStopAt (HearsNext stock commands.Write) self.old self.new result }
+        requires { IsReady library SimpleModule-box K.keeps self.old }
+        ensures { Serves library SimpleModule-box K.asked K.heard K.left K.keeps K.label K.stops
+            MayStopAt (HearsNext library commands.Write) self.old self.new result }
     {
         if self.desk.outcome().is_none() {
             return self.hear(b"refused NotDone".as_slice(), &AnswerContent::NotDone);
@@ -178,14 +177,14 @@ impl<O: Out + Drop, K: Client<O> + Drop> Server<O, K> {
 
     /// Writes the files of the last run to these devices, which the client then keeps.
     fn fill(&mut self, pages: Pages<O>) -> Next
-        requires ready { IsReady stock SimpleModule-box K.keeps self.old }
+        requires ready { IsReady library SimpleModule-box K.keeps self.old }
         requires done { IsSome (editing_at SimpleModule-box self.old.desk).done }
         requires config { pages.config.bytes
             ≡ (editing_at SimpleModule-box self.old.desk).model.config }
         requires scalars { O.taken pages.scalars ≡ untouched }
         requires vectors { O.taken pages.vectors ≡ untouched }
-        ensures { Serves stock SimpleModule-box K.asked K.heard K.left K.keeps K.label K.stops
-            MayStopAt (HearsNext stock commands.Write) self.old self.new result }
+        ensures { Serves library SimpleModule-box K.asked K.heard K.left K.keeps K.label K.stops
+            MayStopAt (HearsNext library commands.Write) self.old self.new result }
     {
         let mut pages = pages;
         match self.write_both(&mut pages) {
@@ -202,13 +201,13 @@ impl<O: Out + Drop, K: Client<O> + Drop> Server<O, K> {
 
     /// Writes both files of the last run. Answers which device failed, and after how many bytes.
     fn write_both(&self, pages: &mut Pages<O>) -> Result<(), (Page, u128)>
-        requires sound { IsServer stock SimpleModule-box self.now }
+        requires sound { IsServer library SimpleModule-box self.now }
         requires done { IsSome (editing_at SimpleModule-box self.now.desk).done }
         requires scalars { O.taken pages.old.scalars ≡ untouched }
         requires vectors { O.taken pages.old.vectors ≡ untouched }
         ensures config { pages.new.config ≡ pages.old.config }
         ensures written { let editing = editing_at SimpleModule-box self.now.desk in
-            OnOk result (AreFilled stock editing.model editing.done
+            OnOk result (AreFilled library editing.model editing.done
             (O.taken pages.new.scalars).bytes (O.taken pages.new.vectors).bytes) }
         ensures failed { IfErr result (λ fault.
             HasFailed fault.0 fault.1 (O.taken pages.new.scalars) (O.taken pages.new.vectors)) }
@@ -232,9 +231,9 @@ impl<O: Out + Drop, K: Client<O> + Drop> Server<O, K> {
         command: Command,
         observer: &mut W,
     ) -> ServerStep
-        requires { IsReady stock SimpleModule-box K.keeps self.old }
-        ensures { Serves stock SimpleModule-box K.asked K.heard K.left K.keeps K.label K.stops
-            MayStopIn (ComesTo stock command) self.old self.new result }
+        requires { IsReady library SimpleModule-box K.keeps self.old }
+        ensures { Serves library SimpleModule-box K.asked K.heard K.left K.keeps K.label K.stops
+            MayStopIn (ComesTo library command) self.old self.new result }
     {
         match command {
             Command::Run(limit) => self.run(alloc, limit, observer),
@@ -251,9 +250,9 @@ impl<O: Out + Drop, K: Client<O> + Drop> Server<O, K> {
         asked: AskedLine,
         observer: &mut W,
     ) -> ServerStep
-        requires { IsReady stock SimpleModule-box K.keeps self.old }
-        ensures { Serves stock SimpleModule-box K.asked K.heard K.left K.keeps K.label K.stops
-            MayStopIn (ComesTo stock (command_asked asked)) self.old self.new result }
+        requires { IsReady library SimpleModule-box K.keeps self.old }
+        ensures { Serves library SimpleModule-box K.asked K.heard K.left K.keeps K.label K.stops
+            MayStopIn (ComesTo library (command_asked asked)) self.old self.new result }
     {
         match asked {
             AskedLine::Line(text) => match command_of(alloc, text.as_bytes()) {
@@ -266,10 +265,10 @@ impl<O: Out + Drop, K: Client<O> + Drop> Server<O, K> {
 
     /// Goes on with the run, or does what the client asks next.
     fn turn<W: Observer>(&mut self, alloc: Global, observer: &mut W) -> ServerStep
-        requires sound { IsServer stock SimpleModule-box self.old }
+        requires sound { IsServer library SimpleModule-box self.old }
         requires kept { K.keeps self.old.client }
-        ensures { Serves stock SimpleModule-box K.asked K.heard K.left K.keeps K.label K.stops
-            MayStopIn (IsServingTurn stock) self.old self.new result }
+        ensures { Serves library SimpleModule-box K.asked K.heard K.left K.keeps K.label K.stops
+            MayStopIn (IsServingTurn library) self.old self.new result }
     {
         if let Some(limit) = self.running {
             return self.run(alloc, limit, observer);
@@ -284,13 +283,13 @@ impl<O: Out + Drop, K: Client<O> + Drop> Server<O, K> {
     /// Gives the run that waits its box.
     fn supply(&mut self, held: Box<dyn SimpleModule>) -> Next
         requires wanted { let editing = editing_at SimpleModule-box self.old.desk in
-            IsFor stock (wanted_of editing) (meaning held) }
+            IsFor library (wanted_of editing) (meaning held) }
         requires waits { IsSome (wanted_of (editing_at SimpleModule-box self.old.desk)) }
         requires going { IsSome self.old.running }
-        requires sound { IsServer stock SimpleModule-box self.old }
+        requires sound { IsServer library SimpleModule-box self.old }
         requires kept { K.keeps self.old.client }
-        ensures { Serves stock SimpleModule-box K.asked K.heard K.left K.keeps K.label K.stops
-            MayStopAt (IsNextServing stock) self.old self.new result }
+        ensures { Serves library SimpleModule-box K.asked K.heard K.left K.keeps K.label K.stops
+            MayStopAt (IsNextServing library) self.old self.new result }
     {
         match self.desk.supply(held) {
             Ok(()) => Next::GoOn,
@@ -318,9 +317,10 @@ impl<O: Out + Drop, K: Client<O> + Drop> Server<O, K> {
 }
 
 /// Serves a client at a desk of the model that these texts make with the configuration of that
-/// name, with boxes of the stock modules, until it asks nothing more, can't go on, or a device of a
-/// file fails. A run leaves a position after each multiple of `interval` events. The observer is
-/// told of the events of each run. Answers the client, and why; or why the texts make no model.
+/// name, with boxes of the modules that come with the program, until it asks nothing more, can't go
+/// on, or a device of a file fails. A run leaves a position after each multiple of `interval`
+/// events. The observer is told of the events of each run. Answers the client, and why; or why the
+/// texts make no model.
 pub fn serve<O: Out + Drop, K: Client<O> + Drop, W: Observer>(
     alloc: Global,
     texts: &NedTexts,
@@ -337,7 +337,7 @@ pub fn serve<O: Out + Drop, K: Client<O> + Drop, W: Observer>(
     // THE LAW OF A CLIENT: what it hears is what the plain machine says, whatever it asks.
     ensures served { IfOk result (λ r. (model : Model)
         × IsModelOf texts.now ini.now config.now model
-        × Ends stock (fresh_machine model interval) (K.asked r.0) (K.heard r.0) r.1) }
+        × Ends library (fresh_machine model interval) (K.asked r.0) (K.heard r.0) r.1) }
     // It is served no more only where that is true of it which it says of the reason: it has
     // nothing more to ask, can't go on, or heard that a device failed, which one, and after how
     // many bytes.
@@ -349,7 +349,7 @@ pub fn serve<O: Out + Drop, K: Client<O> + Drop, W: Observer>(
     // Where the texts make a model the client is served, unless memory runs out.
     ensures complete { IfErr result (λ fault. IsRuledOut texts.now ini.now config.now fault) }
 {
-    let session = Session::<Stock>::begin(alloc, texts, ini, config, interval)?;
+    let session = Session::<Library>::begin(alloc, texts, ini, config, interval)?;
     let mut server = Server {
         desk: Desk::of_session(alloc, session),
         client,

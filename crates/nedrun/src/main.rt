@@ -5,7 +5,7 @@ ghost use Rattle.std.specs.Prelude.{◌≡◌, ◌≢◌, ◌≤◌, ◌⊎◌, 
 ghost use Rattle.std.specs.Prelude.{IfErr, IfOk, OnOk, string_bytes};
 ghost use Rattle.model_data.specs.declared.model.Model.{Model};
 ghost use Rattle.model_reading.specs.Models.{IsModelOf, IsRuledOut, Refuses};
-ghost use Rattle.module_stock.specs.Stock.{stock};
+ghost use Rattle.module_network.specs.Library.{library};
 ghost use Rattle.desk_server.specs.Served.{fresh_machine};
 ghost use Rattle.desk_server.specs.Serving.{Ends};
 ghost use Rattle.desk_client.specs.Stops.{at_stop};
@@ -48,7 +48,7 @@ fn serve_user<'a, R: Files + Input + Print + Eprint + Clock + AllocGlobal>(
     // What the user hears is what the plain machine says to what the user asks.
     ensures served { IfOk result (λ r. (model : Model)
         × IsModelOf sources.now.texts.now sources.now.ini.now (string_bytes words.now.config) model
-        × Ends stock (fresh_machine model words.now.interval) r.0.dialogue.transcript.asked
+        × Ends library (fresh_machine model words.now.interval) r.0.dialogue.transcript.asked
         r.0.dialogue.transcript.heard r.1) }
     // What is asked: the run of the words, then to write its files, then the lines of standard
     // input;

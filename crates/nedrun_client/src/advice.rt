@@ -18,7 +18,21 @@ use std::rt::Files;
 use std::{fs, io};
 
 /// The classes that the program has modules of.
-const CLASSES: [&[u8]; 5] = [b"Tick", b"Source", b"Queue", b"Sink", b"Router"];
+const CLASSES: [&[u8]; 13] = [
+    b"Tick",
+    b"Source",
+    b"Queue",
+    b"Sink",
+    b"Router",
+    b"Generator",
+    b"Meter",
+    b"L2Queue",
+    b"Switch",
+    b"Dropper",
+    b"TokenStation",
+    b"Sender",
+    b"Receiver",
+];
 
 /// Warns of lines of the ini text that have no effect.
 pub fn warn<R: Eprint + AllocGlobal>(rt: &R, sources: &Sources<'_>) -> Result<(), ExitReason>

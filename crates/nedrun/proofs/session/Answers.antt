@@ -1,6 +1,6 @@
 use Rattle.std.proofs.Common.{◌≡◌, ◌⊎◌, []}
 use Rattle.model_reading.specs.Models.{IsModelOf, Refuses}
-use Rattle.module_stock.specs.Stock.{stock}
+use Rattle.module_network.specs.Library.{library}
 use Rattle.desk_server.specs.Served.{fresh_machine}
 use Rattle.desk_server.specs.Serving.{Ends}
 use Rattle.std.specs.String.{string_bytes}
@@ -12,7 +12,7 @@ pub returns-clause-served : goal.returns-clause-served
 returns-clause-served g c =
     session_served c.serve_user-served.result c.ended.result
     (λ model. IsModelOf c.args.sources.now.texts.now c.args.sources.now.ini.now (string_bytes c.args.words.now.config) model)
-    (λ model r. Ends stock (fresh_machine model c.args.words.now.interval) r.0.dialogue.transcript.asked r.0.dialogue.transcript.heard r.1)
+    (λ model r. Ends library (fresh_machine model c.args.words.now.interval) r.0.dialogue.transcript.asked r.0.dialogue.transcript.heard r.1)
     c.serve_user-served.ensures.served c.ended.ensures.refused
 
 pub returns-clause-early : goal.returns-clause-early

@@ -3,8 +3,8 @@ use denote.Param.Object.{read_made}
 use Rattle.module_api.specs.Meaning.{Module}
 use Rattle.desk_answers.specs.Turns.{editing_at}
 use Rattle.edit_session.specs.Editing.{wanted_of, IsFor}
-use Rattle.module_stock.specs.Modules.{module_of}
-use Rattle.module_stock.specs.Stock.{stock}
+use Rattle.module_network.specs.Library.{box_of}
+use Rattle.module_network.specs.Library.{library}
 use Rattle.desk_server.specs.Served.{fresh_machine}
 use Rattle.desk_server.specs.Serving.{seen, seen_in, IsNextServing, IsServer, MayStopAt}
 use Rattle.desk_server.proofs.ServingTurns.{ends_served, memory_turn, served_first, went_serving}
@@ -19,43 +19,43 @@ turns-init g c =
       sound = c.of_session.ensures.sound;
       kept = c.requires.kept;
       label = refl;
-      stands = (e.0, e.1, served_first stock e.0 c.args.interval (seen (editing_at (λ b. (own-1.entry b.vtable).1) c.of_session.result) (g.K.Client.asked c.args.client) (g.K.Client.heard c.args.client) (g.K.Client.left c.args.client) None) (c.of_session.ensures.editing ∙ e.2) c.requires.unasked c.requires.unheard);
+      stands = (e.0, e.1, served_first library e.0 c.args.interval (seen (editing_at (λ b. (own-1.entry b.vtable).1) c.of_session.result) (g.K.Client.asked c.args.client) (g.K.Client.heard c.args.client) (g.K.Client.left c.args.client) None) (c.of_session.ensures.editing ∙ e.2) c.requires.unasked c.requires.unheard);
     }
 
 pub supply-requires-clause-wanted : goal.supply-requires-clause-wanted
 supply-requires-clause-wanted g c =
-    let means : (own-1.entry c.into_dyn_box-held.result.vtable).1.meaning c.into_dyn_box-held.result.value ≡ module_of c.in-Ok.held.value =
+    let means : (own-1.entry c.into_dyn_box-held.result.vtable).1.meaning c.into_dyn_box-held.result.value ≡ box_of c.in-Ok.held.value =
     read_made own-1 (own-1.entry at-1-1) at-1-1 refl Module (λ j y. j.1.meaning y) c.into_dyn_box-held.result.vtable c.into_dyn_box-held.result.value c.in-Ok.held.value c.into_dyn_box-held.ensures.1 in
-    subst (λ (m : Module). IsFor stock (wanted_of (editing_at (λ b. (own-1.entry b.vtable).1) c.turn.new.self.desk)) m) (sym (means ∙ ap module_of c.in-Ok.ensures.ok)) c.in-Need.ensures.comes.wanted
+    subst (λ (m : Module). IsFor library (wanted_of (editing_at (λ b. (own-1.entry b.vtable).1) c.turn.new.self.desk)) m) (sym (means ∙ ap box_of c.in-Ok.ensures.ok)) c.in-Need.ensures.comes.wanted
 
 -- each turn leaves less to be done
 pub turns-smaller : goal.turns-smaller
 turns-smaller g c =
-    let went : IsNextServing stock (seen_in (λ b. (own-1.entry b.vtable).1) g.K.Client.asked g.K.Client.heard g.K.Client.left c.turns.server) (seen_in (λ b. (own-1.entry b.vtable).1) g.K.Client.asked g.K.Client.heard g.K.Client.left c.match-turn.server) c.match-turn.next = elim c.match-turn.branch [
-      | in-Need+in-Ok w ↦ rw (w.server-is, w.next-is) (went_serving stock (seen_in (λ b. (own-1.entry b.vtable).1) g.K.Client.asked g.K.Client.heard g.K.Client.left c.turns.server) (seen_in (λ b. (own-1.entry b.vtable).1) g.K.Client.asked g.K.Client.heard g.K.Client.left c.turn.new.self) (seen_in (λ b. (own-1.entry b.vtable).1) g.K.Client.asked g.K.Client.heard g.K.Client.left w.supply.new.self) w.in-Need.made w.supply.result w.in-Need.ensures.comes w.supply.ensures.comes)
-      | in-Need+in-Err w ↦ rw (w.server-is, w.next-is) (went_serving stock (seen_in (λ b. (own-1.entry b.vtable).1) g.K.Client.asked g.K.Client.heard g.K.Client.left c.turns.server) (seen_in (λ b. (own-1.entry b.vtable).1) g.K.Client.asked g.K.Client.heard g.K.Client.left c.turn.new.self) (seen_in (λ b. (own-1.entry b.vtable).1) g.K.Client.asked g.K.Client.heard g.K.Client.left w.out_of_memory.new.self) w.in-Need.made w.out_of_memory.result w.in-Need.ensures.comes
-          (memory_turn stock (seen_in (λ b. (own-1.entry b.vtable).1) g.K.Client.asked g.K.Client.heard g.K.Client.left c.turn.new.self) (seen_in (λ b. (own-1.entry b.vtable).1) g.K.Client.asked g.K.Client.heard g.K.Client.left w.out_of_memory.new.self) w.out_of_memory.result _ w.in-Need.ensures.comes.going w.in-Need.ensures.comes.waits c.turn.ensures.sound.undone refl
+    let went : IsNextServing library (seen_in (λ b. (own-1.entry b.vtable).1) g.K.Client.asked g.K.Client.heard g.K.Client.left c.turns.server) (seen_in (λ b. (own-1.entry b.vtable).1) g.K.Client.asked g.K.Client.heard g.K.Client.left c.match-turn.server) c.match-turn.next = elim c.match-turn.branch [
+      | in-Need+in-Ok w ↦ rw (w.server-is, w.next-is) (went_serving library (seen_in (λ b. (own-1.entry b.vtable).1) g.K.Client.asked g.K.Client.heard g.K.Client.left c.turns.server) (seen_in (λ b. (own-1.entry b.vtable).1) g.K.Client.asked g.K.Client.heard g.K.Client.left c.turn.new.self) (seen_in (λ b. (own-1.entry b.vtable).1) g.K.Client.asked g.K.Client.heard g.K.Client.left w.supply.new.self) w.in-Need.made w.supply.result w.in-Need.ensures.comes w.supply.ensures.comes)
+      | in-Need+in-Err w ↦ rw (w.server-is, w.next-is) (went_serving library (seen_in (λ b. (own-1.entry b.vtable).1) g.K.Client.asked g.K.Client.heard g.K.Client.left c.turns.server) (seen_in (λ b. (own-1.entry b.vtable).1) g.K.Client.asked g.K.Client.heard g.K.Client.left c.turn.new.self) (seen_in (λ b. (own-1.entry b.vtable).1) g.K.Client.asked g.K.Client.heard g.K.Client.left w.out_of_memory.new.self) w.in-Need.made w.out_of_memory.result w.in-Need.ensures.comes
+          (memory_turn library (seen_in (λ b. (own-1.entry b.vtable).1) g.K.Client.asked g.K.Client.heard g.K.Client.left c.turn.new.self) (seen_in (λ b. (own-1.entry b.vtable).1) g.K.Client.asked g.K.Client.heard g.K.Client.left w.out_of_memory.new.self) w.out_of_memory.result _ w.in-Need.ensures.comes.going w.in-Need.ensures.comes.waits c.turn.ensures.sound.undone refl
           (ap (editing_at (λ b. (own-1.entry b.vtable).1)) w.out_of_memory.ensures.desk) w.out_of_memory.ensures.asked w.out_of_memory.ensures.left w.out_of_memory.ensures.running w.out_of_memory.ensures.heard))
       | in-Over w ↦ rw (w.server-is, w.next-is) w.in-Over.ensures.comes
     ] in
-    let goes_on = subst (IsNextServing stock (seen_in (λ b. (own-1.entry b.vtable).1) g.K.Client.asked g.K.Client.heard g.K.Client.left c.turns.server) (seen_in (λ b. (own-1.entry b.vtable).1) g.K.Client.asked g.K.Client.heard g.K.Client.left c.match-turn.server)) c.in_default.is went in
+    let goes_on = subst (IsNextServing library (seen_in (λ b. (own-1.entry b.vtable).1) g.K.Client.asked g.K.Client.heard g.K.Client.left c.turns.server) (seen_in (λ b. (own-1.entry b.vtable).1) g.K.Client.asked g.K.Client.heard g.K.Client.left c.match-turn.server)) c.in_default.is went in
     goes_on.1
 
 pub turns-preserved : goal.turns-preserved
 turns-preserved g c =
-    let went : IsNextServing stock (seen_in (λ b. (own-1.entry b.vtable).1) g.K.Client.asked g.K.Client.heard g.K.Client.left c.turns.server) (seen_in (λ b. (own-1.entry b.vtable).1) g.K.Client.asked g.K.Client.heard g.K.Client.left c.match-turn.server) c.match-turn.next = elim c.match-turn.branch [
-      | in-Need+in-Ok w ↦ rw (w.server-is, w.next-is) (went_serving stock (seen_in (λ b. (own-1.entry b.vtable).1) g.K.Client.asked g.K.Client.heard g.K.Client.left c.turns.server) (seen_in (λ b. (own-1.entry b.vtable).1) g.K.Client.asked g.K.Client.heard g.K.Client.left c.turn.new.self) (seen_in (λ b. (own-1.entry b.vtable).1) g.K.Client.asked g.K.Client.heard g.K.Client.left w.supply.new.self) w.in-Need.made w.supply.result w.in-Need.ensures.comes w.supply.ensures.comes)
-      | in-Need+in-Err w ↦ rw (w.server-is, w.next-is) (went_serving stock (seen_in (λ b. (own-1.entry b.vtable).1) g.K.Client.asked g.K.Client.heard g.K.Client.left c.turns.server) (seen_in (λ b. (own-1.entry b.vtable).1) g.K.Client.asked g.K.Client.heard g.K.Client.left c.turn.new.self) (seen_in (λ b. (own-1.entry b.vtable).1) g.K.Client.asked g.K.Client.heard g.K.Client.left w.out_of_memory.new.self) w.in-Need.made w.out_of_memory.result w.in-Need.ensures.comes
-          (memory_turn stock (seen_in (λ b. (own-1.entry b.vtable).1) g.K.Client.asked g.K.Client.heard g.K.Client.left c.turn.new.self) (seen_in (λ b. (own-1.entry b.vtable).1) g.K.Client.asked g.K.Client.heard g.K.Client.left w.out_of_memory.new.self) w.out_of_memory.result _ w.in-Need.ensures.comes.going w.in-Need.ensures.comes.waits c.turn.ensures.sound.undone refl
+    let went : IsNextServing library (seen_in (λ b. (own-1.entry b.vtable).1) g.K.Client.asked g.K.Client.heard g.K.Client.left c.turns.server) (seen_in (λ b. (own-1.entry b.vtable).1) g.K.Client.asked g.K.Client.heard g.K.Client.left c.match-turn.server) c.match-turn.next = elim c.match-turn.branch [
+      | in-Need+in-Ok w ↦ rw (w.server-is, w.next-is) (went_serving library (seen_in (λ b. (own-1.entry b.vtable).1) g.K.Client.asked g.K.Client.heard g.K.Client.left c.turns.server) (seen_in (λ b. (own-1.entry b.vtable).1) g.K.Client.asked g.K.Client.heard g.K.Client.left c.turn.new.self) (seen_in (λ b. (own-1.entry b.vtable).1) g.K.Client.asked g.K.Client.heard g.K.Client.left w.supply.new.self) w.in-Need.made w.supply.result w.in-Need.ensures.comes w.supply.ensures.comes)
+      | in-Need+in-Err w ↦ rw (w.server-is, w.next-is) (went_serving library (seen_in (λ b. (own-1.entry b.vtable).1) g.K.Client.asked g.K.Client.heard g.K.Client.left c.turns.server) (seen_in (λ b. (own-1.entry b.vtable).1) g.K.Client.asked g.K.Client.heard g.K.Client.left c.turn.new.self) (seen_in (λ b. (own-1.entry b.vtable).1) g.K.Client.asked g.K.Client.heard g.K.Client.left w.out_of_memory.new.self) w.in-Need.made w.out_of_memory.result w.in-Need.ensures.comes
+          (memory_turn library (seen_in (λ b. (own-1.entry b.vtable).1) g.K.Client.asked g.K.Client.heard g.K.Client.left c.turn.new.self) (seen_in (λ b. (own-1.entry b.vtable).1) g.K.Client.asked g.K.Client.heard g.K.Client.left w.out_of_memory.new.self) w.out_of_memory.result _ w.in-Need.ensures.comes.going w.in-Need.ensures.comes.waits c.turn.ensures.sound.undone refl
           (ap (editing_at (λ b. (own-1.entry b.vtable).1)) w.out_of_memory.ensures.desk) w.out_of_memory.ensures.asked w.out_of_memory.ensures.left w.out_of_memory.ensures.running w.out_of_memory.ensures.heard))
       | in-Over w ↦ rw (w.server-is, w.next-is) w.in-Over.ensures.comes
     ] in
-    let sound : IsServer stock (λ b. (own-1.entry b.vtable).1) c.match-turn.server = elim c.match-turn.branch [
+    let sound : IsServer library (λ b. (own-1.entry b.vtable).1) c.match-turn.server = elim c.match-turn.branch [
       | in-Need+in-Ok w ↦ rw w.server-is w.supply.ensures.sound
       | in-Need+in-Err w ↦ rw w.server-is (rw w.out_of_memory.ensures.desk c.turn.ensures.sound)
       | in-Over w ↦ rw w.server-is c.turn.ensures.sound
     ] in
-    let goes_on = subst (IsNextServing stock (seen_in (λ b. (own-1.entry b.vtable).1) g.K.Client.asked g.K.Client.heard g.K.Client.left c.turns.server) (seen_in (λ b. (own-1.entry b.vtable).1) g.K.Client.asked g.K.Client.heard g.K.Client.left c.match-turn.server)) c.in_default.is went in
+    let goes_on = subst (IsNextServing library (seen_in (λ b. (own-1.entry b.vtable).1) g.K.Client.asked g.K.Client.heard g.K.Client.left c.turns.server) (seen_in (λ b. (own-1.entry b.vtable).1) g.K.Client.asked g.K.Client.heard g.K.Client.left c.match-turn.server)) c.in_default.is went in
     let stands = c.turns.invariant.stands in
     let kept : g.K.Client.keeps c.match-turn.server.client = elim c.match-turn.branch [
       | in-Need+in-Ok w ↦ rw w.server-is w.supply.ensures.kept
@@ -71,16 +71,16 @@ turns-preserved g c =
 
 pub returns-in-Stop-clause-served : goal.returns-in-Stop-clause-served
 returns-in-Stop-clause-served g c =
-    let went : IsNextServing stock (seen_in (λ b. (own-1.entry b.vtable).1) g.K.Client.asked g.K.Client.heard g.K.Client.left c.turns.server) (seen_in (λ b. (own-1.entry b.vtable).1) g.K.Client.asked g.K.Client.heard g.K.Client.left c.match-turn.server) c.match-turn.next = elim c.match-turn.branch [
-      | in-Need+in-Ok w ↦ rw (w.server-is, w.next-is) (went_serving stock (seen_in (λ b. (own-1.entry b.vtable).1) g.K.Client.asked g.K.Client.heard g.K.Client.left c.turns.server) (seen_in (λ b. (own-1.entry b.vtable).1) g.K.Client.asked g.K.Client.heard g.K.Client.left c.turn.new.self) (seen_in (λ b. (own-1.entry b.vtable).1) g.K.Client.asked g.K.Client.heard g.K.Client.left w.supply.new.self) w.in-Need.made w.supply.result w.in-Need.ensures.comes w.supply.ensures.comes)
-      | in-Need+in-Err w ↦ rw (w.server-is, w.next-is) (went_serving stock (seen_in (λ b. (own-1.entry b.vtable).1) g.K.Client.asked g.K.Client.heard g.K.Client.left c.turns.server) (seen_in (λ b. (own-1.entry b.vtable).1) g.K.Client.asked g.K.Client.heard g.K.Client.left c.turn.new.self) (seen_in (λ b. (own-1.entry b.vtable).1) g.K.Client.asked g.K.Client.heard g.K.Client.left w.out_of_memory.new.self) w.in-Need.made w.out_of_memory.result w.in-Need.ensures.comes
-          (memory_turn stock (seen_in (λ b. (own-1.entry b.vtable).1) g.K.Client.asked g.K.Client.heard g.K.Client.left c.turn.new.self) (seen_in (λ b. (own-1.entry b.vtable).1) g.K.Client.asked g.K.Client.heard g.K.Client.left w.out_of_memory.new.self) w.out_of_memory.result _ w.in-Need.ensures.comes.going w.in-Need.ensures.comes.waits c.turn.ensures.sound.undone refl
+    let went : IsNextServing library (seen_in (λ b. (own-1.entry b.vtable).1) g.K.Client.asked g.K.Client.heard g.K.Client.left c.turns.server) (seen_in (λ b. (own-1.entry b.vtable).1) g.K.Client.asked g.K.Client.heard g.K.Client.left c.match-turn.server) c.match-turn.next = elim c.match-turn.branch [
+      | in-Need+in-Ok w ↦ rw (w.server-is, w.next-is) (went_serving library (seen_in (λ b. (own-1.entry b.vtable).1) g.K.Client.asked g.K.Client.heard g.K.Client.left c.turns.server) (seen_in (λ b. (own-1.entry b.vtable).1) g.K.Client.asked g.K.Client.heard g.K.Client.left c.turn.new.self) (seen_in (λ b. (own-1.entry b.vtable).1) g.K.Client.asked g.K.Client.heard g.K.Client.left w.supply.new.self) w.in-Need.made w.supply.result w.in-Need.ensures.comes w.supply.ensures.comes)
+      | in-Need+in-Err w ↦ rw (w.server-is, w.next-is) (went_serving library (seen_in (λ b. (own-1.entry b.vtable).1) g.K.Client.asked g.K.Client.heard g.K.Client.left c.turns.server) (seen_in (λ b. (own-1.entry b.vtable).1) g.K.Client.asked g.K.Client.heard g.K.Client.left c.turn.new.self) (seen_in (λ b. (own-1.entry b.vtable).1) g.K.Client.asked g.K.Client.heard g.K.Client.left w.out_of_memory.new.self) w.in-Need.made w.out_of_memory.result w.in-Need.ensures.comes
+          (memory_turn library (seen_in (λ b. (own-1.entry b.vtable).1) g.K.Client.asked g.K.Client.heard g.K.Client.left c.turn.new.self) (seen_in (λ b. (own-1.entry b.vtable).1) g.K.Client.asked g.K.Client.heard g.K.Client.left w.out_of_memory.new.self) w.out_of_memory.result _ w.in-Need.ensures.comes.going w.in-Need.ensures.comes.waits c.turn.ensures.sound.undone refl
           (ap (editing_at (λ b. (own-1.entry b.vtable).1)) w.out_of_memory.ensures.desk) w.out_of_memory.ensures.asked w.out_of_memory.ensures.left w.out_of_memory.ensures.running w.out_of_memory.ensures.heard))
       | in-Over w ↦ rw (w.server-is, w.next-is) w.in-Over.ensures.comes
     ] in
-    let stops = subst (IsNextServing stock (seen_in (λ b. (own-1.entry b.vtable).1) g.K.Client.asked g.K.Client.heard g.K.Client.left c.turns.server) (seen_in (λ b. (own-1.entry b.vtable).1) g.K.Client.asked g.K.Client.heard g.K.Client.left c.match-turn.server)) c.in-Stop.is went in
+    let stops = subst (IsNextServing library (seen_in (λ b. (own-1.entry b.vtable).1) g.K.Client.asked g.K.Client.heard g.K.Client.left c.turns.server) (seen_in (λ b. (own-1.entry b.vtable).1) g.K.Client.asked g.K.Client.heard g.K.Client.left c.match-turn.server)) c.in-Stop.is went in
     let stands = c.turns.invariant.stands in
-    (stands.0, stands.1, rw c.into_client.ensures (ends_served stock (fresh_machine stands.0 c.args.interval) (seen_in (λ b. (own-1.entry b.vtable).1) g.K.Client.asked g.K.Client.heard g.K.Client.left c.match-turn.server) c.in-Stop.stop (stops (fresh_machine stands.0 c.args.interval) stands.2)))
+    (stands.0, stands.1, rw c.into_client.ensures (ends_served library (fresh_machine stands.0 c.args.interval) (seen_in (λ b. (own-1.entry b.vtable).1) g.K.Client.asked g.K.Client.heard g.K.Client.left c.match-turn.server) c.in-Stop.stop (stops (fresh_machine stands.0 c.args.interval) stands.2)))
 
 pub returns-in-Stop-clause-kept : goal.returns-in-Stop-clause-kept
 returns-in-Stop-clause-kept g c =

@@ -1,7 +1,7 @@
 use Rattle.std.proofs.Common.{ap, ◌∙◌, rules}
 use Rattle.desk_answers.specs.Turns.{editing_at}
 use Rattle.text_writer.specs.declared.noted.GhostBytes.{GhostBytes}
-use Rattle.module_stock.specs.Stock.{stock}
+use Rattle.module_network.specs.Library.{library}
 use Rattle.desk_server.specs.Serving.{seen_in}
 use Rattle.desk_server.proofs.Hearing.{misses_files, tells_written}
 use Rattle.desk_server.proofs.serving.Server.fill.Goals as goal
@@ -12,7 +12,7 @@ returns-in-Ok-keep g c = record {
   label = search rules;
   stops = search rules;
   sound = search rules;
-  comes = tells_written stock (seen_in (λ b. (g.dyn-1.0.entry b.vtable).1) g.K.Client.asked g.K.Client.heard g.K.Client.left c.args.self.now)
+  comes = tells_written library (seen_in (λ b. (g.dyn-1.0.entry b.vtable).1) g.K.Client.asked g.K.Client.heard g.K.Client.left c.args.self.now)
       (seen_in (λ b. (g.dyn-1.0.entry b.vtable).1) g.K.Client.asked g.K.Client.heard g.K.Client.left c.hear.new.self) (g.K.Client.heard c.keep.new.self) c.write_both.new.pages.config.bytes _ _ c.hear.result
       (c.hear.ensures.asked ∙ c.in-Ok-keep.ensures.asked) (c.hear.ensures.left ∙ c.in-Ok-keep.ensures.left) (c.hear.ensures.running ∙ c.requires.ready.idle)
       (ap (editing_at (λ b. (g.dyn-1.0.entry b.vtable).1)) c.hear.ensures.desk) (ap (λ (n : GhostBytes). n.bytes) c.in-Ok.ensures.config ∙ c.requires.config) c.in-Ok.ensures.written c.in-Ok-keep.ensures.heard
@@ -25,7 +25,7 @@ returns-in-Err-keep g c = record {
   label = search rules;
   stops = search rules;
   sound = search rules;
-  comes = misses_files stock (seen_in (λ b. (g.dyn-1.0.entry b.vtable).1) g.K.Client.asked g.K.Client.heard g.K.Client.left c.args.self.now) _ c.in-Err-keep.ensures.asked c.in-Err-keep.ensures.gone c.requires.done;
+  comes = misses_files library (seen_in (λ b. (g.dyn-1.0.entry b.vtable).1) g.K.Client.asked g.K.Client.heard g.K.Client.left c.args.self.now) _ c.in-Err-keep.ensures.asked c.in-Err-keep.ensures.gone c.requires.done;
 }
 
 pub returns-in-Err : goal.returns-in-Err
@@ -34,5 +34,5 @@ returns-in-Err g c = record {
   label = search rules;
   stops = search rules;
   sound = search rules;
-  comes = misses_files stock (seen_in (λ b. (g.dyn-1.0.entry b.vtable).1) g.K.Client.asked g.K.Client.heard g.K.Client.left c.args.self.now) _ c.lose.ensures.asked c.lose.ensures.heard c.requires.done;
+  comes = misses_files library (seen_in (λ b. (g.dyn-1.0.entry b.vtable).1) g.K.Client.asked g.K.Client.heard g.K.Client.left c.args.self.now) _ c.lose.ensures.asked c.lose.ensures.heard c.requires.done;
 }

@@ -1,6 +1,6 @@
 use Rattle.std.proofs.Common.{refl, rules}
 use Rattle.desk_answers.specs.Turns.{editing_at}
-use Rattle.module_stock.specs.Stock.{stock}
+use Rattle.module_network.specs.Library.{library}
 use Rattle.desk_server.specs.Serving.{seen, seen_in}
 use Rattle.desk_server.proofs.ServingTurns.{asked_turn, run_turn}
 use Rattle.desk_server.proofs.serving.Server.turn.Goals as goal
@@ -11,7 +11,7 @@ returns-in-Some g c = record {
   label = search rules;
   stops = search rules;
   sound = search rules;
-  comes = run_turn stock c.in-Some.limit (seen_in (λ b. (g.dyn-1.0.entry b.vtable).1) g.K.Client.asked g.K.Client.heard g.K.Client.left c.args.self.now)
+  comes = run_turn library c.in-Some.limit (seen_in (λ b. (g.dyn-1.0.entry b.vtable).1) g.K.Client.asked g.K.Client.heard g.K.Client.left c.args.self.now)
       (seen_in (λ b. (g.dyn-1.0.entry b.vtable).1) g.K.Client.asked g.K.Client.heard g.K.Client.left c.run.new.self) c.run.result c.in-Some.is c.run.ensures.comes;
 }
 
@@ -21,7 +21,7 @@ returns-in-Ok-Some g c = record {
   label = search rules;
   stops = search rules;
   sound = search rules;
-  comes = asked_turn stock c.in-Ok-Some.asked (seen_in (λ b. (g.dyn-1.0.entry b.vtable).1) g.K.Client.asked g.K.Client.heard g.K.Client.left c.args.self.now)
+  comes = asked_turn library c.in-Ok-Some.asked (seen_in (λ b. (g.dyn-1.0.entry b.vtable).1) g.K.Client.asked g.K.Client.heard g.K.Client.left c.args.self.now)
       (seen (editing_at (λ b. (g.dyn-1.0.entry b.vtable).1) c.args.self.now.desk) (g.K.Client.asked c.next.new.self) (g.K.Client.heard c.next.new.self) (g.K.Client.left c.next.new.self) c.args.self.now.running)
       (seen_in (λ b. (g.dyn-1.0.entry b.vtable).1) g.K.Client.asked g.K.Client.heard g.K.Client.left c.answer.new.self) c.answer.result
       (record {
