@@ -19,12 +19,11 @@ def quoted(value):
     return '"' + value.replace("\\", "\\\\").replace('"', '\\"') + '"'
 
 
-def statistics(world):
-    """Each statistic that may be recorded, by rising id of its module: the module, its name, its signal, its modes."""
-    for module in world.modules:
-        for name, (source, modes) in module.type.statistics.items():
-            if world.model.ini.is_on(f"{module.path}.{name}", "statistic-recording"):
-                yield module, name, source, world.model.ini.modes(f"{module.path}.{name}", modes)
+def statistics(world, module):
+    """Each statistic of a module that may be recorded: its name, its signal, its modes."""
+    for name, (source, modes) in module.type.statistics.items():
+        if world.model.ini.is_on(f"{module.path}.{name}", "statistic-recording"):
+            yield name, source, world.model.ini.modes(f"{module.path}.{name}", modes)
 
 
 def heard(world, module, source):
@@ -39,19 +38,24 @@ def heard(world, module, source):
 MAKES = {"count": len, "sum": sum, "min": min, "max": max, "last": lambda it: it[-1]}
 
 
-def scalar_file(world):
-    lines = header(world)
-    for module, name, source, modes in statistics(world) if world.finished else []:
+def scalars_of(world, module):
+    """The scalars of a module with their values: those that it recorded, and then those of its statistics."""
+    yield from (it[1:] for it in world.scalars if it[0] is module)
+    for name, source, modes in statistics(world, module) if world.finished else []:
         values = [world.emitted[it][4] for it in heard(world, module, source)]
-        for mode in modes:
-            if mode != "vector" and (values or mode in ("count", "sum")) and world.model.ini.is_on(f"{module.path}.{name}:{mode}", "scalar-recording"):
-                lines.append(f"scalar {module.path} {name}:{mode} {MAKES[mode](values)}")
+        yield from ((f"{name}:{mode}", MAKES[mode](values)) for mode in modes if mode != "vector" and (values or mode in ("count", "sum")))
+
+
+def scalar_file(world):
+    lines, ini = header(world), world.model.ini
+    for module in world.modules:
+        lines += [f"scalar {module.path} {name} {value}" for name, value in scalars_of(world, module) if ini.is_on(f"{module.path}.{name}", "scalar-recording")]
     return "\n".join(lines) + "\n"
 
 
 def vector_file(world):
     lines, data, number = header(world), {}, 0
-    for module, name, source, modes in statistics(world):
+    for module, name, source, modes in ((module, *it) for module in world.modules for it in statistics(world, module)):
         places = list(heard(world, module, source))
         if "vector" in modes and places and world.model.ini.is_on(f"{module.path}.{name}:vector", "vector-recording"):
             lines.append(f"vector {number} {module.path} {name}:vector ETV")

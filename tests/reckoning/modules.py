@@ -29,10 +29,11 @@ class Call:
     """A call of a module, with what it read: `message` is none for a timer and at the start. What is read and absent, or wrong, is kept."""
 
     def __init__(self, world, module, state, message):
-        self.world, self.module, self.state, self.message = world, module, state, message
+        self.world, self.module, self.state, self.message, self.now = world, module, state, message, world.now
         self.starts, self.absent, self.wrong = world.count == 0 and world.event == 0, [], []
 
-    def read(self, name, kind="whole", suits=lambda _: True):
+    def read(self, name, kind="whole", suits=lambda _: True, other=0):
+        """The value of a parameter; another one, that stands for it, where it is absent or wrong."""
         value = self.world.value(self.module, name)
         if value is None:
             self.absent.append("NoParameter")
@@ -40,13 +41,27 @@ class Call:
             self.wrong.append(name)
         else:
             return value[1]
-        return 0
+        return other
 
     def time(self, name):
         return self.read(name, "time", lambda it: it >= 0)
 
+    def rate(self, name):
+        return self.read(name, "rate", lambda it: it >= 0)
+
     def priority(self):
         return self.read("priority", suits=lambda it: -(2**15) <= it < 2**15)
+
+    def ports(self, name):
+        """The size of an inout gate; none of it where it is absent or wrong."""
+        gate = self.world.ask("gate", self.module.path, name)
+        if not gate:
+            self.absent.append("NoGate")
+        elif gate[0] != "inout":
+            self.wrong.append(name)
+        else:
+            return gate[1]
+        return 0
 
     def comes(self, gate):
         """Whether a message comes from outside, or from that gate, which is no half of another one."""
@@ -129,12 +144,7 @@ class Router:
             return [], None
         if not call.message.payload:
             return [("emit", "rx", call.message.bits)], None
-        port = call.world.ask("gate", call.module.path, "port")
-        if not port:
-            call.absent.append("NoGate")
-        elif port[0] != "inout":
-            call.wrong.append("port")
-        elif call.message.payload[0] < port[1]:
+        if call.message.payload[0] < call.ports("port"):
             it = call.message
             return [("send", "port", "$o", it.payload[0], Message(it.kind, it.priority, it.bits, it.payload[1:]))], None
         return [("fail", "route")], None

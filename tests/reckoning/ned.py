@@ -432,7 +432,7 @@ def said_by(prop):
                 if plain not in MODES or plain in [it[0] for it in modes]:
                     raise NotReckoned(f"the statistic {index}")
                 modes.append((plain, "?" in mode))
-        else:
+        elif key not in ("title", "unit"):
             raise NotReckoned(f"the statistic {index}")
     return [("statistic", index, source, modes)]
 

@@ -1,10 +1,14 @@
 """A fresh run of a model: its events one after another, and what is recorded."""
 import heapq
 
+import modules
+import network_modules
 from model import MOST
-from modules import CLASSES, Call
+from modules import Call
 from ned import NotReckoned
 from values import Fault
+
+CLASSES = {**modules.CLASSES, **network_modules.CLASSES}
 
 LATEST = 2**63 - 1
 
@@ -16,7 +20,7 @@ class World:
         self.model, self.messages, self.limit = model, sorted(messages, key=lambda it: (it.time, it.priority, it.number)), limit
         self.now, self.count, self.inserted, self.delivered = 0, 0, 0, ()
         self.events, self.modules, self.states, self.ends = [], [], {}, {}
-        self.emitted, self.asked, self.finished, self.outcome = [], [], False, None
+        self.emitted, self.scalars, self.asked, self.finished, self.outcome = [], [], [], False, None
         self.event = 0
 
     # ---- questions
@@ -35,7 +39,7 @@ class World:
             self.begin()
             while not self.outcome:
                 self.step()
-            self.finished = True
+            self.finish()
         except Fault as fault:
             self.outcome = f"fault {self.count} {fault.path} {fault.name}"
 
@@ -107,6 +111,14 @@ class World:
                 heapq.heappop(self.events)
             return found
 
+    def finish(self):
+        """Tells the modules that hear it that the run is over. None of them reads anything then."""
+        for module in self.simple():
+            kind = CLASSES[module.type.class_]
+            for action in kind.finish(self.states[module.path], self.now) if hasattr(kind, "finish") else []:
+                getattr(self, action[0])(module, *action[1:])
+        self.finished = True
+
     def insert(self, time, priority, module, message):
         self.inserted += 1
         heapq.heappush(self.events, (time, priority, self.inserted, module, message))
@@ -120,6 +132,8 @@ class World:
                 raise Fault(call.absent[0])
             if call.wrong:
                 raise Fault(f"ModuleFailed: {call.wrong[0]}")
+            if len(actions) > 1000:
+                raise Fault("TooManyActions")
             self.states[module.path] = state
             for action in actions:
                 getattr(self, action[0])(module, *action[1:])
@@ -135,8 +149,24 @@ class World:
             raise Fault("ModuleFailed: bits")
         self.emitted.append((module, signal, self.count, self.now, value))
 
+    def record(self, module, name, value):
+        self.scalars.append((module, name, value))
+
     def schedule(self, module, delay, priority):
-        self.insert(self.time(self.now + delay), priority, module, None)
+        """Sets the module's one timer."""
+        time = self.time(self.now + delay)
+        if any(self.is_timer(it, module) for it in self.events):
+            raise Fault("AlreadyScheduled")
+        self.insert(time, priority, module, None)
+
+    def cancel(self, module):
+        """Takes the module's timer back, if it is pending."""
+        self.events = [it for it in self.events if not self.is_timer(it, module)]
+        heapq.heapify(self.events)
+
+    @staticmethod
+    def is_timer(event, module):
+        return event[3] is module and event[4] is None
 
     def time(self, time):
         if time > LATEST:
@@ -144,6 +174,8 @@ class World:
         return time
 
     def send(self, module, name, half, index, message):
+        if len(message.payload) > 4096:
+            raise Fault("PayloadTooLarge")
         gate = self.ask("gate", module.path, name + half)
         if not gate or gate[0] != "output" or not index < gate[1]:
             raise Fault("NoGate")
