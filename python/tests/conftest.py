@@ -49,7 +49,7 @@ def read_example(folder: pathlib.Path) -> Example:
         return Example(folder, "General", 1000, folder / "omnetpp.ini", (folder / f"{folder.name}.ned",))
     command = re.search(r"^    \./nedrun ((?:.*\\\n)*.*)$", page.read_text(), re.M)[1]
     words = [it for it in shlex.split(command.replace("\\\n", " ")) if not it.startswith("<")]
-    options = {"-c": "General", "-k": "1000", "-o": "results"}
+    options = {"-c": "General", "-k": "1000", "-o": "results", "-n": None}
     paths = []
     while words:
         word = words.pop(0)
@@ -57,6 +57,8 @@ def read_example(folder: pathlib.Path) -> Example:
             options[word] = words.pop(0)
         else:
             paths.append(TOP / word)
+    # (those below a folder come after those that are named)
+    paths += sorted((TOP / options["-n"]).rglob("*.ned")) if options["-n"] else []
     return Example(folder, options["-c"], int(options["-k"]), paths[0], tuple(paths[1:]))
 
 

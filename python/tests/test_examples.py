@@ -2,7 +2,7 @@
 kept with it."""
 from __future__ import annotations
 
-from conftest import TOP, Example
+from conftest import TOP, Example, example
 
 from soldrich import Edited, Refused, Run, Session
 from soldrich.results import Results
@@ -102,3 +102,28 @@ def test_a_first_run_by_hand():
         fault = session.run().fault
         assert (fault.event, fault.module, fault.name) == (10, "QueueingLine.queue", "Busy")
         assert "QueueingLine.queue" in session.last_run.explanation or session.last_run.explanation == ""
+
+
+def test_windows_over_a_line_that_loses_frames_by_hand():
+    """The page of lossy_line works out when the last frame is acknowledged: 8,000 bits are received until then."""
+    it = example("lossy_line")
+    round_trip, timeout = 31, 100
+    # the last news before f4 is sent again is at 72, and f7 goes when f5 is acknowledged; f6 is acknowledged 21 later
+    window_of_two = 72 + timeout + 10 + round_trip + 21 + timeout + round_trip
+    # in each of three rounds one is lost, and the frames before it are sent 10 ms apart
+    window_of_four = (30 + round_trip) + (timeout + round_trip) + (timeout + 10 + round_trip) + (timeout + round_trip)
+    ends = {1: 4 * round_trip + timeout + 4 * round_trip, 2: window_of_two, 4: window_of_four, 8: window_of_four}
+    with Session(it.ini, it.neds, "EachFifth") as session:
+        session.insert(23, "LossyLine.sender.window = 1")
+        for window, end in ends.items():
+            session.replace(23, f"LossyLine.sender.window = {window}")
+            assert goodput_of(session) == 8_000_000 // end, window
+        session.replace(21, 'LossyLine.losses.pattern = "-"')
+        assert goodput_of(session) == 8_000_000 // (70 + round_trip)
+        session.remove(23)
+        assert goodput_of(session) == 8_000_000 // (8 * round_trip)
+
+
+def goodput_of(session: Session) -> int:
+    assert session.run().outcome == "no-more-events"
+    return session.results().scalar("LossyLine.receiver", "goodput")

@@ -282,4 +282,4 @@ def test_results_that_are_not_there(tmp_path, capsys):
 
 
 def test_all_examples_are_tried():
-    assert len(EXAMPLES) >= 6
+    assert len(EXAMPLES) >= 10
