@@ -1,29 +1,28 @@
 """Networks and sessions that are made by chance, each of a number."""
+import pathlib
 import random
 import re
 
-STOCK = {
-    "Tick": """simple Tick { parameters: int count; double gap @unit(s) = default(1s); int priority = default(0);
-    int late = default(0); int extra = default(0);
-    @statistic[fired](record=%s); @statistic[extra](record=last,vector?); }""",
-    "Source": """simple Source { parameters: int count; int bits; double start @unit(s) = default(0s);
-    double gap @unit(s) = default(1s); gates: output out; }""",
-    "Queue": """simple Queue { parameters: int capacity = default(10); double service @unit(s) = default(1s);
-    @statistic[length](record=%s); @statistic[dropped](record=count); gates: input in; output out; }""",
-    "Sink": "simple Sink { parameters: @statistic[rx](record=%s); gates: input in; }",
-    "Router": "simple Router { parameters: @statistic[rx](record=%s); gates: inout port[]; }",
-}
+from protocols import SIGNALS, VALUES, Protocols
+
+# The declarations of the modules, as users have them, without the comments.
+DECLARED = pathlib.Path(__file__).resolve().parents[2] / "ned"
+STOCK = {it.stem: re.sub(r" *//[^\n]*", "", it.read_text(encoding="utf-8")) for it in DECLARED.glob("*.ned")}
 MODES = ["count", "sum", "min", "max", "last", "vector"]
 TIMES = ["0s", "1ps", "250ms", "300ms", "500ms", "1s", "1s", "1500ms", "2s"]
 
 
-class Maker:
+PARTS = [("cells",), ("cells",), ("flow",), ("flow",), ("mesh",), ("mesh",), ("cells", "flow"), ("flow", "mesh"), ("cells", "flow", "mesh"), ("parts",), ("parts", "flow")]
+PARTS += [("transfer",), ("transfer",), ("lan",), ("lan",), ("ring",), ("ring",), ("row",), ("row",), ("transfer", "lan"), ("cells", "ring"), ("mesh", "row")]
+
+
+class Maker(Protocols):
     """Makes the texts of one network, `ned` and `ini`, and command lines of a session."""
 
     def __init__(self, number):
         self.dice, self.types, self.subs, self.wires, self.routers, self.paths = random.Random(number), [], [], [], [], []
-        self.keys, self.made, self.files, self.selected = [], set(), {}, "General"
-        for part in self.dice.choice([("cells",), ("cells",), ("flow",), ("flow",), ("mesh",), ("mesh",), ("cells", "flow"), ("flow", "mesh"), ("cells", "flow", "mesh"), ("parts",), ("parts", "flow")]):
+        self.keys, self.made, self.files, self.selected, self.hears = [], set(), {}, "General", []
+        for part in self.dice.choice(PARTS):
             getattr(self, part)()
         self.write()
 
@@ -54,7 +53,7 @@ class Maker:
     def stock(self, name):
         if name not in self.made:
             self.made.add(name)
-            self.types.append(STOCK[name] % self.modes() if "%" in STOCK[name] else STOCK[name])
+            self.types.append(re.sub(r"record=[a-z,]+", lambda _: f"record={self.modes()}", STOCK[name]))
         return name
 
     def write(self):
@@ -76,7 +75,7 @@ class Maker:
 
     def statistics(self):
         text = ""
-        for name, signal in (("fired", "fired"), ("all", "fired"), ("rx", "rx"), ("waiting", "length")):
+        for name, signal in (("fired", "fired"), ("all", "fired"), ("rx", "rx"), ("waiting", "length"), ("lost", "dropped"), ("delay", "delay"), ("sent", "sent")):
             if self.likely(2):
                 text += f" @statistic[{name}]({'' if name == signal else f'source={signal};'}record={self.modes()});"
         return text
@@ -230,13 +229,15 @@ class Maker:
 
     # ---- ini lines
     def value(self, key):
-        whole = {"count": [0, 1, 2, 3, 5, 30], "bits": [1, 2, 8, 8, 1000], "priority": [-1, 0, 1], "capacity": [0, 1, 2]}
+        whole = {"count": [-1, 0, 1, 2, 3, 5, 30], "bits": [1, 2, 8, 8, 1000], "priority": [-1, 0, 1], "capacity": [0, 1, 2]}
         if key in ("gap", "start", "service", "delay", "g"):
             return self.one(*TIMES, "2 * 250ms", "1s + 500ms")
+        if key in VALUES:
+            return self.one(*VALUES[key], *(["default"] if self.likely(2) else []))
         if key == "typename":
             return self.one('"Fast"', '"Fast"', '"Group"', '"Named"', '"Tick"', "default")
-        if key in ("datarate", "disabled"):
-            return self.one("8bps", "1kbps", "0bps", "3bps", "7bps", "default") if key == "datarate" else self.one("true", "false", "false")
+        if key in ("datarate", "r", "disabled"):
+            return self.one("8bps", "1kbps", "0bps", "3bps", "7bps", "default") if key != "disabled" else self.one("true", "false", "false")
         return str(self.one(*whole.get(key, [0, 1, 2, 3]), *(["default"] if self.likely(2) else [])))
 
     def lines(self):
@@ -245,7 +246,8 @@ class Maker:
         self.dice.shuffle(made)
         if "typename" in self.keys and self.likely(9):
             made.append('**.typename = "Fast"')
-        ends = [f"**.{it} = {self.value(it).replace('default', '1')}" for it in ("count", "bits", "c") if it in self.keys and not self.dice.randrange(40) == 0]
+        ends = {"count": "1", "bits": "1", "c": "1"} | ({"table": '"0"', "datarate": "8bps"} if self.hears else {})
+        ends = [f"**.{it} = {self.value(it).replace('default', other)}" for it, other in ends.items() if it in self.keys and not self.dice.randrange(40) == 0]
         if self.likely(2):
             ends.append(f"sim-time-limit = {self.one('1s', '2s', '1500ms', '3s')}")
         return made + ends
@@ -256,13 +258,15 @@ class Maker:
 
     def recording(self):
         at = self.one("**", "**", "**", "N", "N.*", "N.c*", "**.t[0..1]", "N.n[1..]", "N.*[0].**", "**.u", "N.a.**")
-        name = self.one("*", "fired", "rx", "length", "all", "dropped", "*", "extra", "waiting")
+        name = self.one("*", "fired", "rx", "length", "all", "dropped", "*", "extra", "waiting", *(SIGNALS if self.hears else []))
         how = self.dice.randrange(4)
         if how == 0:
             items = [self.one("", "", "+", "-") + it for it in self.dice.sample(MODES, self.dice.randint(1, 4))]
             return f"{at}.{name}.result-recording-modes = {self.one('default', 'all', *[','.join(items)] * 3, 'default,' + items[0], '-max,+max')}"
         if how == 1:
             return f"{at}.{name}.statistic-recording = false"
+        if how == 2 and self.hears and self.likely(3):
+            return f"{at}.{self.one('goodput', 'receivedBits', '*')}.scalar-recording = {self.one('false', 'true')}"
         if how == 2:
             return f"{at}.{name}:{self.one('count', 'max', '*')}.scalar-recording = {self.one('false', 'true')}"
         return self.one(f"{at}.vector-recording = false", f"{at}.{name}:vector.vector-recording = {self.one('false', 'true')}")
@@ -273,7 +277,7 @@ class Maker:
         made, number, sent = [], self.general, 0
         for _ in range(self.dice.randint(1, 4)):
             how = self.dice.randrange(8)
-            if self.routers and how < 3:
+            if (self.routers or self.hears) and how < 3:
                 sent += 1
                 made.append(self.message())
             elif how == 3 and sent:
@@ -310,6 +314,9 @@ class Maker:
         return f"ned {number} {name}"
 
     def message(self):
+        if self.hears and (not self.routers or self.likely(5)):
+            kind, path = self.one(0, 0, 0, 1, 1, 2, -1), self.one(*self.hears)
+            return f"inject {path} {self.one(*TIMES)} {self.one(-1, 0, 0, 1)} {kind} {self.one(0, 8, 8, 1000, 2**63)} {self.frame()}"
         payload = bytes(self.dice.randrange(3) for _ in range(self.dice.randrange(5))).hex() or "-"
         path = self.one(*self.routers, *self.routers, "N.none")
         return f"inject {path} {self.one(*TIMES)} {self.one(-1, 0, 0, 1)} 0 {self.one(0, 8, 1000)} {payload}"

@@ -188,12 +188,12 @@ class Sender:
     def handle(call):
         base, next = call.state
         if call.starts:
-            count, start = call.read("count"), call.time("start")
+            count, start = size(call, "count"), call.time("start")
             return [("schedule", start, 0)] if 0 < count else [], (base, next)
         frame = Frame.of(call.message.payload) if call.message else None
         if call.message and not (call.comes("in") and call.message.kind == ACKNOWLEDGEMENT and frame and base < frame.number <= next):
             return [], (base, next)
-        count, bits, window, timeout = call.read("count"), size(call, "bits"), short(call, "window"), call.time("timeout")
+        count, bits, window, timeout = size(call, "count"), size(call, "bits"), short(call, "window"), call.time("timeout")
         address, destination = short(call, "address"), short(call, "destAddress")
 
         def sends(signal, begin, end):
