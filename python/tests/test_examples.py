@@ -2,9 +2,12 @@
 kept with it."""
 from __future__ import annotations
 
+import csv
+
 from conftest import TOP, Example, example
 
 from soldrich import Edited, Refused, Run, Session
+from soldrich.command_line import main
 from soldrich.results import Results
 
 
@@ -104,26 +107,23 @@ def test_a_first_run_by_hand():
         assert "QueueingLine.queue" in session.last_run.explanation or session.last_run.explanation == ""
 
 
-def test_windows_over_a_line_that_loses_frames_by_hand():
+def test_windows_over_a_line_that_loses_frames_by_hand(tmp_path):
     """The page of lossy_line works out when the last frame is acknowledged: 8,000 bits are received until then."""
-    it = example("lossy_line")
     round_trip, timeout = 31, 100
     # the last news before f4 is sent again is at 72, and f7 goes when f5 is acknowledged; f6 is acknowledged 21 later
     window_of_two = 72 + timeout + 10 + round_trip + 21 + timeout + round_trip
     # in each of three rounds one is lost, and the frames before it are sent 10 ms apart
     window_of_four = (30 + round_trip) + (timeout + round_trip) + (timeout + 10 + round_trip) + (timeout + round_trip)
-    ends = {1: 4 * round_trip + timeout + 4 * round_trip, 2: window_of_two, 4: window_of_four, 8: window_of_four}
-    with Session(it.ini, it.neds, "EachFifth") as session:
-        session.insert(23, "LossyLine.sender.window = 1")
-        for window, end in ends.items():
-            session.replace(23, f"LossyLine.sender.window = {window}")
-            assert goodput_of(session) == 8_000_000 // end, window
-        session.replace(21, 'LossyLine.losses.pattern = "-"')
-        assert goodput_of(session) == 8_000_000 // (70 + round_trip)
-        session.remove(23)
-        assert goodput_of(session) == 8_000_000 // (8 * round_trip)
-
-
-def goodput_of(session: Session) -> int:
-    assert session.run().outcome == "no-more-events"
-    return session.results().scalar("LossyLine.receiver", "goodput")
+    lossy = {1: 4 * round_trip + timeout + 4 * round_trip, 2: window_of_two, 4: window_of_four, 8: window_of_four}
+    lossless = {1: 8 * round_trip, 2: 3 * round_trip + 10 + round_trip, 4: 70 + round_trip, 8: 70 + round_trip}
+    table = tmp_path / "windows.csv"
+    assert main(["study", "--workers", "1", "-o", str(table), str(example("lossy_line").folder / "windows.toml")]) == 0
+    with table.open(encoding="utf-8") as it:
+        rows = list(csv.DictReader(it))
+    found = {(row["LossyLine.sender.window"], row["LossyLine.losses.pattern"]): int(row["value"]) for row in rows}
+    assert {row["outcome"] for row in rows} == {"no-more-events"}
+    assert found == {
+        (str(window), pattern): 8_000_000 // end
+        for pattern, ends in (('"----x"', lossy), ('"-"', lossless))
+        for window, end in ends.items()
+    }
