@@ -229,7 +229,7 @@ class Maker(Protocols):
 
     # ---- ini lines
     def value(self, key):
-        whole = {"count": [-1, 0, 1, 2, 3, 5, 30], "bits": [1, 2, 8, 8, 1000], "priority": [-1, 0, 1], "capacity": [0, 1, 2]}
+        whole = {"count": [0, 1, 2, 3, 5, 30] * 3 + [-1], "bits": [1, 2, 8, 8, 1000], "priority": [-1, 0, 1], "capacity": [0, 1, 2]}
         if key in ("gap", "start", "service", "delay", "g"):
             return self.one(*TIMES, "2 * 250ms", "1s + 500ms")
         if key in VALUES:
@@ -315,8 +315,7 @@ class Maker(Protocols):
 
     def message(self):
         if self.hears and (not self.routers or self.likely(5)):
-            kind, path = self.one(0, 0, 0, 1, 1, 2, -1), self.one(*self.hears)
-            return f"inject {path} {self.one(*TIMES)} {self.one(-1, 0, 0, 1)} {kind} {self.one(0, 8, 8, 1000, 2**63)} {self.frame()}"
+            return self.told(TIMES)
         payload = bytes(self.dice.randrange(3) for _ in range(self.dice.randrange(5))).hex() or "-"
         path = self.one(*self.routers, *self.routers, "N.none")
         return f"inject {path} {self.one(*TIMES)} {self.one(-1, 0, 0, 1)} 0 {self.one(0, 8, 1000)} {payload}"

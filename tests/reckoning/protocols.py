@@ -3,7 +3,7 @@ RATES = ["1kbps", "8bps", "8bps", "7bps", "3bps", "0bps"]
 DELAYS = ["0s", "250ms", "1s"]
 PATTERNS = ['""', '"x"', '"-x"', '"--x-"', '"----x"', '"x?-"']
 TABLES = ['"012"', '"10"', '"0-1"', '"21z"', '""', '"0011"', '"0a2"']
-ROUTES = ['""', '""', '"0"', '"1"', '"01"', '"z"', '"?"']
+ROUTES = ['""', '"0"', '"0"', '"00"', '"01"', '"0?"', '"z"', '"?"', '"?0"']
 VALUES = {
     "window": ["0", "1", "2", "3", "8", "600", "65536"],
     "timeout": ["0s", "250ms", "1s", "2s", "5s", "5s", "20s"],
@@ -19,7 +19,7 @@ VALUES = {
 }
 SIGNALS = ["sent", "resent", "acked", "rtt", "received", "discarded", "delay", "interval", "bits", "busy", "forwarded", "returned"]
 TIMES = [0, 250 * 10**9, 10**12, 3 * 10**12, 2**64 - 1]
-NUMBERS = [0, 0, 1, 1, 2, 3, 2**63, 2**64 - 1]
+NUMBERS = [0, 0, 1, 1, 2, 3, 4, 2**63, 2**64 - 1]
 
 
 class Protocols:
@@ -29,8 +29,14 @@ class Protocols:
         """A payload in hexadecimal digits: mostly a frame, perhaps behind ports or before more bytes, or cut short."""
         numbers = ((self.dice.randrange(4), 2), (self.dice.randrange(4), 2), (self.one(*TIMES), 8), (self.one(*NUMBERS), 8))
         made = b"".join(it.to_bytes(size, "big") for it, size in numbers)
-        made = bytes(self.dice.randrange(3) for _ in range(self.one(0, 0, 0, 0, 1, 2))) + made + bytes(self.one(0, 0, 0, 3))
-        return (made[: self.dice.randrange(21)] if self.likely(2) else made).hex() or "-"
+        made = bytes(self.dice.randrange(3) for _ in range(self.one(0, 0, 0, 0, 0, 0, 1, 2))) + made + bytes(self.one(0, 0, 0, 3))
+        return (made[: self.dice.randrange(21)] if self.likely(1) else made).hex() or "-"
+
+    def told(self, times):
+        """A message from outside to a module that hears frames: to a Sender mostly an acknowledgement."""
+        path = self.one(*self.hears)
+        kind = self.one(1, 1, 1, 1, 0) if path == "N.a" else self.one(0, 0, 0, 0, 1, 2, -1)
+        return f"inject {path} {self.one('0s', '0s', *times)} {self.one(-1, 0, 0, 1)} {kind} {self.one(0, 8, 8, 1000, 2**63)} {self.frame()}"
 
     def link(self, rate):
         """A channel of that rate, mostly, and its arrow; or nothing."""
@@ -40,9 +46,9 @@ class Protocols:
         disabled = "disabled = true; " if not self.dice.randrange(25) else ""
         return f" {{ {disabled}delay = {self.one(*DELAYS)}; datarate = {rate}; }} -->"
 
-    def body(self, *lines):
-        """Some of these lines, as the body of a submodule."""
-        chosen = [it for it in lines if self.likely(6)]
+    def body(self, *lines, always=""):
+        """Some of these lines, as the body of a submodule, and one that is always there."""
+        chosen = [it for it in lines if self.likely(6)] + [always] * bool(always)
         return f" {{ {' '.join(chosen)} }}" if chosen else ";"
 
     def way(self):
@@ -75,10 +81,19 @@ class Protocols:
     def transfer(self):
         self.stock("Sender")
         self.stock("Receiver")
-        self.subs.append("a: Sender" + self.body(f"window = {self.one('default(1)', 'default(2)', 'default(3)', '8', 'few')};", f"timeout = default({self.one('1s', '3s', '5s', '10s')});", "address = 1;"))
-        self.subs += [f"w: {self.way()};", "b: Receiver" + self.body(f"ackBits = {self.one('default(1)', '8', 'few')};"), f"u: {self.way()};"]
+        switched = self.likely(3)
+        window, timeout = self.one("default(1)", "default(2)", "default(3)", "8", "few"), self.one("1s", "3s", "5s", "10s")
+        sender = self.body(f"window = {window};", f"timeout = default({timeout});", always="destAddress = 1;" if switched else self.one("", "address = 1;"))
+        self.subs += [f"a: Sender{sender}", f"w: {self.way()};", "b: Receiver" + self.body(f"ackBits = {self.one('default(1)', '8', 'few')};"), f"u: {self.way()};"]
         wires = ["a.out --> w.in;", "w.out --> b.in;", "b.out --> u.in;", "u.out --> a.in;"]
-        if self.likely(2):
+        if switched:
+            # both are at a switch, which goes by their addresses
+            self.stock("Switch")
+            table = self.one('"01"', '"01"', '"01"', '"10"', '"011"')
+            self.subs.append(f"e: Switch {{ table = default({table}); }}")
+            wires = ["a.out --> w.in;", "w.out --> e.port$i++;", "e.port$o++ --> a.in;", "b.out --> u.in;", "u.out --> e.port$i++;", "e.port$o++ --> b.in;"]
+            self.hears.append("N.e")
+        elif self.likely(2):
             self.subs.pop()
             wires[2:] = [self.one("b.out --> a.in;", "b.out --> { delay = 250ms; } --> a.in;")]
         self.wires += wires
@@ -136,7 +151,7 @@ class Protocols:
         begin = "g.out"
         self.subs.append("g: Generator" + self.body(f"route = default({self.one(*ROUTES)});", f"gap = {self.one(*DELAYS)};", "destAddress = default(1);"))
         for at in range(self.dice.randint(0, 3)):
-            name, kind = f"x{at}", self.one("Dropper", "L2Queue", "Queue", "Way", "Router")
+            name, kind = f"x{at}", self.one("Dropper", "L2Queue", "Queue", "Way", "Router", "Router")
             if kind == "Router":
                 self.stock(kind)
                 self.subs.append(f"{name}: Router;")
@@ -149,6 +164,12 @@ class Protocols:
                 begin = f"{name}.out"
             self.hears.append(f"N.{name}")
         self.subs.append("m: Meter;")
+        if self.likely(3):
+            self.stock("Receiver")
+            self.subs.append("j: Receiver;")
+            self.wires.append(f"{begin} -->{self.link('8bps')} j.in;")
+            self.hears.append("N.j")
+            begin = "j.out"
         self.wires.append(f"{begin} -->{self.link('8bps')} m.in;")
         self.hears += ["N.m", "N.m"]
         self.keys += ["count", "bits", "start", "gap", "route", "pattern", "repeat", "capacity", "service", "datarate", "address"]
