@@ -1,5 +1,5 @@
-// Loses the messages that its pattern marks by `x`: the n-th character is for the n-th message. With
-// `repeat` the pattern begins anew behind its end, so that "----x" loses each fifth.
+// Loses the messages that its pattern marks by `x`: the n-th character is for the n-th message.
+// With `repeat` the pattern begins anew behind its end, so that "----x" loses each fifth.
 simple Dropper
 {
     parameters:

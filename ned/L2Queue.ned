@@ -3,8 +3,8 @@
 simple L2Queue
 {
     parameters:
-        int capacity = default(10);             // how many wait; the one on the line doesn't count
-        double datarate @unit(bps);             // of the channel behind `out`; 0: no message takes time
+        int capacity = default(10);             // how many wait, but for the one on the line
+        double datarate @unit(bps);             // of the channel behind `out`; 0: no time at all
         @display("i=block/queue");
         @signal[busy](type=long);               // 1 when the line is taken, 0 when it is free again
         @signal[length](type=long);             // how many wait, after a change

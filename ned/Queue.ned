@@ -2,7 +2,7 @@
 simple Queue
 {
     parameters:
-        int capacity = default(10);             // how many wait; the one that is served doesn't count
+        int capacity = default(10);             // how many wait, but for the one that is served
         double service @unit(s) = default(1s);
         @display("i=block/queue");
         @signal[length](type=long);             // how many are held, after a change
