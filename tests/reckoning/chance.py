@@ -274,15 +274,15 @@ class Maker(Protocols):
     # ---- a session
     def commands(self):
         """Command lines: edits, each with a run behind it."""
-        made, number, sent = [], self.general, 0
+        made, number, sent, held = [], self.general, 0, []
         for _ in range(self.dice.randint(1, 4)):
             how = self.dice.randrange(8)
             if (self.routers or self.hears) and how < 3:
                 sent += 1
+                held.append(sent)
                 made.append(self.message())
-            elif how == 3 and sent:
-                made.append(f"withdraw {sent}")
-                sent = 0
+            elif how == 3 and held:
+                made.append(f"withdraw {held.pop()}")
             elif how == 4 and self.wires:
                 made.append(self.wire())
             elif how == 6 and "[Config Fast]" in self.ini:
