@@ -1,5 +1,5 @@
-//! Tests of `event_set`, `module_stock`, `result_files` and scalars that modules record, apart from
-//! the crates that they test; and a module that joins gates, as an example.
+//! Tests of `event_set`, `module_stock`, `result_files`, scalars that modules record, and gates
+//! that modules join and free, apart from the crates that they test.
 #![tactic(auto)]
 
 #[cfg(test)]
@@ -11,3 +11,5 @@ mod modules;
 #[cfg(test)]
 mod scalars;
 pub mod wire;
+#[cfg(test)]
+mod wires;
