@@ -8,3 +8,4 @@ pub mod SteadyLemmas
 pub mod PlaceLemmas
 pub mod PlacedLemmas
 pub mod MatchedLemmas
+pub mod EndingLemmas

@@ -1,15 +1,17 @@
 -- Digits at the front of a text.
-use Rattle.std.proofs.Common.{◌≡◌, ℕ, ◌+◌, ◌-◌, ◌*◌, ◌^◌, ◌<◌, ◌≤◌, min, true, false, List, [], ◌∷◌, ◌++◌, length, append-nil, append_assoc, inl, inr, add-one, refl, sym, ◌∙◌, arith}
-use Rattle.std.specs.Char.{is_ascii_digit, digit_value}
+use Rattle.std.proofs.Common.{◌≡◌, ℕ, ◌+◌, ◌-◌, ◌*◌, ◌^◌, ◌<◌, ◌≤◌, min, true, false, List, [], ◌∷◌, ◌++◌, length, length-append, append-nil, append_assoc, inl, inr, add-one, refl, sym, ap, ◌∙◌, arith}
+use Rattle.std.specs.Char.{is_ascii_digit, digit_value, encode_utf8}
+use Rattle.std.specs.Str.{chars, IsUtf8}
 use Rattle.std.specs.Int.{IsInRange}
 use Rattle.std.specs.Str.Parse.{digits_value}
 use Rattle.std.proofs.lemmas.Bool.{cases_lt}
 use Rattle.std.proofs.lemmas.Bool.Decides.{nat_tests}
-use Rattle.std.proofs.lemmas.List.{length_push}
+use Rattle.std.proofs.lemmas.List.{length_push, same_from_push, nil_from_length}
+use Rattle.std.proofs.lemmas.Str.{chars-nil, chars_from_encodes, encodes-chars, encodes-append}
 use Rattle.std.proofs.lemmas.Int.Digits.{digits_value_push}
 use Rattle.std.proofs.Math.Nat.{pow-succ', pow-le-pow_right}
 use Rattle.ini_pattern.specs.PatternOf.{digits_front, after_digits}
-use Rattle.ini_pattern.specs.Reading.{IsReadingOf}
+use Rattle.ini_pattern.specs.Reading.{IsReadingOf, EndsNotWith}
 
 -- the digits that are read, and what is left
 pub record ReadSoFar (count value : ℕ) (text rest : List ℕ) : Type 0 where
@@ -92,3 +94,20 @@ no_digit c rest more e h = (rw (e, h) refl, rw (e, h) refl)
 
 pub no_more : (rest : List ℕ) → rest ≡ [] → (digits_front rest ≡ []) × (after_digits rest ≡ rest)
 no_more rest e = (rw e refl, rw e refl)
+
+-- the last character of a text
+pub chars_before : (bs front : List ℕ) (c : ℕ) → IsUtf8 bs → IsUtf8 front → bs ≡ front ++ encode_utf8 c → chars bs ≡ chars front ++ (c ∷ [])
+chars_before bs front c u v e =
+    sym (chars_from_encodes (chars front ++ (c ∷ [])) bs u (encodes-append (chars front) (c ∷ []) ∙ ap (λ l. l ++ (encode_utf8 c ++ [])) (encodes-chars front v) ∙ ap (λ l. front ++ l) (append-nil (encode_utf8 c)) ∙ sym e))
+
+pub ends_apart : (text front : List ℕ) (c d : ℕ) → text ≡ front ++ (c ∷ []) → (c ≡ d → ⊥) → EndsNotWith d text
+ends_apart text front c d e ne other f = ne (same_from_push front other c d (sym e ∙ f)).1
+
+nil_apart : (front : List ℕ) (c : ℕ) → [] ≡ front ++ (c ∷ []) → ⊥
+nil_apart front c e =
+    let lengths : 0 ≡ length (front ++ (c ∷ [])) = ap length e in
+    omega (arith, lengths, length-append front (c ∷ []))
+
+pub empty_apart : (bs : List ℕ) (d : ℕ) → length bs ≡ 0 → EndsNotWith d (chars bs)
+empty_apart bs d e front f =
+    nil_apart front d (sym (ap chars (nil_from_length bs e) ∙ chars-nil) ∙ f)

@@ -1,5 +1,5 @@
 -- What the steps of reading and matching give.
-use Rattle.std.specs.Prelude.{◌≡◌, ℕ, ◌≤◌, ◌==◌, nat_le, nat_lt, min, Bool, true, false, not, ◌&&◌}
+use Rattle.std.specs.Prelude.{◌≡◌, ◌≢◌, ℕ, ◌≤◌, ◌==◌, nat_le, nat_lt, min, Bool, true, false, not, ◌&&◌}
 use Rattle.std.specs.Prelude.{List, [], ◌∷◌, ◌++◌, length, Option, Some, None, option_and_then}
 use Rattle.std.specs.Prelude.{if◌then◌else◌}
 use Rattle.std.specs.Str.Parse.{digits_value}
@@ -75,6 +75,10 @@ left_by_all (piece ∷ pieces) name = option_and_then (left_by_all pieces) (left
 -- a text stands at the end of another
 abbrev pub EndsWith : List ℕ → List ℕ → Type 0
 EndsWith text end = (front : List ℕ) × (text ≡ front ++ end)
+
+-- a text does not end with this character
+abbrev pub EndsNotWith : ℕ → List ℕ → Type 0
+EndsNotWith c text = (front : List ℕ) → text ≢ front ++ (c ∷ [])
 
 -- what is left is to be nothing
 abbrev pub IsEnd : Bool → List ℕ → Type 0

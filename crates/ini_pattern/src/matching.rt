@@ -1,7 +1,7 @@
 //! Names against the pieces of a pattern; nothing is allocated.
 
 ghost use Rattle.std.specs.Prelude.{◌≡◌, ◌↔◌, [], ◌∷◌, ◌++◌, IsTrue, MatchOption, position, true};
-ghost use Rattle.std.specs.Prelude.{Some, None, option_and_then};
+ghost use Rattle.std.specs.Prelude.{Some, None, option_and_then, IfSome};
 ghost use Rattle.std.specs.List.{list_all};
 ghost use Rattle.std.specs.Option.{option_map};
 ghost use Rattle.std.specs.Str.{chars};
@@ -15,7 +15,7 @@ ghost use Rattle.ini_pattern.specs.Reading.{IsPastDot};
 
 use crate::piece::{CharRange, Piece};
 use crate::places::{placed_anywhere, placed_start};
-use crate::reading::{after_char, digit_run, first_char, is_long_run};
+use crate::reading::{after_char, before_char, digit_run, first_char, is_long_run};
 
 /// Whether a character is in one of the ranges.
 fn in_ranges(ranges: &[CharRange], c: char) -> bool
@@ -214,6 +214,26 @@ fn steady_rest<'a>(pieces: &[Piece], name: &'a str, to_end: bool) -> Option<&'a 
     star_rest(behind, begin, to_end)
 }
 
+/// Whether pieces match a name, where the characters that they end with tell it.
+fn matched_by_end(pieces: &[Piece], name: &str) -> Option<bool>
+    ensures { IfSome result (λ matched. IsTrue matched ↔ Matches pieces.now (chars name.now)) }
+{
+    let mut left = pieces;
+    let mut rest = name;
+    while let Some((Piece::Char(wanted), before)) = left.split_last() {
+        let Some(front) = before_char(rest, *wanted) else {
+            return Some(false);
+        };
+        left = before;
+        rest = front;
+    }
+    match left {
+        [] => Some(may_stop(rest, true)),
+        [Piece::AnyPath] => Some(true),
+        _ => None,
+    }
+}
+
 /// The longest rest that pieces can leave of a name, where the rest has to be nothing if they have
 /// to go to the end.
 fn longest_rest<'a>(pieces: &[Piece], name: &'a str, to_end: bool) -> Option<&'a str>
@@ -311,9 +331,9 @@ fn matches_end(pieces: &[Piece], name: &str) -> bool
     longest_anywhere(left, rest, true).is_some()
 }
 
-/// Whether pieces match a name. Only the last `**` is tried again: the pieces before it need not
-/// be, since they left the longest rest that they can.
-pub(crate) fn matches_pieces(pieces: &[Piece], name: &str) -> bool
+/// Whether pieces match a name, tried from its start. Only the last `**` is tried again: the pieces
+/// before it need not be, since they left the longest rest that they can.
+fn matches_from_start(pieces: &[Piece], name: &str) -> bool
     ensures { IsTrue result ↔ Matches pieces.now (chars name.now) }
 {
     let Some((front, back)) = around_path(pieces) else {
@@ -323,4 +343,15 @@ pub(crate) fn matches_pieces(pieces: &[Piece], name: &str) -> bool
         return false;
     };
     matches_end(back, rest)
+}
+
+/// Whether pieces match a name. Most patterns are `**` and a name, so that the characters at the
+/// end tell it.
+pub(crate) fn matches_pieces(pieces: &[Piece], name: &str) -> bool
+    ensures { IsTrue result ↔ Matches pieces.now (chars name.now) }
+{
+    match matched_by_end(pieces, name) {
+        Some(matched) => matched,
+        None => matches_from_start(pieces, name),
+    }
 }

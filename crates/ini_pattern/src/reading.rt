@@ -1,9 +1,10 @@
 //! Texts by their characters.
 
-ghost use Rattle.std.specs.Prelude.{◌≡◌, ◌↔◌, ◌<◌, [], ◌∷◌, length, IsTrue, MatchOption, false};
+ghost use Rattle.std.specs.Prelude.{◌≡◌, ◌↔◌, ◌<◌, [], ◌∷◌, ◌++◌, length, IsTrue, MatchOption};
+ghost use Rattle.std.specs.Prelude.{false};
 ghost use Rattle.std.specs.Str.{chars};
 ghost use Rattle.ini_pattern.specs.PatternOf.{begins_with, digits_front, after_digits};
-ghost use Rattle.ini_pattern.specs.Reading.{IsReadingOf};
+ghost use Rattle.ini_pattern.specs.Reading.{IsReadingOf, EndsNotWith};
 
 /// The first character of a text, and what follows it.
 pub(crate) fn first_char(text: &str) -> Option<(char, &str)>
@@ -13,6 +14,17 @@ pub(crate) fn first_char(text: &str) -> Option<(char, &str)>
     let mut characters = text.chars();
     let first = characters.next()?;
     Some((first, characters.as_str()))
+}
+
+/// What stands before this character, where a text ends with it.
+pub(crate) fn before_char(text: &str, wanted: char) -> Option<&str>
+    ensures { MatchOption result (EndsNotWith wanted (chars text.now))
+        (λ rest. chars text.now ≡ chars rest.now ++ (wanted ∷ [])) }
+{
+    let mut characters = text.chars();
+    let last = characters.next_back()?;
+    let rest = characters.as_str();
+    if last == wanted { Some(rest) } else { None }
 }
 
 /// Digits of a number.

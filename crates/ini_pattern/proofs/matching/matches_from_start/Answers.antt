@@ -1,6 +1,6 @@
 use Rattle.std.proofs.lemmas.Bool.{false≢true}
 use Rattle.ini_pattern.proofs.EndLemmas.{whole_step, whole_none}
-use Rattle.ini_pattern.proofs.matching.matches_pieces.Goals as goal
+use Rattle.ini_pattern.proofs.matching.matches_from_start.Goals as goal
 
 pub returns-in_default-longest_rest : goal.returns-in_default-longest_rest
 returns-in_default-longest_rest c = (
