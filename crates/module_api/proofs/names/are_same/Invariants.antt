@@ -1,10 +1,9 @@
-use Rattle.std.proofs.Common.{◌≡◌, length}
-use Rattle.std.specs.Str.{bytes_eq}
+use Rattle.std.proofs.Common.{◌≡◌, ◌↔◌, length}
 use Rattle.module_api.proofs.names.are_same.Given as goal
 
--- what is left decides
-abbrev pub invariant-bytes : goal.invariant-bytes
-invariant-bytes l = bytes_eq l.left l.right ≡ bytes_eq l.name l.other
+-- what is left is the same exactly where the names are
+abbrev pub invariant-words : goal.invariant-words
+invariant-words l = l.name ≡ l.other ↔ l.left ≡ l.right
 
-abbrev pub decreases-bytes : goal.decreases-bytes
-decreases-bytes l = length l.left
+abbrev pub decreases-words : goal.decreases-words
+decreases-words l = length l.left
