@@ -1,0 +1,6 @@
+pub mod Played
+pub mod Taken
+pub mod Lost
+pub mod Window
+pub mod Line
+pub mod Examples
