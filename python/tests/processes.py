@@ -12,7 +12,9 @@ from collections.abc import Sequence
 
 from conftest import ENVIRONMENT
 
-SECONDS = 60.0
+# How long a test waits for a process that it started. It is no measure: a busy machine may take minutes where an idle
+# one takes a second.
+SECONDS = 600.0
 
 
 class Started:

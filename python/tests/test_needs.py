@@ -27,7 +27,7 @@ def needs(folder: pathlib.Path, user: int, *words: str) -> subprocess.CompletedP
     put(folder, "id", f"echo {user}")
     environment = {**os.environ, "PATH": f"{folder}:{os.environ['PATH']}"}
     return subprocess.run(
-        [TOP / "tools/python_needs", *words], env=environment, capture_output=True, text=True, timeout=60
+        [TOP / "tools/python_needs", *words], env=environment, capture_output=True, text=True, timeout=600
     )
 
 
@@ -82,5 +82,5 @@ def test_another_user_is_told(stand_ins):
 
 
 def test_where_all_is_there_it_says_nothing():
-    tried = subprocess.run([TOP / "tools/python_needs", "--tests"], capture_output=True, text=True, timeout=60)
+    tried = subprocess.run([TOP / "tools/python_needs", "--tests"], capture_output=True, text=True, timeout=600)
     assert (tried.returncode, tried.stdout, tried.stderr) == (0, "", "")

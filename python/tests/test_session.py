@@ -273,7 +273,7 @@ def test_a_program_that_is_stopped(session):
     with pytest.raises(NoAnswer, match="run 5: no answer in 0.3 s"):
         session.run(5)
     # a process that is stopped takes no signal but the last
-    assert time.monotonic() - begun < 10
+    assert time.monotonic() - begun < 50
     assert not is_alive(session.pid)
 
 
@@ -306,7 +306,7 @@ def test_a_program_that_fails(tmp_path, script, error):
     with pytest.raises(error):
         with begin(program=stand_in(tmp_path, script), seconds=1.0) as session:
             session.run()
-    assert time.monotonic() - begun < 20
+    assert time.monotonic() - begun < 50
 
 
 def test_a_refusal_that_comes_late(tmp_path):

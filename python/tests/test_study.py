@@ -16,7 +16,7 @@ from collections.abc import Callable
 import pandas as pd
 import pytest
 from conftest import ENVIRONMENT, example, fresh_run
-from processes import Started, children_of
+from processes import SECONDS, Started, children_of
 
 from soldrich import Refused, StudyError
 from soldrich.command_line import main
@@ -113,7 +113,7 @@ def test_a_worker_that_is_killed(folder):
         worker = until_a_worker_runs(it.process.pid)
         os.kill(worker, signal.SIGKILL)
         assert "written to study.csv" in it.until("written to")
-        assert it.process.wait(60) == 0
+        assert it.process.wait(SECONDS) == 0
     table = read_study_table(folder / "study.csv")
     assert len(table.variants) == 80 and len(table.troubled) == 0
     ini, neds = LINE.ini.read_text(), [LINE.neds[0].read_text()]
@@ -129,7 +129,7 @@ def test_a_worker_that_is_killed(folder):
 
 def until_a_worker_runs(pid: int) -> int:
     """Waits until a worker has a program of its own, and returns the worker."""
-    end = time.monotonic() + 60
+    end = time.monotonic() + SECONDS
     while time.monotonic() < end:
         for worker in children_of(pid):
             if any(pathlib.Path(f"/proc/{it}/exe").resolve().name.startswith("nedrun") for it in children_of(worker)):
@@ -259,19 +259,27 @@ def test_a_scheduler_that_is_there(folder):
             started.append(
                 subprocess.Popen([sys.executable, "-W", "ignore", "-m", *command], env=ENVIRONMENT, **streams)
             )
-            until(file.exists)
-        address = json.loads(file.read_text())["address"]
+            until(lambda: address_in(file) is not None)
+        address = address_in(file)
         assert main(["study", "--scheduler", address, str(folder / "study.toml")]) == 0
     finally:
         for it in reversed(started):
             it.terminate()
-            it.wait(30)
+            it.wait(SECONDS)
     compare_with_fresh_runs(read_study_table(folder / "study.csv").frame, folder)
+
+
+def address_in(file: pathlib.Path) -> str | None:
+    """The address in a scheduler's file, or None while the file is not there or not yet written to its end."""
+    try:
+        return json.loads(file.read_text())["address"]
+    except (FileNotFoundError, json.JSONDecodeError):
+        return None
 
 
 def until(is_so: Callable[[], bool]) -> None:
     """Waits until something is so."""
-    end = time.monotonic() + 60
+    end = time.monotonic() + SECONDS
     while not is_so():
         assert time.monotonic() < end
         time.sleep(0.05)

@@ -67,7 +67,7 @@ class Tutorial:
                 self.watched = Started(command.split()[1:], self.folder)
                 continue
             ran = subprocess.run(
-                ["bash", "-c", command], cwd=self.folder, env=ENVIRONMENT, capture_output=True, text=True, timeout=120
+                ["bash", "-c", command], cwd=self.folder, env=ENVIRONMENT, capture_output=True, text=True, timeout=600
             )
             assert ran.returncode == 0, ran.stderr
             assert ran.stdout.splitlines() == wanted, command
