@@ -1,0 +1,4 @@
+//! Laws of the insides of compound modules.
+#![tactic(auto)]
+
+pub mod laws;
