@@ -132,16 +132,33 @@ fn tell_standing(told: &mut Explanation, path: &[u8], standing: PathEnd) {
     told.say(": as the model is now, the message is discarded");
 }
 
-/// What is said of a message to that path in a model of these files: that it is discarded, where no
-/// simple module stands there. Empty where one does, or the files make no model.
-pub fn discarded_line(alloc: Global, sources: &Sources<'_>, path: &[u8]) -> Result<Text, NoMemory> {
-    let mut told = Explanation::new(alloc);
-    let config = sources.config.as_bytes();
-    if let Ok(model) = model_of(alloc, sources.texts, sources.ini, config) {
-        let model = EvaluatedModel::new(alloc, model)?;
-        let answers = PlainAnswers::new(alloc, &model)?;
-        let standing = standing_at(alloc, &answers, shown(path))?;
-        tell_standing(&mut told, path, standing);
+/// The model in which messages arrive, with its values, which take the longest to find. Files that
+/// make no model have none.
+#[derive(Drop)]
+pub struct MessageModel {
+    model: Option<EvaluatedModel>,
+}
+
+impl MessageModel {
+    /// The model of these files.
+    pub fn new(alloc: Global, sources: &Sources<'_>) -> Result<MessageModel, NoMemory> {
+        let config = sources.config.as_bytes();
+        let model = match model_of(alloc, sources.texts, sources.ini, config) {
+            Ok(model) => Some(EvaluatedModel::new(alloc, model)?),
+            Err(_) => None,
+        };
+        Ok(MessageModel { model })
     }
-    told.said()
+
+    /// What is said of a message to that path: that it is discarded, where no simple module stands
+    /// there. Empty where one does, or the files make no model.
+    pub fn discarded_line(&self, alloc: Global, path: &[u8]) -> Result<Text, NoMemory> {
+        let mut told = Explanation::new(alloc);
+        if let Some(model) = &self.model {
+            let answers = PlainAnswers::new(alloc, model)?;
+            let standing = standing_at(alloc, &answers, shown(path))?;
+            tell_standing(&mut told, path, standing);
+        }
+        told.said()
+    }
 }

@@ -8,7 +8,7 @@ use crate::texts::SessionTexts;
 use crate::undoing::{Messages, Undo, undo_of, undo_of_ned};
 use desk_client::told::AnswerContent;
 use desk_commands::commands::{Command, command_of};
-use explain_files::messages::discarded_line;
+use explain_files::messages::MessageModel;
 use explain_files::runs::fault_line;
 use explain_types::explanation::Explanation;
 use explain_types::sources::Sources;
@@ -41,6 +41,8 @@ pub struct Notes {
     messages: Messages,
     /// The paths of messages that were looked at since the texts changed.
     looked_at: Vec<Text>,
+    /// The model in which they were looked at.
+    model: Option<MessageModel>,
 }
 
 /// Of how many paths of messages it is said that nobody stands there, between two changes of the
@@ -81,6 +83,7 @@ impl Notes {
             given: None,
             messages: Messages::new(alloc),
             looked_at: Vec::new(alloc),
+            model: None,
         }
     }
 
@@ -208,6 +211,7 @@ impl Notes {
     ) -> Result<(), NoMemory> {
         let read = self.read.take();
         self.looked_at.clear();
+        self.model = None;
         let texts = self.texts(alloc, sources)?;
         let undo = match (command, read) {
             (Command::Edit(edit), _) => {
@@ -295,6 +299,33 @@ impl Notes {
         self.looked_at.len() >= MOST_PATHS
     }
 
+    /// The model of the texts as they are.
+    fn new_model(&self, alloc: Global, sources: &Sources<'_>) -> Result<MessageModel, NoMemory> {
+        match &self.texts {
+            Some(texts) => {
+                let ini = bytes_of(alloc, &texts.ini)?;
+                MessageModel::new(alloc, &texts.sources(ini.as_slice()))
+            }
+            None => MessageModel::new(alloc, sources),
+        }
+    }
+
+    /// What is said of a message to that path, by the model that is kept, or else is made now.
+    fn discarded_line(
+        &mut self,
+        alloc: Global,
+        sources: &Sources<'_>,
+        path: &[u8],
+    ) -> Result<Text, NoMemory> {
+        if let Some(model) = &self.model {
+            return model.discarded_line(alloc, path);
+        }
+        let model = self.new_model(alloc, sources)?;
+        let line = model.discarded_line(alloc, path);
+        self.model = Some(model);
+        line
+    }
+
     /// That the message which was put in is discarded, where it is. It is said once for each path,
     /// until the texts change.
     fn why_discarded(&mut self, alloc: Global, sources: &Sources<'_>) -> Result<Text, NoMemory> {
@@ -304,13 +335,7 @@ impl Notes {
         if self.is_looked_at(&path) {
             return Ok(Text::empty(alloc));
         }
-        let line = match &self.texts {
-            Some(texts) => {
-                let ini = bytes_of(alloc, &texts.ini)?;
-                discarded_line(alloc, &texts.sources(ini.as_slice()), path.as_bytes())?
-            }
-            None => discarded_line(alloc, sources, path.as_bytes())?,
-        };
+        let line = self.discarded_line(alloc, sources, path.as_bytes())?;
         self.looked_at.push(path)?;
         Ok(line)
     }
