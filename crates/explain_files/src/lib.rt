@@ -6,6 +6,7 @@
 
 mod built;
 mod configurations;
+mod ends;
 mod foreign;
 mod given;
 mod ini_lines;
@@ -24,4 +25,5 @@ pub mod runs;
 mod sections;
 mod sites;
 mod syntax;
+mod unassigned;
 pub mod warnings;

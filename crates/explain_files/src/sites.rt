@@ -1,13 +1,19 @@
 //! Where the NED files say what is wrong with the inside of a compound module.
 
+use crate::ends::{
+    Around, Mistake, Written, mistake_in, taken_twice, tell_outside_of_vector, tell_taken,
+};
 use crate::given::entry_giving;
 use crate::insides::tell_inside;
 use crate::items::{Faulted, item_at_fault};
 use crate::lacking::{Lacking, lacking_gate};
 use crate::modules::{Declared, ToldFault, declared_at};
 use crate::reading::read_types;
+use crate::unassigned::{first_of_item, first_of_submodule, tell_valueless};
 use explain_types::bases::root_first;
-use explain_types::connections::{tell_place_of_gate, tell_place_of_item, tell_place_of_submodule};
+use explain_types::connections::{
+    say_place_of_connection, tell_place_of_gate, tell_place_of_item, tell_place_of_submodule,
+};
 use explain_types::explanation::Explanation;
 use explain_types::names::shown;
 use explain_types::ned_files::{Files, type_named};
@@ -16,12 +22,14 @@ use inside_keys::sizes::misplaced;
 use inside_parts::gates::gates_of;
 use model_answers::plain::PlainAnswers;
 use model_questions::record::path_under;
+use model_settings::standings::before_last;
 use ned_trees::declarations::{
     GateDeclaration, GateLine, GateSize, ParameterValue, SubmoduleType, TypeDeclaration, TypeKind,
 };
 use sim_values::NoMemory;
 use sim_values::model_fault::ModelFault;
 use sim_values::text::Text;
+use sim_values::value_fault::ValueFault;
 use std::alloc::Global;
 
 /// A type as the files declare it and all that it extends, the root first.
@@ -50,10 +58,21 @@ struct Case<'a> {
     fault: ModelFault,
 }
 
-/// Says where the connection stands with which the fault comes, of the module of that type, and
-/// whether there is one.
-fn tell_item(told: &mut Explanation, it: Case<'_>, of: &TypeDeclaration) -> Result<bool, NoMemory> {
-    let alloc = told.alloc();
+/// A connection with which the fault of a compound module comes.
+#[derive(Drop)]
+struct FaultyItem<'a> {
+    /// The module's type as the files declare it and all that it extends, the root first.
+    order: Vec<&'a TypeDeclaration>,
+    /// The number of the item, counted from 0 in the flat type.
+    number: usize,
+}
+
+/// The item of connections with which the fault comes, of the module of that type.
+fn faulty_item<'a>(
+    alloc: Global,
+    it: Case<'a>,
+    of: &TypeDeclaration,
+) -> Result<Option<FaultyItem<'a>>, NoMemory> {
     let order = order_of(alloc, it.files.types, of)?;
     let all = Faulted {
         model: it.answers.model(),
@@ -63,12 +82,74 @@ fn tell_item(told: &mut Explanation, it: Case<'_>, of: &TypeDeclaration) -> Resu
         fault: it.fault,
     };
     match item_at_fault(alloc, all)? {
-        Some(item) => {
-            tell_place_of_item(told, it.files, order.as_slice(), item);
-            Ok(true)
-        }
-        None => Ok(false),
+        Some(number) => Ok(Some(FaultyItem { order, number })),
+        None => Ok(None),
     }
+}
+
+/// The same, where the fault is one of a compound module.
+fn faulty_item_of<'a>(
+    alloc: Global,
+    it: Case<'a>,
+    of: Option<&TypeDeclaration>,
+) -> Result<Option<FaultyItem<'a>>, NoMemory> {
+    match of {
+        Some(of) if is_compound(of) => faulty_item(alloc, it, of),
+        _ => Ok(None),
+    }
+}
+
+/// Says where a connection of an item stands, and whose it is: `path:line: `, and the module.
+fn begin_connection(told: &mut Explanation, it: Case<'_>, faulty: &FaultyItem<'_>, line: usize) {
+    say_place_of_connection(told, it.files, faulty.order.as_slice(), faulty.number, line);
+    told.say(": ");
+    told.say_front(it.told.path.as_bytes());
+    told.say(": ");
+}
+
+/// Says what is wrong with a connection of an item that names a submodule or a gate which isn't
+/// there, and whether that is seen.
+fn tell_mistake(
+    told: &mut Explanation,
+    it: Case<'_>,
+    of: &TypeDeclaration,
+    faulty: &FaultyItem<'_>,
+) -> Result<bool, NoMemory> {
+    let Some(item) = of.connections.items.as_slice().get(faulty.number) else {
+        return Ok(false);
+    };
+    let around = Around {
+        answers: it.answers,
+        path: it.told.path.as_bytes(),
+        of,
+    };
+    let Some(mistake) = mistake_in(told.alloc(), around, item)? else {
+        return Ok(false);
+    };
+    let Mistake { line, words } = mistake;
+    begin_connection(told, it, faulty, line);
+    told.say(shown(words.as_bytes()));
+    Ok(true)
+}
+
+/// Says which gate a connection of an item takes that another one has already, and whether that is
+/// seen.
+fn tell_twice(
+    told: &mut Explanation,
+    it: Case<'_>,
+    of: &TypeDeclaration,
+    faulty: &FaultyItem<'_>,
+) -> bool {
+    let Some(taken) = taken_twice(of.connections.items.as_slice(), faulty.number) else {
+        return false;
+    };
+    begin_connection(told, it, faulty, taken.line);
+    tell_taken(told, taken.end);
+    told.say(", at ");
+    let Written { item, line } = taken.first;
+    say_place_of_connection(told, it.files, faulty.order.as_slice(), item, line);
+    told.say(": leave one of the two connections out, or let it take another gate");
+    true
 }
 
 /// Says where the submodule is declared.
@@ -89,15 +170,121 @@ fn tell_submodule(
 fn tell_place(
     told: &mut Explanation,
     it: Case<'_>,
-    of: Option<&TypeDeclaration>,
+    faulty: &Option<FaultyItem<'_>>,
     declared: Option<Declared<'_>>,
 ) -> Result<(), NoMemory> {
-    if let Some(of) = of {
-        if is_compound(of) && tell_item(told, it, of)? {
-            return Ok(());
+    match faulty {
+        Some(faulty) => {
+            tell_place_of_item(told, it.files, faulty.order.as_slice(), faulty.number);
+            Ok(())
         }
+        None => tell_submodule(told, it, declared),
     }
-    tell_submodule(told, it, declared)
+}
+
+/// Says which gate of an item's connection is outside of its vector, and whether that is seen.
+fn tell_outside(
+    told: &mut Explanation,
+    it: Case<'_>,
+    of: &TypeDeclaration,
+    faulty: &FaultyItem<'_>,
+) -> Result<bool, NoMemory> {
+    let Some(item) = of.connections.items.as_slice().get(faulty.number) else {
+        return Ok(false);
+    };
+    let mut words = Explanation::new(told.alloc());
+    if !tell_outside_of_vector(&mut words, item) {
+        return Ok(false);
+    }
+    let words = words.said()?;
+    begin_connection(told, it, faulty, 0);
+    told.say(shown(words.as_bytes()));
+    Ok(true)
+}
+
+/// Says which name has no value that an item refers to, and whether that is seen.
+fn tell_valueless_in(
+    told: &mut Explanation,
+    it: Case<'_>,
+    of: &TypeDeclaration,
+    faulty: &FaultyItem<'_>,
+) -> Result<bool, NoMemory> {
+    let Some(item) = of.connections.items.as_slice().get(faulty.number) else {
+        return Ok(false);
+    };
+    let around = Around {
+        answers: it.answers,
+        path: it.told.path.as_bytes(),
+        of,
+    };
+    let Some(found) = first_of_item(told.alloc(), around, item)? else {
+        return Ok(false);
+    };
+    begin_connection(told, it, faulty, 0);
+    tell_valueless(told, around, found);
+    Ok(true)
+}
+
+/// Says which name has no value that the condition or the size of the fault's submodule refers to,
+/// and whether that is seen.
+fn tell_valueless_of(
+    told: &mut Explanation,
+    it: Case<'_>,
+    declared: Option<Declared<'_>>,
+) -> Result<bool, NoMemory> {
+    let (Some(declared), Some(above)) = (declared, before_last(it.told.path.as_bytes())) else {
+        return Ok(false);
+    };
+    let around = Around {
+        answers: it.answers,
+        path: above,
+        of: declared.around,
+    };
+    let Some(found) = first_of_submodule(told.alloc(), around, declared.submodule)? else {
+        return Ok(false);
+    };
+    tell_submodule(told, it, Some(declared))?;
+    told.say_front(it.told.path.as_bytes());
+    told.say(": ");
+    tell_valueless(told, around, found);
+    Ok(true)
+}
+
+/// Says which name has no value, where that is the fault, and whether it is seen.
+fn tell_name(
+    told: &mut Explanation,
+    it: Case<'_>,
+    of: Option<&TypeDeclaration>,
+    faulty: &Option<FaultyItem<'_>>,
+    declared: Option<Declared<'_>>,
+) -> Result<bool, NoMemory> {
+    match (it.fault, of, faulty) {
+        (ModelFault::Value(ValueFault::Unassigned), Some(of), Some(faulty)) => {
+            tell_valueless_in(told, it, of, faulty)
+        }
+        (ModelFault::Value(ValueFault::Unassigned), _, None) => {
+            tell_valueless_of(told, it, declared)
+        }
+        _ => Ok(false),
+    }
+}
+
+/// Says what is wrong with a connection, where a submodule or a gate isn't there, or a gate is
+/// taken or outside of its vector, and whether that is seen.
+fn tell_connection(
+    told: &mut Explanation,
+    it: Case<'_>,
+    of: Option<&TypeDeclaration>,
+    faulty: &Option<FaultyItem<'_>>,
+) -> Result<bool, NoMemory> {
+    match (it.fault, of, faulty) {
+        (ModelFault::NoGate, Some(of), Some(faulty)) => tell_mistake(told, it, of, faulty),
+        (ModelFault::AlreadyConnected, Some(of), Some(faulty)) => {
+            Ok(tell_twice(told, it, of, faulty))
+        }
+        (ModelFault::GateSize, Some(of), Some(faulty)) => tell_outside(told, it, of, faulty),
+        _ => Ok(false),
+    }
 }
 
 /// Whether the line declares a vector of that name.
@@ -302,7 +489,11 @@ fn tell_case(
             return Ok(());
         }
     }
-    tell_place(told, it, of, declared)?;
+    let faulty = faulty_item_of(told.alloc(), it, of)?;
+    if tell_connection(told, it, of, &faulty)? || tell_name(told, it, of, &faulty, declared)? {
+        return Ok(());
+    }
+    tell_place(told, it, &faulty, declared)?;
     tell_inside(told, it.told.path, it.fault);
     match declared {
         Some(declared) if is_of_choice(it.fault) && is_open(declared) => tell_choice(told, it),

@@ -66,6 +66,13 @@ fn arrows_before(it: &TypeDeclaration, item: usize) -> Option<usize> {
     Some(arrows)
 }
 
+/// How many arrows stand before the connection of that number of the item of that number.
+fn arrows_before_line(it: &TypeDeclaration, item: usize, line: usize) -> Option<usize> {
+    let arrows = arrows_before(it, item)?;
+    let (_, within) = line_at(it.connections.items.as_slice().get(item)?, line)?;
+    Some(arrows.saturating_add(within))
+}
+
 /// The channel of the connection of that number of the item of that number.
 fn site_at(it: &TypeDeclaration, item: usize, line: usize) -> Option<Site<'_>> {
     let arrows = arrows_before(it, item)?;
@@ -83,8 +90,8 @@ fn flat_site<'a>(order: &[&'a TypeDeclaration], item: usize, line: usize) -> Opt
     site_at(origin.it, origin.at, line)
 }
 
-/// Says where a connection of the type stands that is after so many arrows: `path:line: `.
-fn begin_behind(told: &mut Explanation, files: &Files<'_>, it: &TypeDeclaration, arrows: usize) {
+/// Says where a connection of the type stands that is after so many arrows: `path:line`.
+fn say_behind(told: &mut Explanation, files: &Files<'_>, it: &TypeDeclaration, arrows: usize) {
     let spot = Spot {
         body: None,
         sign: Sign::Arrow,
@@ -92,6 +99,11 @@ fn begin_behind(told: &mut Explanation, files: &Files<'_>, it: &TypeDeclaration,
         behind: arrows,
     };
     files.tell_place(told, it, spot);
+}
+
+/// Says the same, and begins what is wrong with it: `path:line: `.
+fn begin_behind(told: &mut Explanation, files: &Files<'_>, it: &TypeDeclaration, arrows: usize) {
+    say_behind(told, files, it, arrows);
     told.say(": ");
 }
 
@@ -111,6 +123,22 @@ pub fn tell_place_of_item(
     if let Some(origin) = origin_of(order, Kind::Item, item) {
         if let Some(arrows) = arrows_before(origin.it, origin.at) {
             begin_behind(told, files, origin.it, arrows);
+        }
+    }
+}
+
+/// Says where the connection of that number of the item of that number stands, likewise, but no
+/// colon after it: `path:line`.
+pub fn say_place_of_connection(
+    told: &mut Explanation,
+    files: &Files<'_>,
+    order: &[&TypeDeclaration],
+    item: usize,
+    line: usize,
+) {
+    if let Some(origin) = origin_of(order, Kind::Item, item) {
+        if let Some(arrows) = arrows_before_line(origin.it, origin.at, line) {
+            say_behind(told, files, origin.it, arrows);
         }
     }
 }
