@@ -1,5 +1,5 @@
 pub mod Order
 pub mod Keys
 pub mod Sets
-pub mod Shown
 pub mod Slots
+pub mod Dropping

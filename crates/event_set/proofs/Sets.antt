@@ -86,7 +86,7 @@ number_is id timer other (Timer number kind) h =
 number_is id timer other (Arrival kind bits payload) h = absurd (no_and (other == id) h)
 number_is id timer other (Delivery delivery) h = absurd (no_and (other == id) h)
 
-abbrev id_in : ℕ → Option TimerKey → ℕ
+abbrev pub id_in : ℕ → Option TimerKey → ℕ
 id_in d None = d
 id_in d (Some t) = t.id
 

@@ -1,6 +1,6 @@
 -- The events to come, as callers see them.
-use Rattle.std.specs.Prelude.{ℕ, ℤ, ◌+◌, Bool, false, not, List, [], ◌∷◌, slice_get, unwrap_or}
-use Rattle.std.specs.Prelude.{if◌then◌else◌}
+use Rattle.std.specs.Prelude.{ℕ, ℤ, ◌+◌, ◌==◌, Bool, not, List, []}
+use Rattle.std.specs.List.{filter, list_any}
 use Rattle.event_set.specs.declared.pending.Happening.{Happening}
 use Rattle.event_set.specs.declared.pending.Pending.{Pending}
 use Rattle.event_set.specs.declared.set.Coming.{Coming}
@@ -40,18 +40,12 @@ coming_of p = record { time = p.time; priority = p.priority; id = p.id }
 abbrev pub with_list : List Pending → Events → Events
 with_list ps e = record { list = ps; next = e.next }
 
--- ---- events of dead modules
+-- ---- events of modules that are gone
 
--- whether the module of that id lives, by a list of what is so of each id
-abbrev pub is_live : List Bool → ℕ → Bool
-is_live live id = unwrap_or (slice_get live id) false
+-- whether it is one of these ids
+abbrev pub among : ℕ → List ℕ → Bool
+among id ids = list_any (λ n. n == id) ids
 
--- without the first events, as long as their modules are dead
-abbrev pub struck : List Bool → List Pending → List Pending
-struck live [] = []
-struck live (p ∷ ps) = if is_live live p.id then p ∷ ps else struck live ps
-
--- whether the first event is of a dead module
-abbrev pub begins_stale : List Bool → List Pending → Bool
-begins_stale live [] = false
-begins_stale live (p ∷ ps) = not (is_live live p.id)
+-- without all events of these modules
+abbrev pub without_modules : List ℕ → Events → Events
+without_modules ids e = with_list (filter (λ p. not (among p.id ids)) e.list) e

@@ -16,6 +16,7 @@ use Rattle.event_set.specs.declared.places.Key.{Key}
 use Rattle.event_set.specs.declared.places.TimerKey.{TimerKey}
 use Rattle.event_set.specs.declared.timers.First.{First}
 use Rattle.event_set.specs.declared.timers.First.TheVariants.{Free, Held}
+use Rattle.event_set.specs.Events.{among}
 use Rattle.event_set.specs.Order.{Each}
 
 abbrev pub key_order : Key → Key → Ordering
@@ -113,3 +114,7 @@ noted (Some t) k f q = cond (is_at (timer_order t) q) (Some k) (f q)
 abbrev pub forgotten : Option TimerKey → (TimerKey → Option Key) → TimerKey → Option Key
 forgotten None f q = f q
 forgotten (Some t) f q = cond (is_at (timer_order t) q) None (f q)
+
+-- where timers stand without those of these modules
+abbrev pub left_without : List ℕ → (TimerKey → Option Key) → TimerKey → Option Key
+left_without ids f q = cond (among q.id ids) None (f q)

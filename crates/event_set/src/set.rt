@@ -1,22 +1,23 @@
 //! The events to come, in a tree by their order.
 
-ghost use Rattle.std.specs.Prelude.{◌≡◌, ◌+◌, ◌^◌, ◌<◌, [], ◌∷◌, false, cond, OnOk, OnErr, IfOk};
+ghost use Rattle.std.specs.Prelude.{◌≡◌, ◌+◌, ◌^◌, ◌<◌, [], ◌∷◌, false, not, cond, OnOk, OnErr, IfOk};
 ghost use Rattle.std.specs.Prelude.{MatchOption, Some, slice_get};
 ghost use Rattle.std.specs.Option.{option_map};
 ghost use Rattle.event_set.specs.Order.{Each, AreInOrder};
 ghost use Rattle.event_set.specs.Timers.{has_timer, is_pending};
 ghost use Rattle.event_set.specs.Keys.{key_order, timer_in, at_key, place_at, noted, forgotten};
-ghost use Rattle.event_set.specs.Keys.{IsFree};
+ghost use Rattle.event_set.specs.Keys.{id_of, IsFree};
 ghost use Rattle.event_set.specs.declared.places.TimerKey.{TimerKey};
 ghost use Rattle.event_set.specs.declared.places.Key.{Key};
 ghost use Rattle.std.specs.BTreeMap.{is_at, insert_entry};
 ghost use Rattle.std.specs.List.Sorted.{IsStrictlySortedBy};
 ghost use Rattle.std.specs.Map.{keys_of};
-ghost use Rattle.event_set.specs.Events.{coming_of, is_live, begins_stale, struck};
+ghost use Rattle.event_set.specs.Events.{among, coming_of};
+ghost use Rattle.std.specs.List.{filter};
 
 use crate::entry::EventEntry;
 use crate::pending::{Happening, Pending};
-use crate::places::{Key, TimerKey};
+use crate::places::{Key, TimerKey, is_among};
 use crate::timers::Timers;
 use sim_time::SimTime;
 use sim_values::NoMemory;
@@ -67,7 +68,7 @@ impl Model for EventSet {
 }
 
 impl EventSet {
-    ghost use Rattle.event_set.specs.Events.{none, scheduled, cancelled, with_list};
+    ghost use Rattle.event_set.specs.Events.{none, scheduled, cancelled, with_list, without_modules};
 
     /// No events.
     pub fn new(alloc: Global) -> Self
@@ -182,33 +183,12 @@ impl EventSet {
         })
     }
 
-    /// Whether the first event is of a dead module.
-    fn begins_stale(&self, live: &[bool]) -> bool
-        ensures { result ≡ begins_stale live.now self.now.list }
+    /// Takes all events of these modules out. It takes a step for each event, and no memory.
+    pub fn drop_modules(&mut self, ids: &[u32])
+        ensures { self.new ≡ without_modules ids.now self.old }
     {
-        match self.first() {
-            Some(coming) => !is_live(live, coming.id),
-            None => false,
-        }
-    }
-
-    /// Strikes out the first events, as long as their modules are dead.
-    pub fn strike(&mut self, live: &[bool])
-        ensures { self.new ≡ with_list (struck live.now self.old.list) self.old }
-    {
-        while self.begins_stale(live) {
-            self.take_first();
-        }
-    }
-}
-
-/// Whether the module of that id lives.
-fn is_live(live: &[bool], id: u32) -> bool
-    ensures { result ≡ is_live live.now id }
-{
-    match live.get(id as usize) {
-        Some(lives) => *lives,
-        None => false,
+        keep_others(&mut self.events, ids);
+        self.timers.drop_modules(ids);
     }
 }
 
@@ -277,4 +257,13 @@ fn timer_in(id: u32, what: &Happening) -> Option<TimerKey>
         Happening::Timer(timer, _) => Some(TimerKey { id, timer: *timer }),
         Happening::Arrival(_, _, _) | Happening::Delivery(_) => None,
     }
+}
+
+/// Leaves the entries of all other modules.
+fn keep_others(events: &mut BTreeMap<Key, EventEntry>, ids: &[u32])
+    ensures entries { events.new.entries
+        ≡ filter (λ e. not (among (id_of e.1) ids.now)) events.old.entries }
+    ensures ordered { IsStrictlySortedBy key_order (keys_of events.new.entries) }
+{
+    events.retain(|_key, entry| !is_among(ids, entry.id()));
 }

@@ -1,12 +1,13 @@
 //! Where the timers stand that are pending.
 
-ghost use Rattle.std.specs.Prelude.{◌≡◌, ◌<◌, None, OnOk, OnErr, IfOk, if◌then◌else◌};
+ghost use Rattle.std.specs.Prelude.{◌≡◌, ◌==◌, ◌<◌, cond, None, OnOk, OnErr, IfOk, if◌then◌else◌};
 ghost use Rattle.std.specs.Vec.{vec_len};
-ghost use Rattle.event_set.specs.Keys.{first_at, place_at, noted, forgotten};
+ghost use Rattle.event_set.specs.Keys.{first_at, other_at, place_at, noted, forgotten};
+ghost use Rattle.event_set.specs.Keys.{left_without};
 ghost use Rattle.event_set.specs.declared.places.TimerKey.{TimerKey};
 ghost use Rattle.event_set.specs.declared.timers.First.TheVariants.{Held};
 
-use crate::places::{Key, TimerKey};
+use crate::places::{Key, TimerKey, is_among};
 use sim_time::SimTime;
 use std::alloc::{AllocError, Global};
 use std::collections::BTreeMap;
@@ -108,6 +109,15 @@ impl Timers {
         }
     }
 
+    /// Forgets all timers of these modules.
+    pub(crate) fn drop_modules(&mut self, ids: &[u32])
+        ensures { (t : TimerKey)
+            → place_at self.new t ≡ left_without ids.now (place_at self.old) t }
+    {
+        free_slots(&mut self.firsts, ids);
+        drop_others(&mut self.others, ids);
+    }
+
     /// The same timers at the same places.
     pub(crate) fn copy(&self, alloc: Global) -> Result<Timers, AllocError>
         ensures { IfOk result (λ copy. copy ≡ self.now) }
@@ -195,4 +205,33 @@ fn take_from_slot(firsts: &mut Vec<First>, timer: TimerKey) -> Option<Key>
     let key = found_in(firsts.as_slice(), timer)?;
     firsts[timer.id as usize] = First::Free;
     Some(key)
+}
+
+/// Frees the slots of these modules.
+fn free_slots(firsts: &mut Vec<First>, ids: &[u32])
+    ensures { (t : TimerKey) → first_at firsts.new.items t
+        ≡ left_without ids.now (first_at firsts.old.items) t }
+{
+    for id in ids {
+        free_slot(firsts, *id);
+    }
+}
+
+/// Frees the slot of that module.
+fn free_slot(firsts: &mut Vec<First>, id: u32)
+    ensures { (t : TimerKey) → first_at firsts.new.items t
+        ≡ cond (id == t.id) None (first_at firsts.old.items t) }
+{
+    let place = id as usize;
+    if place < firsts.len() {
+        firsts[place] = First::Free;
+    }
+}
+
+/// Leaves the timers of all other modules in the tree.
+fn drop_others(others: &mut BTreeMap<TimerKey, Key>, ids: &[u32])
+    ensures { (t : TimerKey) → other_at others.new.entries t
+        ≡ left_without ids.now (other_at others.old.entries) t }
+{
+    others.retain(|timer, _place| !is_among(ids, timer.id));
 }

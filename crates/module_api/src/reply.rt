@@ -95,6 +95,9 @@ pub enum Action {
     ScheduleAfter(Schedule),
     /// Takes back the timer of that number, if it is pending.
     Cancel(u32),
+    /// Deletes the module of that path with all that is inside of it. If that is wanted, those of
+    /// its modules that were started are finished first.
+    Delete(Text, bool),
     /// Joins an output gate to an input gate, both of which are free, over a channel or none.
     Connect(GatePlace, GatePlace, Option<Link>),
     /// Frees an output gate.

@@ -5,23 +5,20 @@ use Rattle.std.specs.List.{filter}
 use Rattle.event_set.proofs.Order.{each_append}
 use Rattle.model_questions.specs.declared.record.Record.{Record}
 use Rattle.model_questions.specs.Records.{record_at}
+use Rattle.run_semantics.specs.Deleting.{to_finish_in}
 use Rattle.run_semantics.specs.Ending.{to_finish}
 use Rattle.run_semantics.specs.Laws.{Each, IsAmong}
 use Rattle.run_semantics.specs.Subtree.{among, common, each_of, inner_first, inner_first_to, is_under, outer_first, outer_first_to, submodules}
 use Rattle.run_semantics.specs.World.{World, live_of}
 use Rattle.nested_starts.specs.Apart.{AreApart}
 use Rattle.nested_starts.proofs.Orders.{among_parts}
+use Rattle.nested_starts.proofs.Within.{each_there}
 
 -- ---- lists
 
-each_from : (P : ℕ → Type 0) (xs : List ℕ) → ((x : ℕ) → IsAmong x xs → P x) → Each P xs
+pub each_from : (P : ℕ → Type 0) (xs : List ℕ) → ((x : ℕ) → IsAmong x xs → P x) → Each P xs
 each_from P [] h = tt
 each_from P (x ∷ xs) h = (h x (inl refl), each_from P xs (λ y i. h y (inr i)))
-
-pub each_there : (P : ℕ → Type 0) (x : ℕ) (xs : List ℕ) → Each P xs → IsAmong x xs → P x
-each_there P x [] h i = absurd i
-each_there P x (y ∷ ys) h (inl e) = subst P e h.0
-each_there P x (y ∷ ys) h (inr i) = each_there P x ys h.1 i
 
 pub apart_append : (xs ys : List ℕ) → AreApart xs → AreApart ys → ((x : ℕ) → IsAmong x xs → IsAmong x ys → ⊥) → AreApart (xs ++ ys)
 apart_append [] ys f g h = g
@@ -38,7 +35,7 @@ each_kept P f (x ∷ xs) h = by (f x) (each_kept P f xs h.1)
     by true later = (h.0, later)
     by false later = later
 
-kept_apart : (f : ℕ → Bool) (xs : List ℕ) → AreApart xs → AreApart (filter f xs)
+pub kept_apart : (f : ℕ → Bool) (xs : List ℕ) → AreApart xs → AreApart (filter f xs)
 kept_apart f [] h = tt
 kept_apart f (x ∷ xs) h = by (f x) (kept_apart f xs h.1)
   where
@@ -46,7 +43,7 @@ kept_apart f (x ∷ xs) h = by (f x) (kept_apart f xs h.1)
     by true later = (each_kept (λ y. y ≢ x) f xs h.0, later)
     by false later = later
 
-kept_is : (f : ℕ → Bool) (x : ℕ) (xs : List ℕ) → IsAmong x (filter f xs) → f x ≡ true
+pub kept_is : (f : ℕ → Bool) (x : ℕ) (xs : List ℕ) → IsAmong x (filter f xs) → f x ≡ true
 kept_is f x [] h = absurd h
 kept_is f x (y ∷ ys) h = by (f y) refl h (kept_is f x ys)
   where
@@ -95,12 +92,12 @@ lone {below} {around} t id c e x k j f g here there = ⊎_elim (λ (l : k < j). 
 
 -- ---- what a list of subtrees is made of
 
-record IsFrom (part : ℕ → List ℕ) (x : ℕ) (cs : List ℕ) : Type 0 where
-  one : ℕ
-  there : IsAmong one cs
-  within : IsAmong x (part one)
+pub record IsFrom (part : ℕ → List ℕ) (x : ℕ) (cs : List ℕ) : Type 0 where
+  pub one : ℕ
+  pub there : IsAmong one cs
+  pub within : IsAmong x (part one)
 
-from_each : (part : ℕ → List ℕ) (x : ℕ) (cs : List ℕ) → IsAmong x (each_of part cs) → IsFrom part x cs
+pub from_each : (part : ℕ → List ℕ) (x : ℕ) (cs : List ℕ) → IsAmong x (each_of part cs) → IsFrom part x cs
 from_each part x [] h = absurd h
 from_each part x (c ∷ cs) h = by (among_parts x (part c) (each_of part cs) h) (from_each part x cs)
   where
@@ -220,6 +217,10 @@ tree rs ids h g = record {
 pub called_once : (w : World) → AreOnce w.records (live_of w) → AreApart (outer_first w.records (live_of w) 1)
 unfolding outer_first
 called_once w h = outer_apart (tree w.records (live_of w) h.behind h.apart) 33 1
+
+pub deleted_once : (w : World) (id : ℕ) → AreOnce w.records (live_of w) → AreApart (to_finish_in id w)
+unfolding inner_first
+deleted_once w id h = kept_apart (λ n. among n w.started) (inner_first_to 33 (submodules w.records (live_of w)) id) (inner_apart (tree w.records (live_of w) h.behind h.apart) 33 id)
 
 pub finished_once : (w : World) → AreOnce w.records (live_of w) → AreApart (to_finish w)
 unfolding inner_first

@@ -16,7 +16,7 @@ use Rattle.run_semantics.specs.Perform.{Flow, ◌>>=◌, for_each}
 use Rattle.run_semantics.specs.Run.{built, compounds_from, inside_of, most_nested, room_in, set_up, unless_many, world_at, after}
 use Rattle.run_semantics.proofs.Setting.{Stays}
 use Rattle.nested_starts.specs.Levels.{ParentIs, IsWithin, EndsNesting}
-use Rattle.nested_starts.proofs.Kept.{all_of, kept_after}
+use Rattle.nested_starts.proofs.Kept.{all_of, kept_within}
 use Rattle.nested_starts.proofs.Levels.{Builds, Nests, SetsUp, asked_builds, asked_nests, built_builds, builds_same, root_builds}
 
 -- ---- the line of a module, by how far down it stands
@@ -102,4 +102,4 @@ unfolding most_nested
 most_ends m ends = ends_builds 32 1 m ends (omega arith)
 
 pub nested_after : (b : Behaviour) (m : Answers) → EndsNesting m → (n : ℕ) → let w = world_at (after b m n) in Each (IsWithin w.records (live_of w) 32) (live_of w)
-nested_after b m ends n = kept_after (λ records live. Each (IsWithin records live 32) live) b m (root_builds 32 m (answer_of m [] Root) (most_ends m ends) (omega arith)) n
+nested_after b m ends n = kept_within b m 32 (omega arith) (root_builds 32 m (answer_of m [] Root) (most_ends m ends) (omega arith)) n

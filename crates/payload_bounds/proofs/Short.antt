@@ -15,6 +15,7 @@ use Rattle.run_semantics.specs.Event.{message_of}
 use Rattle.run_semantics.specs.Run.{world_at, after}
 use Rattle.run_semantics.specs.Upcoming.{first_due, delivered, target_of, Upcoming, Comes, Nothing, first_of, aimed, chosen, upcoming_in, upcoming}
 use Rattle.run_semantics.specs.World.{World, asked_next}
+use Rattle.run_semantics.proofs.Alive.{each_filter}
 use Rattle.run_semantics.proofs.Always.{LastsAlways, always}
 use Rattle.run_semantics.proofs.Lasting.{Lasts, LastsAtFirst}
 use Rattle.payload_bounds.specs.Bounds.{AreShort, BringShort, IsShort}
@@ -78,6 +79,8 @@ short_lasts b = record {
   joined = λ gate to w f g h. h;
   ended = λ w f g h. h;
   called = λ m id reason i w e f g h. h;
+  finished = λ id w f g h. h;
+  gone = λ target w live f g h. each_filter (λ (p : Pending). IsShort (message_of p).payload) (λ (p : Pending). IsShort (message_of p).payload) _ w.pending (λ p k e. k) h;
 }
 
 short_first : (b : Behaviour) → LastsAtFirst b Short

@@ -27,7 +27,7 @@ use Rattle.channels.specs.Travel.{travel}
 use Rattle.sim_time.specs.Time.{time_sum}
 use Rattle.module_api.specs.declared.message.Outgoing.{Outgoing}
 use Rattle.module_api.specs.declared.reply.Action.{Action}
-use Rattle.module_api.specs.declared.reply.Action.TheVariants.{Emit, RecordScalar, Send, SendDelayed, SendDirect, ScheduleAt, ScheduleAfter, Cancel, Connect, Disconnect, End, Fail}
+use Rattle.module_api.specs.declared.reply.Action.TheVariants.{Emit, RecordScalar, Send, SendDelayed, SendDirect, ScheduleAt, ScheduleAfter, Cancel, Delete, Connect, Disconnect, End, Fail}
 use Rattle.module_api.specs.declared.reply.Flight.{Flight}
 use Rattle.module_api.specs.declared.reply.GatePlace.{GatePlace}
 use Rattle.module_api.specs.declared.reply.OwnGate.{OwnGate}
@@ -50,6 +50,7 @@ use Rattle.run_semantics.specs.World.{World, asked, empty, is_asked, is_live, no
 use Rattle.run_semantics.specs.Perform.{Flow, On, Stopped, Broken, ◌>>=◌, deed, perform, act, act_all, hop_after, next_hop, past_last, with_hop, after_hop, chain, most_hops, travelled, sent_over, sent_through, sent, entering, flight_end, entered, sent_into, sent_to, asking, broken, ask_all, for_each, is_allowed, question_of, acted, first_fault, fault_of_read, read_fault, unless_fault, call_module}
 use Rattle.run_semantics.specs.Calls.{call_of, instance_in, changed, replied, called}
 use Rattle.run_semantics.specs.Finishing.{call_last, with_finished, marked, finish, finish_all}
+use Rattle.run_semantics.specs.Deleting.{subtree_of, to_finish_in, finished_first, gone, subtree_dropped, deleted_at}
 use Rattle.run_semantics.specs.Joining.{gate_at, channel_by, joined, joined_free, joined_into, joined_from, joined_to, joined_at, freed, freed_from, freed_at}
 use Rattle.run_semantics.specs.Event.{message_of}
 use Rattle.run_semantics.specs.Subtree.{among, outer_first}
@@ -58,7 +59,7 @@ use Rattle.run_semantics.proofs.Alive.{live_last, live_within}
 use Rattle.run_semantics.proofs.Flows.{in_flow}
 use Rattle.run_semantics.proofs.Growth.{AllAbout, Fits, fits_beside, found_live, fits_changed, fits_more, fits_placed, nested_last, IsGrown, grown_same, grown_on, grown_beside, fits_empty, longer, rooted_grows, created_grows, then_grows, asked_grows}
 use Rattle.run_semantics.proofs.Grows.{growth_lasts_on, deed_grows, start_grows}
-use Rattle.run_semantics.proofs.Lasting.{AreLive, Ends, LiveTo, deed_ends, if_live_to, module_live, perform_ends, unstarted_live, unstarted_new}
+use Rattle.run_semantics.proofs.Lasting.{AreLive, Ends, LiveTo, deed_ends, fits_without, if_live_to, module_live, perform_ends, unstarted_live, unstarted_new}
 use Rattle.run_semantics.proofs.Setting.{AreUpTo, compounds_within, length_created}
 
 -- ---- agreement on fewer questions
@@ -525,12 +526,44 @@ called_same b law m n o id does other h p w (Some i) f e =
           ∙ ap (λ (x : Replied). replied (followed n other o id) id x w) (sym reply);
     }
 
+-- ---- modules that are deleted
+
 -- a deed is the same in all models
 deeds_alike : (b : Behaviour) (m n : Answers) (id : ℕ) → ActAlike m n id (deed id) (deed id)
 deeds_alike b m n id = record {
   same = λ action w f l. does_itself m n w (deed id action w) (deed_grows b m id action w l f);
   live = λ action w small f l. lives_on b m w id (deed id action w) (deed_ends b (IsGrown w) (growth_lasts_on b w) m (id ∷ []) id action w l ((f, grown_same w f), (l, tt)));
 }
+
+finish_same : (b : Behaviour) → IsLawful b → (m n : Answers) (id : ℕ) (w : World) → Fits w → DoesSame m n w (finish b m occasion.Deletion id w) (finish b n occasion.Deletion id w)
+finish_same b law m n id w f =
+    does_then m n w (call_last b m occasion.Deletion id w) (call_last b n occasion.Deletion id w) (marked id) (marked id)
+    (called_same b law m n occasion.Deletion id (deed id) (deed id) (deeds_alike b m n id) prompt.Finish w (instance_in id w.modules) f refl)
+    (λ v g. does_itself m n v (marked id v) (beside_grows v (with_finished id v) g refl refl refl refl refl))
+
+finish_all_same : (b : Behaviour) → IsLawful b → (m n : Answers) (ids : List ℕ) (w : World) → Fits w → DoesSame m n w (finish_all b m occasion.Deletion ids w) (finish_all b n occasion.Deletion ids w)
+finish_all_same b law m n [] w f = does_itself m n w (On w) (grown_same w f)
+finish_all_same b law m n (id ∷ ids) w f =
+    does_then m n w (finish b m occasion.Deletion id w) (finish b n occasion.Deletion id w) (for_each (finish b m occasion.Deletion) ids) (for_each (finish b n occasion.Deletion) ids) (finish_same b law m n id w f) (finish_all_same b law m n ids)
+
+first_same : (b : Behaviour) → IsLawful b → (m n : Answers) (finish : Bool) (target : ℕ) (w : World) → Fits w → DoesSame m n w (finished_first b m finish target w) (finished_first b n finish target w)
+first_same b law m n true target w f = finish_all_same b law m n (to_finish_in target w) w f
+first_same b law m n false target w f = does_itself m n w (On w) (grown_same w f)
+
+dropped_same : (b : Behaviour) (m n : Answers) (id target : ℕ) (w : World) → Fits w → DoesSame m n w (subtree_dropped id target w) (subtree_dropped id target w)
+dropped_same b m n id target w f =
+    let gone_grows : IsGrown w (gone (subtree_of target w) w) = grown_beside w _ (fits_without target w f) refl refl refl in
+    does_itself m n w (subtree_dropped id target w) (by (among id (subtree_of target w)) gone_grows)
+  where
+    by : (t : Bool) → IsGrown w (gone (subtree_of target w) w) → IsGrown w (in_flow (if t then Stopped (gone (subtree_of target w) w) else On (gone (subtree_of target w) w)))
+    by true g = g
+    by false g = g
+
+deleted_same : (b : Behaviour) → IsLawful b → (m n : Answers) (id : ℕ) (finish : Bool) (w : World) (found : Option ℕ) → Fits w → DoesSame m n w (deleted_at b m id finish w found) (deleted_at b n id finish w found)
+deleted_same b law m n id finish w None f = does_itself m n w (broken id fault.NoModule w) (grown_same w f)
+deleted_same b law m n id finish w (Some target) f =
+    either_does m n w (target == 1) _ _ _ _ (does_itself m n w (broken id fault.NoModule w) (grown_same w f))
+    (does_then m n w (finished_first b m finish target w) (finished_first b n finish target w) (subtree_dropped id target) (subtree_dropped id target) (first_same b law m n finish target w f) (dropped_same b m n id target))
 
 -- ---- actions: one line for each
 
@@ -543,6 +576,7 @@ perform_same b law m n id (SendDirect place message flight) w f l = to_same m n 
 perform_same b law m n id (ScheduleAt a) w f l = (deeds_alike b m n id).same (ScheduleAt a) w f l
 perform_same b law m n id (ScheduleAfter s) w f l = (deeds_alike b m n id).same (ScheduleAfter s) w f l
 perform_same b law m n id (Cancel timer) w f l = (deeds_alike b m n id).same (Cancel timer) w f l
+perform_same b law m n id (Delete path finish) w f l = deleted_same b law m n id finish w (module_at path w) f
 perform_same b law m n id (Connect from to link) w f l = connected_same m n id from to link w (module_at from.path w) refl f
 perform_same b law m n id (Disconnect place) w f l = disconnected_same m n id place w (module_at place.path w) refl f
 perform_same b law m n id End w f l = (deeds_alike b m n id).same End w f l

@@ -5,6 +5,7 @@ use Rattle.model_questions.specs.declared.record.Record.{Record}
 use Rattle.run_semantics.specs.Laws.{Each}
 use Rattle.run_semantics.specs.Subtree.{among, ids_from}
 use Rattle.run_semantics.specs.World.{World, is_live, live_of}
+use Rattle.run_semantics.specs.Deleting.{gone}
 
 -- ---- truth values
 
@@ -130,6 +131,14 @@ live_last w v r records dead h =
     ∙ and_of (among (suc (length w.records)) (ids_from 1 v.records)) (not (among (suc (length w.records)) v.dead))
     (ap (λ (rs : List Record). among (suc (length w.records)) (ids_from 1 rs)) records ∙ (let same : 1 + length w.records ≡ suc (length w.records) = omega arith in subst (λ k. among k (ids_from 1 (w.records ++ r ∷ [])) ≡ true) same (last_there 1 w.records r)))
     (ap (λ ids. not (among (suc (length w.records)) ids)) dead ∙ so_not _ (above_none (suc (length w.records)) (length w.records) w.dead (omega arith) h))
+
+-- one that is not deleted lives on
+pub live_gone : (w : World) (ids : List ℕ) (k : ℕ) → is_live w k ≡ true → among k ids ≡ false → is_live (gone ids w) k ≡ true
+live_gone w ids k e n =
+    let h = and_both (among k (ids_from 1 w.records)) (not (among k w.dead)) (sym (live_is w k) ∙ e) in
+    live_is (gone ids w) k
+    ∙ and_of (among k (ids_from 1 w.records)) (not (among k (w.dead ++ ids))) h.0
+    (so_not (among k (w.dead ++ ids)) (among_append k w.dead ids ∙ or_neither (among k w.dead) (among k ids) (not_so (among k w.dead) h.1) n))
 
 -- those that pass a test among those that live
 pub live_of_filter : (w : World) (f : ℕ → Bool) (k : ℕ) → among k (filter f (live_of w)) ≡ true → is_live w k ≡ true

@@ -7,10 +7,11 @@ use Rattle.module_api.specs.Behaviour.{Behaviour}
 use Rattle.model_questions.specs.Answers.{Answers}
 use Rattle.model_questions.specs.declared.record.Record.{Record}
 use Rattle.run_semantics.specs.World.{World, live_of}
+use Rattle.run_semantics.specs.Deleting.{gone, subtree_of}
 use Rattle.run_semantics.specs.Event.{begun}
 use Rattle.run_semantics.specs.Run.{record_under, room_in, with_submodules, world_at, after}
 use Rattle.run_semantics.specs.Laws.{Each, IsBounded}
-use Rattle.run_semantics.specs.Subtree.{among, ids_from}
+use Rattle.run_semantics.specs.Subtree.{among, ids_from, stands_in}
 use Rattle.run_semantics.proofs.Alive.{above_none, among_append, among_filter, each_among}
 use Rattle.run_semantics.proofs.Always.{LastsAlways, always}
 use Rattle.run_semantics.proofs.Lasting.{Lasts, LastsAtFirst}
@@ -53,6 +54,29 @@ more_live w v more within records dead =
     ∙ (filter_append f (ids_from 1 w.records) next ∙ ap (λ ids. live_of w ++ ids) kept)) in
     omega (arith, ap (λ (ids : List ℕ). length ids) whole, length-append (live_of w) next, length_ids (1 + length w.records) more)
 
+split : (q : ℕ → Bool) (xs : List ℕ) → length (filter q xs) + length (filter (λ k. not (q k)) xs) ≡ length xs
+split q [] = refl
+split q (x ∷ xs) = by (q x) (split q xs)
+  where
+    by : (t : Bool) → length (filter q xs) + length (filter (λ k. not (q k)) xs) ≡ length xs → length (cond t (x ∷ filter q xs) (filter q xs)) + length (cond (not t) (x ∷ filter (λ k. not (q k)) xs) (filter (λ k. not (q k)) xs)) ≡ suc (length xs)
+    by true e = omega (arith, e)
+    by false e = omega (arith, e)
+
+neither : (d i : Bool) → not (d || i) ≡ (not d && not i)
+neither true i = refl
+neither false i = refl
+
+-- those that are deleted are no more among them
+fewer_live : (w : World) (q : ℕ → Bool) → length (live_of (gone (filter q (live_of w)) w)) + length (filter q (live_of w)) ≡ length (live_of w)
+fewer_live w q =
+    let ids : List ℕ = filter q (live_of w) in
+    let xs : List ℕ = ids_from 1 w.records in
+    let whole : live_of (gone ids w) ≡ filter (λ k. not (q k)) (live_of w) =
+    filter_alike (λ k. not (among k (w.dead ++ ids))) (λ k. not (among k w.dead) && not (among k ids)) xs (each_among _ xs (λ k e. ap not (among_append k w.dead ids) ∙ neither (among k w.dead) (among k ids)))
+    ∙ (sym (filter_filter (λ k. not (among k w.dead)) (λ k. not (among k ids)) xs)
+    ∙ filter_alike (λ k. not (among k ids)) (λ k. not (q k)) (live_of w) (each_among _ (live_of w) (λ k e. ap not (among_filter k q (live_of w) ∙ ap (λ t. t && q k) e)))) in
+    omega (arith, ap (λ (ids : List ℕ). length ids) whole, split q (live_of w))
+
 -- ---- what is so in every world
 
 -- so few live, so few were created, and all of these live or are dead
@@ -89,6 +113,13 @@ few_last b = record {
   joined = λ gate to w f g p. record { live = p.live; created = p.created; all = p.all };
   ended = λ w f g p. record { live = p.live; created = p.created; all = p.all };
   called = λ m id reason i w e f g p. record { live = p.live; created = p.created; all = p.all };
+  finished = λ id w f g p. record { live = p.live; created = p.created; all = p.all };
+  gone = λ target w live f g p.
+      let fewer = fewer_live w (λ n. stands_in w.records target n) in
+      let more = length-append w.dead (subtree_of target w) in
+      let l = p.live in
+      let all = p.all in
+      record { live = omega (arith, fewer, l); created = p.created; all = omega (arith, fewer, more, all) };
 }
 
 few_first : (b : Behaviour) → LastsAtFirst b IsFew

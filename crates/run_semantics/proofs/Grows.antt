@@ -22,6 +22,8 @@ growth_lasts_on b u = record {
   joined = λ gate to w f g p. grown_on p (grown_beside w _ g refl refl refl);
   ended = λ w f g p. grown_on p (grown_beside w _ g refl refl refl);
   called = λ m id reason i w e f g p. grown_on p (grown_beside w _ g refl refl refl);
+  finished = λ id w f g p. grown_on p (grown_beside w _ g refl refl refl);
+  gone = λ target w live f g p. grown_on p (grown_beside w _ g refl refl refl);
 }
 
 pub growth_lasts_first : (b : Behaviour) (u : World) → LastsAtFirst b (IsGrown u)

@@ -13,11 +13,12 @@ use Rattle.model_questions.specs.declared.record.Record.{Record}
 use Rattle.run_semantics.specs.declared.traces.Instance.{Instance}
 use Rattle.run_semantics.specs.World.{World, asked, empty, is_asked, is_live, timed}
 use Rattle.run_semantics.specs.Calls.{instance_in, with_state, changed}
+use Rattle.run_semantics.specs.Deleting.{gone}
 use Rattle.run_semantics.specs.Laws.{Each}
 use Rattle.run_semantics.specs.Perform.{Flow, On, Stopped, Broken, ◌>>=◌, asking}
 use Rattle.run_semantics.specs.Run.{with_network, rooted, record_under, with_submodules, room_in, unless_many, created, set_up, Part, parts_of, needs_of, fresh, placed, with_instance, with_instances}
 use Rattle.run_semantics.specs.Subtree.{among}
-use Rattle.run_semantics.proofs.Alive.{each_filter, live_more, not_among}
+use Rattle.run_semantics.proofs.Alive.{each_filter, live_gone, live_more, not_among}
 use Rattle.run_semantics.proofs.Setting.{IsLasting, stays_in, set_up_stays}
 use Rattle.run_semantics.proofs.Flows.{in_flow}
 use Rattle.model_questions.proofs.AnswerLemmas.{AreNested, about}
@@ -112,6 +113,15 @@ fits_more w v more f records dead modules questions nested =
       modules = subst (Each (λ (i : Instance). is_live v i.id ≡ true)) (sym modules) (each_map (λ (i : Instance). is_live w i.id ≡ true) (λ (i : Instance). is_live v i.id ≡ true) w.modules (λ i e. live_more w v more i.id records dead e) f.modules);
       questions = subst (AllAbout (length v.records)) (sym questions) (AllAbout-more (length w.records) (length v.records) w.questions longer f.questions);
     }
+
+-- some that live are deleted
+pub fits_gone : (w : World) (ids : List ℕ) → Fits w → Each (λ k. k ≤ length w.records) ids → Fits (gone ids w)
+fits_gone w ids f within = record {
+  nested = f.nested;
+  dead = each_append (λ k. k ≤ length w.records) w.dead ids f.dead within;
+  modules = each_filter (λ (i : Instance). is_live w i.id ≡ true) (λ (i : Instance). is_live (gone ids w) i.id ≡ true) (λ (i : Instance). not (among i.id ids)) w.modules (λ i e n. live_gone w ids i.id e (not_among i.id ids n)) f.modules;
+  questions = f.questions;
+}
 
 -- a question about a module that is there
 pub fits_timed : (q : Question) (w : World) → Fits w → about q ≤ length w.records → Fits (timed q w)

@@ -19,7 +19,7 @@ use Rattle.module_api.specs.declared.call.CallReason.{CallReason}
 use Rattle.module_api.specs.declared.call.CallReason.TheVariants as prompt
 use Rattle.module_api.specs.declared.message.Outgoing.{Outgoing}
 use Rattle.module_api.specs.declared.reply.Action.{Action}
-use Rattle.module_api.specs.declared.reply.Action.TheVariants.{Emit, RecordScalar, Send, SendDelayed, SendDirect, ScheduleAt, ScheduleAfter, Cancel, Connect, Disconnect, End, Fail}
+use Rattle.module_api.specs.declared.reply.Action.TheVariants.{Emit, RecordScalar, Send, SendDelayed, SendDirect, ScheduleAt, ScheduleAfter, Cancel, Delete, Connect, Disconnect, End, Fail}
 use Rattle.module_api.specs.declared.reply.Flight.{Flight}
 use Rattle.module_api.specs.declared.reply.GatePlace.{GatePlace}
 use Rattle.module_api.specs.declared.reply.Link.{Link}
@@ -52,14 +52,16 @@ use Rattle.run_semantics.specs.World.{World, asked, is_live, live_of}
 use Rattle.run_semantics.specs.Routes.{arriving, arriving_at, busy_of, change_of, channels_of, first_from, hop_by, if_live, is_at, is_in_gate, is_out_gate, is_simple, is_taken, module_at, transmission_gate, transmitting, with_change}
 use Rattle.run_semantics.specs.Perform.{Flow, On, Stopped, Broken, ◌>>=◌, for_each, asking, broken, scheduled_at, scheduled, with_cancelled, with_scalar, deed, hop_after, next_hop, past_last, with_hop, after_hop, chain, most_hops, travelled, sent_over, sent, entering, flight_end, entered, sent_into, sent_to, question_of, ask_all, read_fault, is_allowed, act, act_all, acted, ask_noted, unless_fault, answered_by, perform, answered, call_module}
 use Rattle.run_semantics.specs.Calls.{call_of, instance_in, changed, called}
+use Rattle.run_semantics.specs.Finishing.{call_last, with_finished, marked, finish, finish_all}
+use Rattle.run_semantics.specs.Deleting.{subtree_of, to_finish_in, finished_first, gone, subtree_dropped, deleted_at}
 use Rattle.run_semantics.specs.Joining.{gate_at, channel_by, joined, joined_free, joined_into, joined_from, joined_to, joined_at, freed, freed_from, freed_at}
 use Rattle.run_semantics.specs.Run.{with_submodules, room_in, set_up, most_nested, Part, needs_of, placed, first_unknown, unless_unknown, stages_in, most_stages, initialize, one_stage, stages_from, with_started, started, start_modules, unstarted}
 use Rattle.run_semantics.specs.Event.{begun, event, message_of}
 use Rattle.run_semantics.specs.Laws.{Each}
-use Rattle.run_semantics.specs.Subtree.{among, ids_from, outer_first}
-use Rattle.run_semantics.proofs.Alive.{among_filter, and_both, and_of, each_among, live_is, live_last, live_more, live_of_filter, live_within, not_among}
+use Rattle.run_semantics.specs.Subtree.{among, ids_from, outer_first, stands_in}
+use Rattle.run_semantics.proofs.Alive.{among_filter, and_both, and_of, each_among, live_gone, live_is, live_last, live_more, live_of_filter, live_within, not_among}
 use Rattle.run_semantics.proofs.Flows.{in_flow}
-use Rattle.run_semantics.proofs.Growth.{Fits, fits_beside, found_live, fits_changed, fits_more, fits_asked, fits_placed, fits_built, nested_last}
+use Rattle.run_semantics.proofs.Growth.{Fits, fits_beside, found_live, fits_changed, fits_more, fits_gone, fits_asked, fits_placed, fits_built, nested_last}
 use Rattle.run_semantics.proofs.Sending.{sum_is_after, flight_later}
 use Rattle.run_semantics.proofs.Setting.{IsLasting, Stays, set_up_stays}
 
@@ -86,6 +88,8 @@ pub record Lasts (b : Behaviour) (P : World → Type 0) : Type 0 where
   pub joined : (g : PlacedGate) (to : Option NextHop) (w : World) → Step P w (with_change g to w)
   pub ended : (w : World) → Step P w (record w { ended = true })
   pub called : (m : Answers) (id : ℕ) (reason : CallReason) (i : Instance) (w : World) → instance_in id w.modules ≡ Some i → Step P w (changed id ((b.naming i.kind).reply i.state (call_of m id reason w)).state w)
+  pub finished : (id : ℕ) (w : World) → Step P w (with_finished id w)
+  pub gone : (target : ℕ) (w : World) → is_live w target ≡ true → Step P w (gone (subtree_of target w) w)
 
 -- a start leaves it
 abbrev pub StartLeaves : Behaviour → (World → Type 0) → Type 0
@@ -136,6 +140,11 @@ unstarted_live w k e = live_of_filter w (λ id. not (among id w.started)) k e
 
 pub unstarted_new : (w : World) → AreNew w (unstarted w)
 unstarted_new w k e = not_among k w.started (and_both (among k (live_of w)) (not (among k w.started)) (sym (among_filter k (λ id. not (among id w.started)) (live_of w)) ∙ e)).1
+
+-- without the modules below one, everything fits still
+pub fits_without : (target : ℕ) (w : World) → Fits w → Fits (gone (subtree_of target w) w)
+fits_without target w f =
+    fits_gone w (subtree_of target w) f (each_among (λ k. k ≤ length w.records) (subtree_of target w) (λ k e. live_within w k (live_of_filter w (λ n. stands_in w.records target n) k e)))
 
 module _ (b : Behaviour) (P : World → Type 0) (l : Lasts b P) (m : Answers) where
   abbrev pub Holds : World → Type 0
@@ -207,6 +216,7 @@ module _ (b : Behaviour) (P : World → Type 0) (l : Lasts b P) (m : Answers) wh
   deed_ends ks id (Cancel timer) w live h = let f = fits_beside w (with_cancelled id timer w) h.0.0 refl refl refl refl in ((f, l.cancelled id timer w h.0.0 f h.0.1), h.1)
   deed_ends ks id End w live h = let f = fits_beside w (record w { ended = true }) h.0.0 refl refl refl refl in (f, l.ended w h.0.0 f h.0.1)
   deed_ends ks id (Fail text) w live h = h.0
+  deed_ends ks id (Delete path finish) w live h = h
   deed_ends ks id (Connect from to link) w live h = h
   deed_ends ks id (Disconnect place) w live h = h
   deed_ends ks id (Send gate message) w live h = h
@@ -241,6 +251,7 @@ module _ (b : Behaviour) (P : World → Type 0) (l : Lasts b P) (m : Answers) wh
 
   ask_noted_goes : (ks : List ℕ) (o : Occasion) (id : ℕ) (reads : List Read) (w : World) → Goes (id ∷ ks) w → Goes (id ∷ ks) (ask_noted o id reads w)
   ask_noted_goes ks occasion.Event id reads w h = ask_all_goes ks id reads w h
+  ask_noted_goes ks occasion.Deletion id reads w h = ask_all_goes ks id reads w h
   ask_noted_goes ks occasion.End id reads w h = h
 
   unless_ends : (ks : List ℕ) (id : ℕ) (found : Option RunFault) (go : World → Flow) (w : World) → Goes ks w → Ends ks (go w) → Ends ks (unless_fault id found go w)
@@ -263,6 +274,16 @@ module _ (b : Behaviour) (P : World → Type 0) (l : Lasts b P) (m : Answers) wh
       let live = found_live id w i h.0.0 e in
       let fits = fits_changed id r.state w h.0.0 in
       fewer_end id ks (follow r.reply (changed id r.state w)) (f r.reply (changed id r.state w) ((fits, l.called m id reason i w e h.0.0 fits h.0.1), (live, h.1)))
+
+  finish_ends : (ks : List ℕ) (o : Occasion) (id : ℕ) (w : World) → Goes ks w → Ends ks (finish b m o id w)
+  finish_ends ks o id w h =
+      then_ends ks (call_last b m o id w) (marked id)
+      (called_ends ks (answered_by m (deed id) o id) id prompt.Finish w (instance_in id w.modules) refl h (λ reply v g. answered_ends ks o id (deed id) reply v (λ action u small k. deed_ends (id ∷ ks) id action u k.1.0 k) g))
+      (λ v g. let f = fits_beside v (with_finished id v) g.0.0 refl refl refl refl in ((f, l.finished id v g.0.0 f g.0.1), g.1))
+
+  finish_all_ends : (ks : List ℕ) (o : Occasion) (ids : List ℕ) (w : World) → Goes ks w → Ends ks (finish_all b m o ids w)
+  finish_all_ends ks o [] w h = h
+  finish_all_ends ks o (id ∷ ids) w h = then_ends ks (finish b m o id w) (for_each (finish b m o) ids) (finish_ends ks o id w h) (finish_all_ends ks o ids)
 
   -- ---- sending
 
@@ -425,6 +446,36 @@ module _ (b : Behaviour) (P : World → Type 0) (l : Lasts b P) (m : Answers) wh
       (λ a k. either_ends ks (is_out_gate a g.index) (next_hop m g (freed id g) (asked q w)) (broken id fault.NoGate (asked q w))
       (λ e. next_ends ks g (freed id g) (asked q w) k live (λ o v n same to. freed_ends ks id g o v n)) (λ e. k.0))
 
+  -- ---- modules that are deleted
+
+  first_ends : (ks : List ℕ) (finish : Bool) (target : ℕ) (w : World) → Goes ks w → Ends ks (finished_first b m finish target w)
+  first_ends ks true target w h = finish_all_ends ks occasion.Deletion (to_finish_in target w) w h
+  first_ends ks false target w h = h
+
+  pub gone_holds : (target : ℕ) (w : World) → is_live w target ≡ true → Holds w → Holds (gone (subtree_of target w) w)
+  gone_holds target w live h =
+      let f = fits_without target w h.0 in
+      (f, l.gone target w live h.0 f h.1)
+
+  dropped_ends : (id target : ℕ) (w : World) → is_live w target ≡ true → Goes (id ∷ []) w → Ends (id ∷ []) (subtree_dropped id target w)
+  dropped_ends id target w live h = by (among id (subtree_of target w)) refl
+    where
+      by : (t : Bool) → among id (subtree_of target w) ≡ t → Ends (id ∷ []) (if t then Stopped (gone (subtree_of target w) w) else On (gone (subtree_of target w) w))
+      by true e = gone_holds target w live h.0
+      by false e = (gone_holds target w live h.0, (live_gone w (subtree_of target w) id h.1.0 e, tt))
+
+  -- they are finished, and the module lives still
+  finished_ends : (id target : ℕ) (fl : Flow) → Ends (target ∷ id ∷ []) fl → Ends (id ∷ []) (fl >>= subtree_dropped id target)
+  finished_ends id target (On w) h = dropped_ends id target w h.1.0 (h.0, h.1.1)
+  finished_ends id target (Stopped w) h = h
+  finished_ends id target (Broken w path e) h = h
+
+  deleted_ends : (id : ℕ) (path : List ℕ) (finish : Bool) (w : World) (found : Option ℕ) → module_at path w ≡ found → Goes (id ∷ []) w → Ends (id ∷ []) (deleted_at b m id finish w found)
+  deleted_ends id path finish w None e h = h.0
+  deleted_ends id path finish w (Some target) e h =
+      either_ends (id ∷ []) (target == 1) (broken id fault.NoModule w) (finished_first b m finish target w >>= subtree_dropped id target) (λ t. h.0)
+      (λ t. finished_ends id target (finished_first b m finish target w) (first_ends (target ∷ id ∷ []) finish target w (h.0, (module_live path w target e, h.1))))
+
   -- ---- actions: one line for each
 
   pub perform_ends : (id : ℕ) (action : Action) (w : World) → has_large_payload action ≡ false → Goes (id ∷ []) w → Ends (id ∷ []) (perform b m id action w)
@@ -436,6 +487,7 @@ module _ (b : Behaviour) (P : World → Type 0) (l : Lasts b P) (m : Answers) wh
   perform_ends id (ScheduleAt a) w small h = deed_ends (id ∷ []) id (ScheduleAt a) w h.1.0 h
   perform_ends id (ScheduleAfter s) w small h = deed_ends (id ∷ []) id (ScheduleAfter s) w h.1.0 h
   perform_ends id (Cancel timer) w small h = deed_ends (id ∷ []) id (Cancel timer) w h.1.0 h
+  perform_ends id (Delete path finish) w small h = deleted_ends id path finish w (module_at path w) refl h
   perform_ends id (Connect from to link) w small h = connected_ends (id ∷ []) id from to link w (module_at from.path w) refl h
   perform_ends id (Disconnect place) w small h = disconnected_ends (id ∷ []) id place w (module_at place.path w) refl h
   perform_ends id End w small h = deed_ends (id ∷ []) id End w h.1.0 h

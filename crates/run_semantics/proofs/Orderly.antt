@@ -11,12 +11,13 @@ use Rattle.event_set.specs.Order.{inserted, comes_before}
 use Rattle.run_semantics.specs.declared.traces.Emission.{Emission}
 use Rattle.run_semantics.specs.World.{World, empty, is_live}
 use Rattle.run_semantics.specs.Event.{begun, event}
+use Rattle.run_semantics.specs.Deleting.{gone, subtree_of}
 use Rattle.run_semantics.specs.Run.{Stage, Running, Over, world_at, settled, is_after_limit, went, next_stage, after}
 use Rattle.run_semantics.specs.Laws.{Each, AreInOrder, AreInTurn, HaveOwnNumbers, GoesOn}
 use Rattle.run_semantics.specs.Subtree.{among}
 use Rattle.run_semantics.specs.Upcoming.{Upcoming, Comes, Nothing, upcoming}
 use Rattle.run_semantics.proofs.Ahead.{IsAhead, MayCome, ComesWell, ahead_at_zero, upcoming_well}
-use Rattle.run_semantics.proofs.Alive.{each_filter, live_more, not_among}
+use Rattle.run_semantics.proofs.Alive.{each_filter, live_gone, live_more, not_among}
 use Rattle.run_semantics.proofs.Always.{LastsAlways, always, begins_hold}
 use Rattle.run_semantics.proofs.Fitting.{begun_grows, fits_after, fits_looked, settled_world}
 use Rattle.run_semantics.proofs.Flows.{in_flow}
@@ -82,6 +83,15 @@ orderly_more w v more f pending next clock records dead = record {
   live = subst (Each (λ (e : Pending). is_live v e.id ≡ true)) (sym pending) (each_map (λ (e : Pending). is_live w e.id ≡ true) (λ (e : Pending). is_live v e.id ≡ true) w.pending (λ e h. live_more w v more e.id records dead h) f.live);
 }
 
+orderly_gone : (w : World) (ids : List ℕ) → IsOrderly w → IsOrderly (gone ids w)
+orderly_gone w ids f = record {
+  order = ordered_filter _ w.pending f.order;
+  own = own_filter _ w.pending f.own;
+  below = each_filter (λ e. e.number < w.next) (λ e. e.number < w.next) _ w.pending (λ e h x. h) f.below;
+  due = each_filter (λ e. w.clock ≤ e.time) (λ e. w.clock ≤ e.time) _ w.pending (λ e h x. h) f.due;
+  live = each_filter (λ e. is_live w e.id ≡ true) (λ e. is_live (gone ids w) e.id ≡ true) (λ (e : Pending). not (among e.id ids)) w.pending (λ e h x. live_gone w ids e.id h (not_among e.id ids x)) f.live;
+}
+
 -- no injection that is left is due before the clock
 abbrev IsInTime : Answers → World → Type 0
 IsInTime m w = IsAhead w.clock w.delivered m.injections
@@ -109,6 +119,8 @@ well_lasts b m = record {
   joined = λ gate to w f g p. (orderly_same w _ p.0 refl refl refl refl refl, p.1);
   ended = λ w f g p. (orderly_same w _ p.0 refl refl refl refl refl, p.1);
   called = λ m id reason i w e f g p. (orderly_same w _ p.0 refl refl refl refl refl, p.1);
+  finished = λ id w f g p. (orderly_same w _ p.0 refl refl refl refl refl, p.1);
+  gone = λ target w live f g p. (orderly_gone w (subtree_of target w) p.0, p.1);
 }
 
 well_first : (b : Behaviour) (m : Answers) → LastsAtFirst b (IsWell m)
@@ -215,6 +227,8 @@ since_lasts b u = record {
   joined = λ gate to w f g p. record { clock = p.clock; count = p.count; next = p.next; dead = p.dead; started = p.started; finished = p.finished; changes = on_added u.changes w.changes _ p.changes; emissions = p.emissions; present = p.present; scalars = p.scalars };
   ended = λ w f g p. record { clock = p.clock; count = p.count; next = p.next; dead = p.dead; started = p.started; finished = p.finished; changes = p.changes; emissions = p.emissions; present = p.present; scalars = p.scalars };
   called = λ m id reason i w e f g p. record { clock = p.clock; count = p.count; next = p.next; dead = p.dead; started = p.started; finished = p.finished; changes = p.changes; emissions = p.emissions; present = p.present; scalars = p.scalars };
+  finished = λ id w f g p. record { clock = p.clock; count = p.count; next = p.next; dead = p.dead; started = p.started; finished = on_added u.finished w.finished (id ∷ []) p.finished; changes = p.changes; emissions = p.emissions; present = p.present; scalars = p.scalars };
+  gone = λ target w live f g p. record { clock = p.clock; count = p.count; next = p.next; dead = on_added u.dead w.dead (subtree_of target w) p.dead; started = p.started; finished = p.finished; changes = p.changes; emissions = p.emissions; present = p.present; scalars = p.scalars };
 }
 
 since_first : (b : Behaviour) (u : World) → LastsAtFirst b (Since u)

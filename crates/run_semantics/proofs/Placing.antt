@@ -8,6 +8,7 @@ use Rattle.model_questions.specs.Answers.{Answers}
 use Rattle.model_questions.specs.declared.record.Record.{Record}
 use Rattle.run_semantics.specs.declared.traces.Instance.{Instance}
 use Rattle.run_semantics.specs.Calls.{with_state}
+use Rattle.run_semantics.specs.Deleting.{gone, subtree_of}
 use Rattle.run_semantics.specs.Event.{begun}
 use Rattle.run_semantics.specs.Laws.{Each, parts_standing}
 use Rattle.run_semantics.specs.Run.{Part, with_class, parts_from, parts_of, needs_of, fresh, part_of, standing, with_instance, with_instances, with_started, placed, world_at, after}
@@ -211,6 +212,32 @@ stands_more w v more h modules started dead records =
       within = subst (Each (λ k. k ≤ length v.records)) (sym started) (each_map (λ k. k ≤ length w.records) (λ k. k ≤ length v.records) w.started (λ k l. omega (arith, l, longer)) h.within);
     }
 
+gone_by : (a d i : Bool) → (a && not (d || i)) ≡ ((a && not d) && not i)
+gone_by true true i = refl
+gone_by true false i = refl
+gone_by false d i = refl
+
+live_gone_is : (w : World) (ids : List ℕ) (k : ℕ) → is_live (gone ids w) k ≡ (is_live w k && not (among k ids))
+live_gone_is w ids k =
+    live_is (gone ids w) k
+    ∙ (ap (λ t. among k (ids_from 1 w.records) && not t) (among_append k w.dead ids)
+    ∙ (gone_by (among k (ids_from 1 w.records)) (among k w.dead) (among k ids) ∙ ap (λ t. t && not (among k ids)) (sym (live_is w k))))
+
+and_assoc : (a b c : Bool) → ((a && b) && c) ≡ (a && (b && c))
+and_assoc true b c = refl
+and_assoc false b c = refl
+
+-- some are deleted
+stands_gone : (w : World) (ids : List ℕ) → StandsWell w → StandsWell (gone ids w)
+stands_gone w ids h = record {
+  stands =
+      standing_filter (λ k. not (among k ids)) w.modules
+      ∙ (ap (filter (λ (p : Part). not (among p.id ids))) h.stands
+      ∙ (filter_filter (stands_in w) (λ (p : Part). not (among p.id ids)) (parts_of w)
+      ∙ filter_alike _ (stands_in (gone ids w)) (parts_of w) (each_so _ (parts_of w) (λ p. and_assoc (among p.id w.started) (is_live w p.id) (not (among p.id ids)) ∙ ap (λ t. among p.id w.started && t) (sym (live_gone_is w ids p.id))))));
+  within = h.within;
+}
+
 either_by : (s l f : Bool) → (f ≡ true → l ≡ true) → ((s && l) || f) ≡ ((s || f) && l)
 either_by true true f h = refl
 either_by true false true h = sym (h refl)
@@ -244,6 +271,8 @@ stands_last b = record {
   joined = λ gate to w f g p. record { stands = p.stands; within = p.within };
   ended = λ w f g p. record { stands = p.stands; within = p.within };
   called = λ m id reason i w e f g p. record { stands = standing_state id _ w.modules ∙ p.stands; within = p.within };
+  finished = λ id w f g p. record { stands = p.stands; within = p.within };
+  gone = λ target w live f g p. stands_gone w (subtree_of target w) p;
 }
 
 stands_first : (b : Behaviour) → LastsAtFirst b StandsWell

@@ -12,7 +12,7 @@ use Rattle.module_api.specs.declared.call.CallReason.{CallReason}
 use Rattle.module_api.specs.declared.call.CallReason.TheVariants as prompt
 use Rattle.module_api.specs.declared.reply.Action.{Action}
 use Rattle.module_api.specs.Names.{is_scalar_name}
-use Rattle.module_api.specs.declared.reply.Action.TheVariants.{Emit, RecordScalar, Send, SendDelayed, SendDirect, ScheduleAt, ScheduleAfter, Cancel, Connect, Disconnect, End, Fail}
+use Rattle.module_api.specs.declared.reply.Action.TheVariants.{Emit, RecordScalar, Send, SendDelayed, SendDirect, ScheduleAt, ScheduleAfter, Cancel, Delete, Connect, Disconnect, End, Fail}
 use Rattle.module_api.specs.declared.message.Outgoing.{Outgoing}
 use Rattle.module_api.specs.Actions.{has_large_payload}
 use Rattle.module_api.specs.declared.reply.Flight.{Flight}
@@ -43,6 +43,7 @@ use Rattle.run_semantics.specs.Routes.{arriving, busy_of, change_of, channels_of
 use Rattle.run_semantics.specs.Perform.{Flow, flow_of, On, Stopped, Broken, ◌>>=◌, asking, broken, for_each, scheduled_at, scheduled, deed, hop_after, next_hop, past_last, with_hop, after_hop, chain, most_hops, travelled, sent_over, sent_through, sent, entering, flight_end, entered, sent_into, sent_to, is_allowed, is_last_action, perform, act, act_all, ask_all, ask_noted, question_of, acted, read_fault, unless_fault, answered_by, answered, call_module}
 use Rattle.run_semantics.specs.Calls.{call_of, instance_in, changed, called}
 use Rattle.run_semantics.specs.Finishing.{call_last, marked, finish, finish_all}
+use Rattle.run_semantics.specs.Deleting.{subtree_of, to_finish_in, finished_first, gone, subtree_dropped, deleted_at}
 use Rattle.run_semantics.specs.Joining.{gate_at, channel_by, joined, joined_free, joined_into, joined_from, joined_to, joined_at, freed, freed_from, freed_at}
 use Rattle.run_semantics.specs.Run.{room_in, set_up, most_nested}
 use Rattle.run_semantics.specs.Subtree.{among}
@@ -103,6 +104,7 @@ deed_keeps id (RecordScalar name value) w = either_keeps 1 (is_scalar_name name)
 deed_keeps id (ScheduleAt a) w = either_keeps 1 (nat_lt a.at w.clock) _ _ w (keeps_same 1 w) (λ e. timer_keeps id a.timer a.priority a.kind w a.at)
 deed_keeps id (ScheduleAfter s) w = scheduled_keeps id s w (time_sum w.clock s.delay)
 deed_keeps id (Cancel timer) w = keeps_beside 1 w _ refl refl
+deed_keeps id (Delete path finish) w = keeps_same 1 w
 deed_keeps id (Connect from to link) w = keeps_same 1 w
 deed_keeps id (Disconnect place) w = keeps_same 1 w
 deed_keeps id End w = keeps_beside 1 w _ refl refl
@@ -118,6 +120,7 @@ last_keeps id (RecordScalar name value) w = either_keeps 0 (is_scalar_name name)
 last_keeps id (ScheduleAt a) w = keeps_same 0 w
 last_keeps id (ScheduleAfter s) w = keeps_same 0 w
 last_keeps id (Cancel timer) w = keeps_beside 0 w _ refl refl
+last_keeps id (Delete path finish) w = keeps_same 0 w
 last_keeps id (Connect from to link) w = keeps_same 0 w
 last_keeps id (Disconnect place) w = keeps_same 0 w
 last_keeps id End w = keeps_same 0 w
@@ -153,6 +156,7 @@ ask_all-next id (r ∷ rs) w = ask_all-next id rs (asked (question_of id r) w)
 
 pub ask_noted-next : (o : Occasion) (id : ℕ) (reads : List Read) (w : World) → (ask_noted o id reads w).next ≡ w.next
 ask_noted-next occasion.Event id reads w = ask_all-next id reads w
+ask_noted-next occasion.Deletion id reads w = ask_all-next id reads w
 ask_noted-next occasion.End id reads w = refl
 
 ask_all_keeps : (id : ℕ) (reads : List Read) (w : World) → Keeps 0 w (ask_all id reads w)
@@ -165,6 +169,7 @@ unless_keeps n id None go w h = h
 
 ask_noted_keeps : (o : Occasion) (id : ℕ) (reads : List Read) (w : World) → Keeps 0 w (ask_noted o id reads w)
 ask_noted_keeps occasion.Event id reads w = ask_all_keeps id reads w
+ask_noted_keeps occasion.Deletion id reads w = ask_all_keeps id reads w
 ask_noted_keeps occasion.End id reads w = keeps_same 0 w
 
 followed_keeps : (n : ℕ) (m : Answers) (o : Occasion) (id : ℕ) (does : Action → World → Flow) (reply : Reply) (w : World) → ((v : World) → nat_lt 1000 (length reply.actions) ≡ false → Keeps n v (in_flow (act_all does o id reply.actions v))) → Keeps n w (in_flow (answered_by m does o id reply w))
@@ -187,8 +192,32 @@ pub call_last_keeps : (b : Behaviour) (m : Answers) (o : Occasion) (id : ℕ) (w
 call_last_keeps b m o id w each =
     called_keeps 0 b m (answered_by m (deed id) o id) id prompt.Finish w (instance_in id w.modules) (λ reply v. followed_keeps 0 m o id (deed id) reply v (λ u e. none_keep o id (deed id) each reply.actions u))
 
+-- where each of their actions inserts one event at most, it inserts no more than there are
+pub finish_call_keeps : (b : Behaviour) (m : Answers) (o : Occasion) (id : ℕ) (w : World) → EachKeeps 1 o id (deed id) → Keeps 1000 w (in_flow (call_last b m o id w))
+finish_call_keeps b m o id w each =
+    called_keeps 1000 b m (answered_by m (deed id) o id) id prompt.Finish w (instance_in id w.modules)
+    (λ reply v. followed_keeps 1000 m o id (deed id) reply v (λ u e. keeps_more (length reply.actions) 1000 u _ (few 1000 (length reply.actions) e) (act_all_keeps 1 o id (deed id) each (omega arith) reply.actions u)))
+
 pub finish_keeps : (b : Behaviour) (m : Answers) (o : Occasion) (id : ℕ) (w : World) → EachKeeps 0 o id (deed id) → Keeps 0 w (in_flow (finish b m o id w))
 finish_keeps b m o id w each = part_then 0 0 w (call_last b m o id w) (marked id) (call_last_keeps b m o id w each) (λ v. keeps_beside 0 v _ refl refl)
+
+finish_all_keeps : (b : Behaviour) (m : Answers) (ids : List ℕ) (w : World) → Keeps 0 w (in_flow (finish_all b m occasion.Deletion ids w))
+finish_all_keeps b m [] w = keeps_same 0 w
+finish_all_keeps b m (id ∷ ids) w = part_then 0 0 w (finish b m occasion.Deletion id w) (for_each (finish b m occasion.Deletion) ids) (finish_keeps b m occasion.Deletion id w (last_keeps id)) (finish_all_keeps b m ids)
+
+deleted_keeps : (b : Behaviour) (m : Answers) (id : ℕ) (finish : Bool) (w : World) (found : Option ℕ) → Keeps 0 w (in_flow (deleted_at b m id finish w found))
+deleted_keeps b m id finish w None = keeps_same 0 w
+deleted_keeps b m id finish w (Some target) =
+    either_keeps 0 (target == 1) (broken id fault.NoModule w) (finished_first b m finish target w >>= subtree_dropped id target) w (keeps_same 0 w)
+    (λ e. part_then 0 0 w (finished_first b m finish target w) (subtree_dropped id target) (by finish) (λ v. dropped_by v (among id (subtree_of target v))))
+  where
+    by : (f : Bool) → Keeps 0 w (in_flow (finished_first b m f target w))
+    by true = finish_all_keeps b m (to_finish_in target w) w
+    by false = keeps_same 0 w
+
+    dropped_by : (v : World) (c : Bool) → Keeps 0 v (in_flow (if c then Stopped (gone (subtree_of target v) v) else On (gone (subtree_of target v) v)))
+    dropped_by v true = keeps_beside 0 v _ refl refl
+    dropped_by v false = keeps_beside 0 v _ refl refl
 
 -- ---- sending inserts one event at most, at its end
 
@@ -307,6 +336,7 @@ perform_keeps b m id (SendDirect place message flight) w = direct_keeps m id pla
 perform_keeps b m id (ScheduleAt a) w = deed_keeps id (ScheduleAt a) w
 perform_keeps b m id (ScheduleAfter s) w = deed_keeps id (ScheduleAfter s) w
 perform_keeps b m id (Cancel timer) w = deed_keeps id (Cancel timer) w
+perform_keeps b m id (Delete path finish) w = keeps_more 0 1 w _ (omega arith) (deleted_keeps b m id finish w (module_at path w))
 perform_keeps b m id (Connect from to link) w = keeps_more 0 1 w _ (omega arith) (joined_keeps m id from to link w (module_at from.path w))
 perform_keeps b m id (Disconnect place) w = keeps_more 0 1 w _ (omega arith) (freed_keeps m id place w (module_at place.path w))
 perform_keeps b m id End w = deed_keeps id End w

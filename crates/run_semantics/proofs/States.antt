@@ -72,6 +72,8 @@ states_last b law = record {
   joined = λ gate to w f g p. p;
   ended = λ w f g p. p;
   called = λ m id reason i w e f g p. let home = found_in b id w.modules i e p in changed_in b id ((b.naming i.kind).reply i.state (call_of m id reason w)).state w.modules i e ((law.states i.kind home.known).goes_on i.state (call_of m id reason w) home.state) p;
+  finished = λ id w f g p. p;
+  gone = λ target w live f g p. each_filter (IsAtHome b) (IsAtHome b) _ w.modules (λ i h e. h) p;
 }
 
 states_first : (b : Behaviour) → IsLawful b → LastsAtFirst b (AllIn b)
@@ -102,3 +104,12 @@ states_in b (i ∷ is) h = (h.0.state, states_in b is h.1)
 -- in every world of a run of a lawful catalogue each state is one of its kind
 pub states_of_run : (b : Behaviour) → IsLawful b → (m : Answers) (n : ℕ) → AreStates b (world_at (after b m n)).modules
 states_of_run b l m n = states_in b (world_at (after b m n)).modules (run_in b l m n)
+
+-- each kind is known
+kinds_in : (b : Behaviour) (is : List Instance) → Each (IsAtHome b) is → Each (λ (i : Instance). b.known i.kind ≡ true) is
+kinds_in b [] h = tt
+kinds_in b (i ∷ is) h = (h.0.known, kinds_in b is h.1)
+
+-- what stands in a world of such a run is of kinds that are known
+pub kinds_of_run : (b : Behaviour) → IsLawful b → (m : Answers) (n : ℕ) → Each (λ (i : Instance). b.known i.kind ≡ true) (world_at (after b m n)).modules
+kinds_of_run b l m n = kinds_in b (world_at (after b m n)).modules (run_in b l m n)

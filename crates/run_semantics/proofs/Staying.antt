@@ -1,4 +1,4 @@
--- From event zero on the same modules are there, and none of them dies or is finished before the end.
+-- From event zero on no module is created, and none is started.
 use Rattle.std.proofs.Common.{◌≡◌, ℕ, zero, suc, ◌+◌, ◌-◌, ◌≤◌, Bool, true, false, List, [], refl, sym, ap, ◌∙◌, arith, subst, if◌then◌else◌}
 use Rattle.module_api.specs.Behaviour.{Behaviour}
 use Rattle.model_questions.specs.Answers.{Answers}
@@ -21,34 +21,30 @@ use Rattle.run_semantics.proofs.Growth.{Fits}
 use Rattle.run_semantics.proofs.Lasting.{Lasts, LastsAtFirst, ends_hold, event_holds, start_ends, unstarted_live, unstarted_new}
 use Rattle.run_semantics.proofs.Looking.{beside, HasLooked, upcoming_looks}
 
--- the same modules are there, and as many of them were started, finished and are dead
+-- the same modules were created, and the same were started
 pub record Stays (old new : World) : Type 0 where
   pub records : new.records ≡ old.records
-  pub dead : new.dead ≡ old.dead
   pub started : new.started ≡ old.started
-  pub finished : new.finished ≡ old.finished
 
 pub stays_same : (w : World) → Stays w w
-stays_same w = record { records = refl; dead = refl; started = refl; finished = refl }
+stays_same w = record { records = refl; started = refl }
 
 pub stays_on : (u v w : World) → Stays u v → Stays v w → Stays u w
-stays_on u v w f g = record { records = g.records ∙ f.records; dead = g.dead ∙ f.dead; started = g.started ∙ f.started; finished = g.finished ∙ f.finished }
-
--- the same modules live
-pub stays_live : (u v : World) → Stays u v → live_of v ≡ live_of u
-stays_live u v s = ap (λ (rs : List Record). without (ids_from 1 rs) v.dead) s.records ∙ ap (λ ids. without (ids_from 1 u.records) ids) s.dead
+stays_on u v w f g = record { records = g.records ∙ f.records; started = g.started ∙ f.started }
 
 stays_lasts : (b : Behaviour) (u : World) → Lasts b (Stays u)
 stays_lasts b u = record {
-  asked = λ q w n f g p. record { records = p.records; dead = p.dead; started = p.started; finished = p.finished };
-  emitted = λ e w n t f g p. record { records = p.records; dead = p.dead; started = p.started; finished = p.finished };
-  recorded = λ s w f g p. record { records = p.records; dead = p.dead; started = p.started; finished = p.finished };
-  inserted = λ e w n t live short f g p. record { records = p.records; dead = p.dead; started = p.started; finished = p.finished };
-  cancelled = λ id timer w f g p. record { records = p.records; dead = p.dead; started = p.started; finished = p.finished };
-  transmitted = λ ts w f g p. record { records = p.records; dead = p.dead; started = p.started; finished = p.finished };
-  joined = λ gate to w f g p. record { records = p.records; dead = p.dead; started = p.started; finished = p.finished };
-  ended = λ w f g p. record { records = p.records; dead = p.dead; started = p.started; finished = p.finished };
-  called = λ m id reason i w e f g p. record { records = p.records; dead = p.dead; started = p.started; finished = p.finished };
+  asked = λ q w n f g p. record { records = p.records; started = p.started };
+  emitted = λ e w n t f g p. record { records = p.records; started = p.started };
+  recorded = λ s w f g p. record { records = p.records; started = p.started };
+  inserted = λ e w n t live short f g p. record { records = p.records; started = p.started };
+  cancelled = λ id timer w f g p. record { records = p.records; started = p.started };
+  transmitted = λ ts w f g p. record { records = p.records; started = p.started };
+  joined = λ gate to w f g p. record { records = p.records; started = p.started };
+  ended = λ w f g p. record { records = p.records; started = p.started };
+  called = λ m id reason i w e f g p. record { records = p.records; started = p.started };
+  finished = λ id w f g p. record { records = p.records; started = p.started };
+  gone = λ target w live f g p. record { records = p.records; started = p.started };
 }
 
 -- ONE EVENT
@@ -56,15 +52,13 @@ event_stays : (b : Behaviour) (m : Answers) (p : Pending) (rest : List Pending) 
 event_stays b m p rest w f =
     let v : World = begun p rest w in
     subst (Stays w) (sym (settled_world (event b m p rest w)))
-    (event_holds b (Stays w) (stays_lasts b w) m p rest w ((begun_grows p rest w f).fits, record { records = refl; dead = refl; started = refl; finished = refl })).1
+    (event_holds b (Stays w) (stays_lasts b w) m p rest w ((begun_grows p rest w f).fits, record { records = refl; started = refl })).1
 
 -- what comes next is looked for
 looked_stays : (w u : World) → HasLooked w u → Stays w u
 looked_stays w u h = record {
   records = sym (ap (λ (v : World). v.records) h.same);
-  dead = sym (ap (λ (v : World). v.dead) h.same);
   started = sym (ap (λ (v : World). v.started) h.same);
-  finished = sym (ap (λ (v : World). v.finished) h.same);
 }
 
 either_stays : (c : Bool) (w : World) (outcome : Outcome) (s : Stage) → Stays w (world_at s) → Stays w (world_at (if c then Over w outcome else s))
@@ -92,72 +86,31 @@ more_stays b m n (suc more) =
 pub after_stays : (b : Behaviour) (m : Answers) (n k : ℕ) → n ≤ k → Stays (world_at (after b m n)) (world_at (after b m k))
 after_stays b m n k h = let e : (k - n) + n ≡ k = omega (arith, h) in subst (λ j. Stays (world_at (after b m n)) (world_at (after b m j))) e (more_stays b m n (k - n))
 
--- ---- before the end
-
--- nobody is dead, and none was finished
-pub record IsWhole (w : World) : Type 0 where
-  pub dead : w.dead ≡ []
-  pub finished : w.finished ≡ []
-
-whole_lasts : (b : Behaviour) → Lasts b IsWhole
-whole_lasts b = record {
-  asked = λ q w n f g p. record { dead = p.dead; finished = p.finished };
-  emitted = λ e w n t f g p. record { dead = p.dead; finished = p.finished };
-  recorded = λ s w f g p. record { dead = p.dead; finished = p.finished };
-  inserted = λ e w n t live short f g p. record { dead = p.dead; finished = p.finished };
-  cancelled = λ id timer w f g p. record { dead = p.dead; finished = p.finished };
-  transmitted = λ ts w f g p. record { dead = p.dead; finished = p.finished };
-  joined = λ gate to w f g p. record { dead = p.dead; finished = p.finished };
-  ended = λ w f g p. record { dead = p.dead; finished = p.finished };
-  called = λ m id reason i w e f g p. record { dead = p.dead; finished = p.finished };
-}
-
-whole_first : (b : Behaviour) → LastsAtFirst b IsWhole
-whole_first b = record {
-  built = λ parent bs w n few f g p. record { dead = p.dead; finished = p.finished };
-  started = λ ids w e live fresh f g p. record { dead = p.dead; finished = p.finished };
-}
-
-whole_always : (b : Behaviour) (m : Answers) → LastsAlways b m IsWhole
-whole_always b m = record {
-  lasts = whole_lasts b;
-  first = whole_first b;
-  at_first = record { dead = refl; finished = refl };
-  network = λ name. record { dead = refl; finished = refl };
-  begins = λ w u p rest e looked f h. record {
-    dead = sym (ap (λ (v : World). v.dead) looked.same) ∙ h.dead;
-    finished = sym (ap (λ (v : World). v.finished) looked.same) ∙ h.finished;
-  };
-}
-
--- EVERY WORLD BEFORE THE END
-pub whole_after : (b : Behaviour) (m : Answers) (n : ℕ) → IsWhole (world_at (after b m n))
-whole_after b m n = always b m IsWhole (whole_always b m) n
-
 -- ---- the start
 
--- it makes no module, and none dies
+-- it makes no module
 record IsMadeOf (u w : World) : Type 0 where
   records : w.records ≡ u.records
-  dead : w.dead ≡ u.dead
 
 made_lasts : (b : Behaviour) (u : World) → Lasts b (IsMadeOf u)
 made_lasts b u = record {
-  asked = λ q w n f g p. record { records = p.records; dead = p.dead };
-  emitted = λ e w n t f g p. record { records = p.records; dead = p.dead };
-  recorded = λ s w f g p. record { records = p.records; dead = p.dead };
-  inserted = λ e w n t live short f g p. record { records = p.records; dead = p.dead };
-  cancelled = λ id timer w f g p. record { records = p.records; dead = p.dead };
-  transmitted = λ ts w f g p. record { records = p.records; dead = p.dead };
-  joined = λ gate to w f g p. record { records = p.records; dead = p.dead };
-  ended = λ w f g p. record { records = p.records; dead = p.dead };
-  called = λ m id reason i w e f g p. record { records = p.records; dead = p.dead };
+  asked = λ q w n f g p. record { records = p.records };
+  emitted = λ e w n t f g p. record { records = p.records };
+  recorded = λ s w f g p. record { records = p.records };
+  inserted = λ e w n t live short f g p. record { records = p.records };
+  cancelled = λ id timer w f g p. record { records = p.records };
+  transmitted = λ ts w f g p. record { records = p.records };
+  joined = λ gate to w f g p. record { records = p.records };
+  ended = λ w f g p. record { records = p.records };
+  called = λ m id reason i w e f g p. record { records = p.records };
+  finished = λ id w f g p. record { records = p.records };
+  gone = λ target w live f g p. record { records = p.records };
 }
 
 start_makes : (b : Behaviour) (m : Answers) (fl : Flow) → Fits (in_flow fl) → (in_flow (fl >>= start_all b m)).records ≡ (in_flow fl).records
 start_makes b m (On w) f =
     (ends_hold b (IsMadeOf w) (made_lasts b w) m [] (start_modules b m (unstarted w) 1 w)
-    (start_ends b (IsMadeOf w) (made_lasts b w) (λ ids v e live fresh f g p. record { records = p.records; dead = p.dead }) m (unstarted w) 1 w (unstarted_live w) (unstarted_new w) (f, record { records = refl; dead = refl }))).1.records
+    (start_ends b (IsMadeOf w) (made_lasts b w) (λ ids v e live fresh f g p. record { records = p.records }) m (unstarted w) 1 w (unstarted_live w) (unstarted_new w) (f, record { records = refl }))).1.records
 start_makes b m (Stopped w) f = refl
 start_makes b m (Broken w path fault) f = refl
 

@@ -1,4 +1,4 @@
--- Modules that are finished.
+-- Modules that are finished: at the end of a run, or as they are deleted.
 use Rattle.std.specs.Prelude.{ℕ, List, [], ◌∷◌, ◌++◌}
 use Rattle.module_api.specs.declared.call.CallReason.TheVariants as prompt
 use Rattle.module_api.specs.Behaviour.{Behaviour}
@@ -9,7 +9,7 @@ use Rattle.run_semantics.specs.Deeds.{Flow, On, ◌>>=◌, deed, for_each}
 use Rattle.run_semantics.specs.Replies.{answered_by}
 use Rattle.run_semantics.specs.World.{World}
 
--- ONE CALL for the end: its reply does nothing but deeds
+-- ONE CALL for the end, of the run or of the module: its reply does nothing but deeds
 abbrev pub call_last : Behaviour → Answers → Occasion → ℕ → World → Flow
 call_last b m o id w = calling b m (answered_by m (deed id) o id) id prompt.Finish w
 

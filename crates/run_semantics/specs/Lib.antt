@@ -6,6 +6,7 @@ pub mod Sending
 pub mod Replies
 pub mod Calls
 pub mod Finishing
+pub mod Deleting
 pub mod Joining
 pub mod Building
 pub mod Perform
@@ -20,3 +21,4 @@ pub mod Laws
 pub mod Example
 pub mod Sends
 pub mod Wires
+pub mod Deletes

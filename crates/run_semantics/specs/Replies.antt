@@ -4,7 +4,7 @@ use Rattle.std.specs.Prelude.{if◌then◌else◌, length}
 use Rattle.module_api.specs.declared.reply.Action.{Action}
 use Rattle.module_api.specs.declared.reply.Action.TheVariants.{Emit, RecordScalar, Send}
 use Rattle.module_api.specs.declared.reply.Action.TheVariants.{SendDelayed, SendDirect, ScheduleAt}
-use Rattle.module_api.specs.declared.reply.Action.TheVariants.{ScheduleAfter, Cancel}
+use Rattle.module_api.specs.declared.reply.Action.TheVariants.{ScheduleAfter, Cancel, Delete}
 use Rattle.module_api.specs.declared.reply.Action.TheVariants.{Connect, Disconnect, End, Fail}
 use Rattle.module_api.specs.Actions.{has_large_payload}
 use Rattle.module_api.specs.declared.reply.Read.{Read}
@@ -83,6 +83,7 @@ is_last_action (SendDirect place message flight) = false
 is_last_action (ScheduleAt a) = false
 is_last_action (ScheduleAfter s) = false
 is_last_action (Cancel timer) = true
+is_last_action (Delete path finish) = false
 is_last_action (Connect from to link) = false
 is_last_action (Disconnect place) = false
 is_last_action End = false
@@ -91,6 +92,7 @@ is_last_action (Fail text) = true
 -- whether a reply may have that action, by what the module is called for
 abbrev pub is_allowed : Occasion → Action → Bool
 is_allowed occasion.Event action = true
+is_allowed occasion.Deletion action = is_last_action action
 is_allowed occasion.End action = is_last_action action
 
 -- an action of a reply, where it may have that, done so. A payload that is too large is told before
@@ -114,6 +116,7 @@ acted does o id actions w = if nat_lt 1000 (length actions) then broken id fault
 -- whether the questions of what a reply read are noted: those of the end belong to no event
 abbrev pub is_noted : Occasion → Bool
 is_noted occasion.Event = true
+is_noted occasion.Deletion = true
 is_noted occasion.End = false
 
 abbrev pub ask_noted : Occasion → ℕ → List Read → World → World

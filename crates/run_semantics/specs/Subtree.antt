@@ -1,7 +1,8 @@
 -- Ids of modules, and a module and all below it.
+pub use Rattle.event_set.specs.Events.{among}
 use Rattle.std.specs.Prelude.{ℕ, zero, suc, ◌==◌, ◌||◌, Bool, false, not, List, [], ◌∷◌, ◌++◌}
 use Rattle.std.specs.Prelude.{Option, Some, None}
-use Rattle.std.specs.List.{filter, list_any}
+use Rattle.std.specs.List.{filter}
 use Rattle.model_questions.specs.declared.record.Record.{Record}
 use Rattle.model_questions.specs.Records.{record_at}
 
@@ -9,10 +10,6 @@ use Rattle.model_questions.specs.Records.{record_at}
 abbrev pub ids_from : {X : Type 0} → ℕ → List X → List ℕ
 ids_from id [] = []
 ids_from id (x ∷ xs) = id ∷ ids_from (suc id) xs
-
--- whether it is one of these ids
-abbrev pub among : ℕ → List ℕ → Bool
-among id ids = list_any (λ n. n == id) ids
 
 -- those of the first ids that are among the others
 abbrev pub common : List ℕ → List ℕ → List ℕ
@@ -57,3 +54,19 @@ outer_first records ids id = outer_first_to 33 (submodules records ids) id
 -- THE ORDER OF THE END: the same, but each stands after its submodules
 unfoldable pub inner_first : List Record → List ℕ → ℕ → List ℕ
 inner_first records ids id = inner_first_to 33 (submodules records ids) id
+
+-- ---- what stands inside of a module
+
+abbrev pub inside_around : (ℕ → Bool) → Option Record → Bool
+inside_around inside None = false
+inside_around inside (Some r) = inside r.parent
+
+-- whether a module is the first one or stands inside of it, so many levels below at most
+abbrev pub stands_in_to : ℕ → List Record → ℕ → ℕ → Bool
+stands_in_to zero records outer id = false
+stands_in_to (suc depth) records outer id =
+    (id == outer) || inside_around (stands_in_to depth records outer) (record_at records id)
+
+-- WHAT STANDS IN A MODULE: it, and all that has it among those around it
+unfoldable pub stands_in : List Record → ℕ → ℕ → Bool
+stands_in records outer id = stands_in_to 33 records outer id

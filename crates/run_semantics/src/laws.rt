@@ -10,6 +10,7 @@ ghost use Rattle.model_questions.specs.declared.record.Record.{Record};
 ghost use Rattle.run_semantics.specs.Agreement.{Agrees, AgreesUpTo, questions_of};
 ghost use Rattle.run_semantics.specs.Ending.{ending};
 ghost use Rattle.run_semantics.specs.Example.{ExampleNests};
+ghost use Rattle.run_semantics.specs.Deletes.{ExampleDeleted, ExampleDeletes};
 ghost use Rattle.run_semantics.specs.Wires.{ExampleJoins, ExampleWires};
 ghost use Rattle.run_semantics.specs.Sends.{ExampleSends};
 ghost use Rattle.run_semantics.specs.Laws.{Each, AreInOrder, AreInTurn, HaveOwnNumbers, HasGrown};
@@ -106,16 +107,13 @@ pub fn runs_grow()
         → HasGrown (world_at (after b m n)) (world_at (after b m k)) }
 {}
 
-/// From event zero until the end the same modules live and count as started, and none is finished;
-/// and nobody is dead, as no action deletes a module.
-pub fn modules_stay_until_the_end()
-    ensures live { (b : Behaviour) (m : Answers) (n k : ℕ) → n ≤ k
-        → live_of (world_at (after b m k)) ≡ live_of (world_at (after b m n)) }
-    ensures nobody { (b : Behaviour) (m : Answers) (n : ℕ) → (world_at (after b m n)).dead ≡ [] }
+/// From event zero until the end the same modules were created and started, as no action creates
+/// one: so modules go, and none comes.
+pub fn no_module_comes_after_event_zero()
+    ensures created { (b : Behaviour) (m : Answers) (n k : ℕ) → n ≤ k
+        → (world_at (after b m k)).records ≡ (world_at (after b m n)).records }
     ensures started { (b : Behaviour) (m : Answers) (n k : ℕ) → n ≤ k
         → (world_at (after b m k)).started ≡ (world_at (after b m n)).started }
-    ensures finished { (b : Behaviour) (m : Answers) (n : ℕ)
-        → (world_at (after b m n)).finished ≡ [] }
 {}
 
 /// A module that died lives never again: one that was created by then and lives later lived then.
@@ -162,14 +160,15 @@ pub fn emissions_are_in_turn()
         (world_at (after b m n)).emissions }
 {}
 
-/// Each event to come is for a module that lives, so no event is stale.
+/// Each event to come is for a module that lives: what was to come for one that is deleted falls with
+/// it, so no event is stale.
 pub fn events_are_for_modules_that_live()
     ensures { (b : Behaviour) (m : Answers) (n : ℕ)
         → Each (λ e. is_live (world_at (after b m n)) e.id ≡ true)
         (world_at (after b m n)).pending }
 {}
 
-/// What stands lives, at each moment.
+/// What stands lives, at each moment: a deleted module has no state.
 pub fn what_stands_lives()
     ensures { (b : Behaviour) (m : Answers) (n : ℕ)
         → Each (λ i. is_live (world_at (after b m n)) i.id ≡ true)
@@ -268,4 +267,10 @@ pub fn sending_example()
 pub fn wires_example()
     ensures runs { ExampleWires }
     ensures actions { ExampleJoins }
+{}
+
+/// Modules that are deleted while a run goes on, worked by hand.
+pub fn deletes_example()
+    ensures runs { ExampleDeletes }
+    ensures actions { ExampleDeleted }
 {}

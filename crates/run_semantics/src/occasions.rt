@@ -11,6 +11,9 @@ use module_api::reply::Action;
 pub enum Occasion {
     /// An event: all actions are allowed, and what a reply read is noted.
     Event,
+    /// The deletion of the module within an event: what it read is noted, and only what neither makes
+    /// events nor changes modules is allowed.
+    Deletion,
     /// The end of the run, which belongs to no event: nothing is noted, and only what neither makes
     /// events nor changes modules is allowed.
     End,
@@ -21,7 +24,7 @@ pub fn is_noted(occasion: Occasion) -> bool
     ensures { result ≡ is_noted occasion }
 {
     match occasion {
-        Occasion::Event => true,
+        Occasion::Event | Occasion::Deletion => true,
         Occasion::End => false,
     }
 }
@@ -39,6 +42,7 @@ fn is_last_action(action: &Action) -> bool
         | Action::SendDirect(_, _, _)
         | Action::ScheduleAt(_)
         | Action::ScheduleAfter(_)
+        | Action::Delete(_, _)
         | Action::Connect(_, _, _)
         | Action::Disconnect(_)
         | Action::End => false,
@@ -51,6 +55,6 @@ pub fn is_allowed(occasion: Occasion, action: &Action) -> bool
 {
     match occasion {
         Occasion::Event => true,
-        Occasion::End => is_last_action(action),
+        Occasion::Deletion | Occasion::End => is_last_action(action),
     }
 }
