@@ -3,7 +3,7 @@ use Rattle.std.proofs.Common.{◌≡◌, ℕ, List, [], ◌∷◌, refl, sym, ap
 use Rattle.sim_time.specs.Time.{time_sum}
 use Rattle.module_api.specs.declared.reply.Action.{Action}
 use Rattle.module_api.specs.Names.{is_scalar_name}
-use Rattle.module_api.specs.declared.reply.Action.TheVariants.{Emit, RecordScalar, Send, SendDelayed, SendDirect, ScheduleAt, ScheduleAfter, Cancel, Connect, Disconnect, End, Fail}
+use Rattle.module_api.specs.declared.reply.Action.TheVariants.{Emit, RecordScalar, Send, SendDelayed, SendDirect, ScheduleAt, ScheduleAfter, Cancel, Delete, Connect, Disconnect, End, Fail}
 use Rattle.module_api.specs.declared.reply.Read.{Read}
 use Rattle.module_api.specs.declared.reply.Appointment.{Appointment}
 use Rattle.module_api.specs.declared.reply.Schedule.{Schedule}
@@ -50,13 +50,14 @@ scheduled_apart ms id s w (Some time) = timer_apart ms id s.timer s.priority s.k
 appointed_apart : (ms : List Instance) (id : ℕ) (a : Appointment) (w : World) → appointed id a (with_modules ms w) ≡ flow_with ms (appointed id a w)
 appointed_apart ms id a w = either_apart ms (nat_lt a.at w.clock) _ _ _ _ refl (timer_apart ms id a.timer a.priority a.kind w a.at)
 
-deed_apart : (ms : List Instance) (id : ℕ) (action : Action) (w : World) → deed id action (with_modules ms w) ≡ flow_with ms (deed id action w)
+pub deed_apart : (ms : List Instance) (id : ℕ) (action : Action) (w : World) → deed id action (with_modules ms w) ≡ flow_with ms (deed id action w)
 deed_apart ms id (Emit signal value) w = refl
 deed_apart ms id (RecordScalar name value) w = either_apart ms (is_scalar_name name) _ _ _ _ refl refl
 deed_apart ms id (ScheduleAt a) w = appointed_apart ms id a w
 deed_apart ms id (ScheduleAfter s) w = scheduled_apart ms id s w (time_sum w.clock s.delay)
 deed_apart ms id (Cancel timer) w = refl
 deed_apart ms id (Fail text) w = refl
+deed_apart ms id (Delete path finish) w = refl
 deed_apart ms id (Connect from to link) w = refl
 deed_apart ms id (Disconnect place) w = refl
 deed_apart ms id End w = refl
@@ -82,6 +83,7 @@ ask_all_apart ms id (r ∷ rs) w = ask_all_apart ms id rs (asked (question_of id
 
 pub ask_noted_apart : (ms : List Instance) (o : Occasion) (id : ℕ) (reads : List Read) (w : World) → ask_noted o id reads (with_modules ms w) ≡ with_modules ms (ask_noted o id reads w)
 ask_noted_apart ms occasion.Event id reads w = ask_all_apart ms id reads w
+ask_noted_apart ms occasion.Deletion id reads w = ask_all_apart ms id reads w
 ask_noted_apart ms occasion.End id reads w = refl
 
 -- ---- setup

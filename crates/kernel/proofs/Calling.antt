@@ -13,15 +13,14 @@ use Rattle.run_semantics.specs.declared.occasions.Occasion.TheVariants as occasi
 use Rattle.run_semantics.specs.declared.outcome.EventFlow.{EventFlow}
 use Rattle.run_semantics.specs.declared.traces.Instance.{Instance}
 use Rattle.run_semantics.specs.World.{World}
-use Rattle.run_semantics.specs.Perform.{Flow, On, flow_of, act, is_allowed}
+use Rattle.run_semantics.specs.Perform.{Flow, On, flow_of, act, deed, is_allowed, perform}
 use Rattle.run_semantics.specs.Event.{call_of, instance_in, with_state, changed, replied, called, calling}
 use Rattle.run_semantics.specs.Run.{standing}
-use Rattle.run_semantics.proofs.Sound.{in_flow, in_flow-of, EachKeeps, Keeps, act_keeps, call_last_keeps, deed_keeps, either_keeps, keeps_same, last_keeps, perform_keeps}
+use Rattle.run_semantics.proofs.Sound.{in_flow, in_flow-of, EachKeeps, Keeps, act_keeps, deed_keeps, either_keeps, finish_call_keeps, keeps_same, perform_keeps}
 use Rattle.kernel_boxes.specs.Seats.{BoxAt, instance_of, module_in, AreOfKinds, AreKept}
 use Rattle.kernel_boxes.proofs.Keeping.{kind_same, kind_in, kinds_with, standing_with, states_with}
 use Rattle.kernel_actions.specs.Positions.{IsGrownFrom}
 use Rattle.run_semantics.specs.Finishing.{call_last}
-use Rattle.kernel.specs.Calls.{answered_at, call_at, done_at}
 use Rattle.kernel.specs.Seats.{world_of, IsCalled, IsServed}
 use Rattle.kernel.proofs.Apart.{with_modules}
 
@@ -101,29 +100,25 @@ module _ (b : Behaviour) (m : Answers) (follow : Reply → World → Flow) (id :
 
 -- A CALL in code is a call of the definitions, where what follows its reply is what follows it
 -- there
-calling_is : (b : Behaviour) (m : Answers) (follow : Reply → World → Flow) (id : ℕ) (p : CallReason) (core left : World) (old new : List BoxAt) (reply : Reply) (turn : EventFlow) → AreOfKinds b old → IsCalled id old new (call_of m id p core) (Ok reply)
+pub calling_is : (b : Behaviour) (m : Answers) (follow : Reply → World → Flow) (id : ℕ) (p : CallReason) (core left : World) (old new : List BoxAt) (reply : Reply) (turn : EventFlow) → AreOfKinds b old → IsCalled id old new (call_of m id p core) (Ok reply)
     → flow_of turn left ≡ follow reply (world_of core new) → flow_of turn left ≡ calling b m follow id p (world_of core old)
 calling_is b m follow id p core left old new reply turn kinds s e =
     e ∙ called_is_step b m follow id p core old new reply kinds s ∙ sym (found_called b m follow id p (world_of core old) old s.before s.found)
 
-calling_none : (b : Behaviour) (m : Answers) (follow : Reply → World → Flow) (id : ℕ) (p : CallReason) (core : World) (old new : List BoxAt) → (module_in id old ≡ None) × (new ≡ old) → On (world_of core new) ≡ calling b m follow id p (world_of core old)
+pub calling_none : (b : Behaviour) (m : Answers) (follow : Reply → World → Flow) (id : ℕ) (p : CallReason) (core : World) (old new : List BoxAt) → (module_in id old ≡ None) × (new ≡ old) → On (world_of core new) ≡ calling b m follow id p (world_of core old)
 calling_none b m follow id p core old new h = ap (λ (ss : List BoxAt). On (world_of core ss)) h.1 ∙ none_called b m follow id p (world_of core old) old h.0
 
-pub called_is : (b : Behaviour) (m : Answers) (o : Occasion) (id : ℕ) (p : CallReason) (core left : World) (old new : List BoxAt) (reply : Reply) (turn : EventFlow) → AreOfKinds b old → IsCalled id old new (call_of m id p core) (Ok reply)
-    → flow_of turn left ≡ answered_at b m o id reply (world_of core new) → flow_of turn left ≡ call_at b m o id p (world_of core old)
-called_is b m o id p core left old new reply turn kinds s e = calling_is b m (answered_at b m o id) id p core left old new reply turn kinds s e
+-- an action within an event inserts one event at most, by what the code says of it
+pub act_next : (b : Behaviour) (m : Answers) (id : ℕ) (action : Action) (turn : EventFlow) (w v : World) → flow_of turn v ≡ act (perform b m id) occasion.Event id action w → v.next ≤ w.next + 1
+act_next b m id action turn w v e = (subst (Keeps 1 w) (ap in_flow (sym e) ∙ in_flow-of turn v) (act_keeps 1 occasion.Event id (perform b m id) (perform_keeps b m id) action w)).next
 
-pub passed_over : (b : Behaviour) (m : Answers) (o : Occasion) (id : ℕ) (p : CallReason) (core : World) (old new : List BoxAt) → (module_in id old ≡ None) × (new ≡ old) → On (world_of core new) ≡ call_at b m o id p (world_of core old)
-passed_over b m o id p core old new h = calling_none b m (answered_at b m o id) id p core old new h
+-- so does one of a module that is finished
+deeds_keep : (o : Occasion) (id : ℕ) → EachKeeps 1 o id (deed id)
+deeds_keep o id action w = either_keeps 1 (is_allowed o action) _ _ w (deed_keeps id action w) (λ e. keeps_same 1 w)
 
--- an action inserts one event at most, by what the code says of it
-each_keeps : (b : Behaviour) (m : Answers) (o : Occasion) (id : ℕ) → EachKeeps 1 o id (done_at b m o id)
-each_keeps b m occasion.Event id action w = perform_keeps b m id action w
-each_keeps b m occasion.End id action w = either_keeps 1 (is_allowed occasion.End action) _ _ w (deed_keeps id action w) (λ e. keeps_same 1 w)
+pub last_next : (o : Occasion) (id : ℕ) (action : Action) (turn : EventFlow) (w v : World) → flow_of turn v ≡ act (deed id) o id action w → v.next ≤ w.next + 1
+last_next o id action turn w v e = (subst (Keeps 1 w) (ap in_flow (sym e) ∙ in_flow-of turn v) (act_keeps 1 o id (deed id) (deeds_keep o id) action w)).next
 
-pub act_next : (b : Behaviour) (m : Answers) (o : Occasion) (id : ℕ) (action : Action) (turn : EventFlow) (w v : World) → flow_of turn v ≡ act (done_at b m o id) o id action w → v.next ≤ w.next + 1
-act_next b m o id action turn w v e = (subst (Keeps 1 w) (ap in_flow (sym e) ∙ in_flow-of turn v) (act_keeps 1 o id (done_at b m o id) (each_keeps b m o id) action w)).next
-
--- a call for the end inserts nothing
-pub last_leaves : (b : Behaviour) (m : Answers) (id : ℕ) (turn : EventFlow) (w v : World) → flow_of turn v ≡ call_last b m occasion.End id w → Keeps 0 w v
-last_leaves b m id turn w v e = subst (Keeps 0 w) (ap in_flow (sym e) ∙ in_flow-of turn v) (call_last_keeps b m occasion.End id w (last_keeps id))
+-- and a call of such a module no more than it has actions
+pub last_leaves : (b : Behaviour) (m : Answers) (o : Occasion) (id : ℕ) (turn : EventFlow) (w v : World) → flow_of turn v ≡ call_last b m o id w → Keeps 1000 w v
+last_leaves b m o id turn w v e = subst (Keeps 1000 w) (ap in_flow (sym e) ∙ in_flow-of turn v) (finish_call_keeps b m o id w (deeds_keep o id))

@@ -2,10 +2,13 @@ pub mod Apart
 pub mod Backwards
 pub mod Behind
 pub mod Calling
+pub mod Last
+pub mod Dropped
 pub mod Levels
 pub mod Lookups
 pub mod Rising
 pub mod Starting
+pub mod Supplying
 pub mod Targets
 pub mod Upcoming
 pub mod Waiting

@@ -2,19 +2,17 @@
 use Rattle.std.proofs.Common.{◌≡◌, ℕ, List, sym, ap, ◌∙◌, subst}
 use Rattle.module_api.specs.declared.call.Call.{Call}
 use Rattle.module_api.specs.declared.call.CallReason.{CallReason}
-use Rattle.module_api.specs.Behaviour.{Behaviour}
 use Rattle.model_questions.specs.Answers.{Answers}
 use Rattle.model_questions.specs.declared.record.Record.{Record}
-use Rattle.run_semantics.specs.declared.occasions.Occasion.{Occasion}
 use Rattle.run_semantics.specs.declared.outcome.EventFlow.{EventFlow}
 use Rattle.run_semantics.specs.Event.{call_of}
-use Rattle.run_semantics.specs.Perform.{flow_of}
+use Rattle.run_semantics.specs.Perform.{Flow, flow_of}
 use Rattle.run_semantics.specs.World.{World}
 use Rattle.kernel_call_views.specs.declared.CallView.{CallView}
 use Rattle.kernel_call_views.specs.declared.CallViews.{CallViews}
 use Rattle.kernel_call_views.specs.Tables.{shown_of, AreShown, IsShown}
 use Rattle.kernel_call_views.proofs.Showing.{shown_on}
-use Rattle.kernel.specs.Calls.{call_at, call_with}
+use Rattle.kernel.specs.Calls.{call_with}
 use Rattle.kernel_actions.specs.Positions.{IsGrownFrom}
 
 -- a call says itself of which module it is, and what for
@@ -22,10 +20,11 @@ pub told_itself : (m : Answers) (id : ℕ) (p : CallReason) (w : World) (call : 
 told_itself m id p w call e =
     e ∙ (ap (λ i. call_of m i p w) (sym (ap (λ (k : Call). k.id) e)) ∙ ap (λ q. call_of m call.id q w) (sym (ap (λ (k : Call). k.prompt) e)))
 
-pub named_step : (b : Behaviour) (m : Answers) (o : Occasion) (id : ℕ) (p : CallReason) (v w : World) (call : Call) (turn : EventFlow) → call ≡ call_of m id p v
-    → flow_of turn w ≡ call_at b m o call.id call.prompt v → flow_of turn w ≡ call_at b m o id p v
-named_step b m o id p v w call turn e step =
-    step ∙ (ap (λ i. call_at b m o i call.prompt v) (ap (λ (k : Call). k.id) e) ∙ ap (λ q. call_at b m o id q v) (ap (λ (k : Call). k.prompt) e))
+-- what is said of the call by itself is said of the module's
+pub named_step : (of : ℕ → CallReason → World → Flow) (m : Answers) (id : ℕ) (p : CallReason) (v w : World) (call : Call) (turn : EventFlow) → call ≡ call_of m id p v
+    → flow_of turn w ≡ of call.id call.prompt v → flow_of turn w ≡ of id p v
+named_step of m id p v w call turn e step =
+    step ∙ (ap (λ i. of i call.prompt v) (ap (λ (k : Call). k.id) e) ∙ ap (λ q. of id q v) (ap (λ (k : Call). k.prompt) e))
 
 -- a call that shows what was found is the call of the definitions
 pub told_shown : (m : Answers) (id : ℕ) (p : CallReason) (w : World) (shown : CallView) (call : Call) → shown ≡ shown_of m w.records id → call ≡ call_with id p shown w → call ≡ call_of m id p w

@@ -1,13 +1,11 @@
 -- Calls, by what they show of their modules, and by what they are for.
 use Rattle.std.specs.Prelude.{ℕ}
 use Rattle.module_api.specs.Behaviour.{Behaviour}
-use Rattle.module_api.specs.declared.reply.Action.{Action}
 use Rattle.module_api.specs.declared.reply.Reply.{Reply}
 use Rattle.model_questions.specs.Answers.{Answers}
 use Rattle.run_semantics.specs.Calls.{calling}
-use Rattle.run_semantics.specs.Perform.{Flow, answered_by, deed, perform}
+use Rattle.run_semantics.specs.Perform.{Flow, answered_by, deed}
 use Rattle.run_semantics.specs.declared.occasions.Occasion.{Occasion}
-use Rattle.run_semantics.specs.declared.occasions.Occasion.TheVariants as occasion
 use Rattle.module_api.specs.declared.call.Call.{Call}
 use Rattle.module_api.specs.declared.call.CallReason.{CallReason}
 use Rattle.model_questions.specs.Records.{record_at, index_of}
@@ -27,14 +25,10 @@ call_with id prompt shown w = record {
   prompt = prompt;
 }
 
--- how an action is done, by what its module is called for: at the end it is a deed
-abbrev pub done_at : Behaviour → Answers → Occasion → ℕ → Action → World → Flow
-done_at b m occasion.Event id = perform b m id
-done_at b m occasion.End id = deed id
+-- WHAT FOLLOWS THE REPLY of a module that is finished: nothing but deeds
+abbrev pub answered_last : Answers → Occasion → ℕ → Reply → World → Flow
+answered_last m o id = answered_by m (deed id) o id
 
--- what follows a reply, and a call with what follows its reply
-abbrev pub answered_at : Behaviour → Answers → Occasion → ℕ → Reply → World → Flow
-answered_at b m o id = answered_by m (done_at b m o id) o id
-
-abbrev pub call_at : Behaviour → Answers → Occasion → ℕ → CallReason → World → Flow
-call_at b m o id prompt w = calling b m (answered_at b m o id) id prompt w
+-- a call with that
+abbrev pub called_last : Behaviour → Answers → Occasion → ℕ → CallReason → World → Flow
+called_last b m o id prompt w = calling b m (answered_last m o id) id prompt w

@@ -1,6 +1,6 @@
 -- The world that a core and its boxes make.
 use Rattle.std.specs.Prelude.{◌≡◌, ℕ, Bool, false, bytes_eq, List, [], ◌∷◌, Option, Some, None}
-use Rattle.std.specs.Prelude.{option_map, Result, map, length, take}
+use Rattle.std.specs.Prelude.{option_map, nat_lt, Result, map, length, take, if◌then◌else◌}
 use Rattle.sim_values.specs.declared.NoMemory.{NoMemory}
 use Rattle.module_api.specs.declared.call.Call.{Call}
 use Rattle.module_api.specs.declared.reply.Reply.{Reply}
@@ -66,6 +66,11 @@ missing_of w boxes = option_map (request_for w) (missing_part w boxes)
 abbrev pub lacking_of : World → List Instance → List BoxAt → Option Request
 lacking_of w saved seats = option_map (request_for w)
     (first_without (standing (map instance_of (staying saved seats))) (standing saved))
+
+-- a box among others, in its place by its id
+abbrev pub with_seat : BoxAt → List BoxAt → List BoxAt
+with_seat s [] = s ∷ []
+with_seat s (t ∷ ts) = if nat_lt s.id t.id then s ∷ t ∷ ts else t ∷ with_seat s ts
 
 -- ---- boxes that wait for the start of their modules
 

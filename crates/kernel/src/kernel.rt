@@ -1,13 +1,13 @@
 //! A world in code, one event at a time.
 
 ghost use Rattle.std.specs.Prelude.{◌≡◌, ◌+◌, ◌^◌, ◌<◌, ◌≤◌, OnOk, OnErr, IfOk, IfSome, None, []};
-ghost use Rattle.std.specs.Prelude.{length, max, slice_get, drop, option_map};
+ghost use Rattle.std.specs.Prelude.{length, max, slice_get, drop, option_map, IfErr};
 ghost use Rattle.module_api.specs.Meaning.{Answered, IsSameModule};
 ghost use Rattle.module_tree.specs.Boxes.{nothing};
 ghost use Rattle.run_question_log.specs.Entries.{noted_in};
 ghost use Rattle.run_semantics.specs.World.{empty, HasRoom};
-ghost use Rattle.run_semantics.specs.Perform.{flow_of, On, perform, act, act_all, acted};
-ghost use Rattle.run_semantics.specs.Event.{call_of, instance_in, with_state};
+ghost use Rattle.run_semantics.specs.Perform.{flow_of, On, perform, act, act_all, acted, answered};
+ghost use Rattle.run_semantics.specs.Event.{call_module, call_of, instance_in, with_state};
 ghost use Rattle.run_semantics.specs.declared.occasions.Occasion.TheVariants as occasions;
 ghost use Rattle.model_questions.specs.Answers.{parameters_of};
 ghost use Rattle.run_semantics.specs.Upcoming.{target_of, upcoming};
@@ -22,24 +22,28 @@ ghost use Rattle.run_semantics.specs.Ending.{call_last, finish, finish_all, endi
 ghost use Rattle.kernel.specs.Seats.{stages_of, stands_at, AreFirst, AreFresh, IsServed};
 ghost use Rattle.kernel.specs.Seats.{IsUnstarted, lacking_of, missing_of, missing_part, needs};
 ghost use Rattle.kernel.specs.Setups.{ready};
-ghost use Rattle.kernel.specs.Calls.{answered_at, call_at, done_at};
-ghost use Rattle.kernel.specs.Seats.{request_for};
+ghost use Rattle.kernel.specs.Calls.{called_last};
+ghost use Rattle.run_semantics.specs.Deleting.{deleted, finished_first, subtree_dropped};
+ghost use Rattle.kernel.specs.Seats.{request_for, with_seat};
 ghost use Rattle.kernel_actions.specs.Positions.{position_of, cut_to, world_back, IsGrownFrom};
 ghost use Rattle.kernel_actions.specs.Positions.{IsSameBesideModules};
-ghost use Rattle.kernel_boxes.specs.Seats.{module_in, AreKept};
+ghost use Rattle.kernel_boxes.specs.Seats.{module_in, AreKept, BoxAt};
 ghost use Rattle.kernel_boxes.specs.Staying.{first_without, staying, IdsRise};
 ghost use Rattle.run_semantics.specs.Laws.{AreStates};
 ghost use Rattle.kernel_boxes.specs.Saved.{CanTake, Takes, instances_held, seats_held};
 ghost use Rattle.kernel.specs.Kernels.{boxes_in, world_in, ran_in, HasKinds, IsCallable};
 ghost use Rattle.kernel.specs.Kernels.{KeepsBoxes};
 
+use crate::finishing::{MAX_ACTIONS, follow_last};
 use crate::from_model::{ask_injection, call_shown, prepare, read_fault};
 use crate::request::Request;
+use kernel_actions::classes::is_among;
 use kernel_actions::core_part::Core;
 use kernel_actions::events::{arrival, message_of};
 use kernel_actions::looks::{Look, Next};
 use kernel_actions::position::Position;
 use kernel_boxes::boxes_saved::{load_one, save_all};
+use kernel_boxes::dropping::drop_those;
 use kernel_boxes::going_back::{drop_others, first_lacking};
 use kernel_call_views::{CallView, CallViews};
 use kernel_sending::joining::{connect, disconnect};
@@ -52,19 +56,16 @@ use module_api::simple_module::SimpleModule;
 use module_tree::Tree;
 use run_answers::Answers;
 use run_question_log::entry::LogEntry;
-use run_semantics::occasions::{Occasion, is_allowed};
+use run_semantics::occasions::Occasion;
 use run_semantics::outcome::{EventFlow, Outcome, RunFault};
 use run_semantics::routes::copy_transmissions;
 use run_semantics::traces::{Emission, Instance, Scalar};
 use sim_time::SimTime;
 use sim_values::NoMemory;
 use sim_values::text::Text;
-use std::alloc::Global;
+use std::alloc::{AllocFailed, Global};
 use std::marker::PhantomData;
 use std::mem::swap;
-
-/// How many actions a reply has at most.
-const MAX_ACTIONS: usize = 1000;
 
 /// A world in code.
 pub struct Kernel<C: Catalogue> {
@@ -251,8 +252,8 @@ impl<C: Catalogue> Kernel<C> {
         id: u32,
         action: &Action,
     ) -> Result<EventFlow, NoMemory>
-        requires { (world_in SimpleModule-box self.old).next + 1 < 2 ^ 128 }
-        ensures boxes { self.new.boxes ≡ self.old.boxes }
+        requires callable { IsCallable C.behaviour SimpleModule-box (2 ^ 75) self.old }
+        ensures kinds { HasKinds C.behaviour SimpleModule-box self.new }
         ensures step { IfOk result (λ turn. flow_of turn (world_in SimpleModule-box self.new)
             ≡ perform C.behaviour A.answers id action.now (world_in SimpleModule-box self.old)) }
         ensures grown { IsGrownFrom self.old.core self.new.core }
@@ -272,57 +273,33 @@ impl<C: Catalogue> Kernel<C> {
             }
             Action::Connect(from, to, link) => connect(core, alloc, model, id, from, to, link),
             Action::Disconnect(place) => disconnect(core, alloc, model, id, place),
+            Action::Delete(path, finish) => {
+                self.delete(alloc, model, id, path.as_bytes(), *finish)
+            }
             _ => core.deed(alloc, id, action),
         }
     }
 
-    /// One action of the module of that id, as it is done by what the module is called for.
-    #[tactic(auto, using(kernel_actions::proofs::Lasting::growth_same))]
-    fn do_at<A: Answers>(
-        &mut self,
-        alloc: Global,
-        model: &mut A,
-        occasion: Occasion,
-        id: u32,
-        action: &Action,
-    ) -> Result<EventFlow, NoMemory>
-        requires { (world_in SimpleModule-box self.old).next + 1 < 2 ^ 128 }
-        ensures boxes { self.new.boxes ≡ self.old.boxes }
-        ensures step { IfOk result (λ turn. flow_of turn (world_in SimpleModule-box self.new)
-            ≡ done_at C.behaviour A.answers occasion id action.now
-            (world_in SimpleModule-box self.old)) }
-        ensures grown { IsGrownFrom self.old.core self.new.core }
-    {
-        match occasion {
-            Occasion::Event => self.perform(alloc, model, id, action),
-            Occasion::End => self.core.deed(alloc, id, action),
-        }
-    }
-
-    /// An action of a reply, where it may have that.
+    /// An action of a reply.
     #[tactic(auto, using(kernel_actions::proofs::Lasting::growth_same))]
     fn act<A: Answers>(
         &mut self,
         alloc: Global,
         model: &mut A,
-        occasion: Occasion,
         id: u32,
         action: &Action,
     ) -> Result<EventFlow, NoMemory>
-        requires { (world_in SimpleModule-box self.old).next + 1 < 2 ^ 128 }
-        ensures boxes { self.new.boxes ≡ self.old.boxes }
+        requires callable { IsCallable C.behaviour SimpleModule-box (2 ^ 75) self.old }
+        ensures kinds { HasKinds C.behaviour SimpleModule-box self.new }
         ensures step { IfOk result (λ turn. flow_of turn (world_in SimpleModule-box self.new)
-            ≡ act (done_at C.behaviour A.answers occasion id) occasion id action.now
+            ≡ act (perform C.behaviour A.answers id) occasions.Event id action.now
             (world_in SimpleModule-box self.old)) }
         ensures grown { IsGrownFrom self.old.core self.new.core }
     {
         if action.has_large_payload() {
             return self.core.broken(alloc, id, RunFault::PayloadTooLarge);
         }
-        if !is_allowed(occasion, action) {
-            return self.core.broken(alloc, id, RunFault::NotInFinish);
-        }
-        self.do_at(alloc, model, occasion, id, action)
+        self.perform(alloc, model, id, action)
     }
 
     /// The actions of a reply, in order.
@@ -330,19 +307,19 @@ impl<C: Catalogue> Kernel<C> {
         &mut self,
         alloc: Global,
         model: &mut A,
-        occasion: Occasion,
         id: u32,
         actions: &[Action],
     ) -> Result<EventFlow, NoMemory>
-        requires { (world_in SimpleModule-box self.old).next + length actions.now < 2 ^ 128 }
-        ensures boxes { self.new.boxes ≡ self.old.boxes }
+        requires callable { IsCallable C.behaviour SimpleModule-box
+            (2 ^ 75 + length actions.now) self.old }
+        ensures kinds { HasKinds C.behaviour SimpleModule-box self.new }
         ensures step { IfOk result (λ turn. flow_of turn (world_in SimpleModule-box self.new)
-            ≡ act_all (done_at C.behaviour A.answers occasion id) occasion id actions.now
+            ≡ act_all (perform C.behaviour A.answers id) occasions.Event id actions.now
             (world_in SimpleModule-box self.old)) }
         ensures grown { IsGrownFrom self.old.core self.new.core }
     {
         for action in actions {
-            match self.act(alloc, model, occasion, id, action)? {
+            match self.act(alloc, model, id, action)? {
                 EventFlow::GoOn => {}
                 turn => return Ok(turn),
             }
@@ -356,21 +333,20 @@ impl<C: Catalogue> Kernel<C> {
         &mut self,
         alloc: Global,
         model: &mut A,
-        occasion: Occasion,
         id: u32,
         actions: &[Action],
     ) -> Result<EventFlow, NoMemory>
-        requires { (world_in SimpleModule-box self.old).next + 1000 < 2 ^ 128 }
-        ensures boxes { self.new.boxes ≡ self.old.boxes }
+        requires callable { IsCallable C.behaviour SimpleModule-box (2 ^ 76) self.old }
+        ensures kinds { HasKinds C.behaviour SimpleModule-box self.new }
         ensures step { IfOk result (λ turn. flow_of turn (world_in SimpleModule-box self.new)
-            ≡ acted (done_at C.behaviour A.answers occasion id) occasion id actions.now
+            ≡ acted (perform C.behaviour A.answers id) occasions.Event id actions.now
             (world_in SimpleModule-box self.old)) }
         ensures grown { IsGrownFrom self.old.core self.new.core }
     {
         if actions.len() > MAX_ACTIONS {
             return self.core.broken(alloc, id, RunFault::TooManyActions);
         }
-        self.act_all(alloc, model, occasion, id, actions)
+        self.act_all(alloc, model, id, actions)
     }
 
     /// Carries out the reply to a call: its reads are asked, and then its actions are performed,
@@ -380,25 +356,24 @@ impl<C: Catalogue> Kernel<C> {
         &mut self,
         alloc: Global,
         model: &mut A,
-        occasion: Occasion,
         call: &Call,
         reply: &Reply,
     ) -> Result<EventFlow, NoMemory>
-        requires next { (world_in SimpleModule-box self.old).next + 1000 < 2 ^ 128 }
+        requires callable { IsCallable C.behaviour SimpleModule-box (2 ^ 76) self.old }
         requires told { call.now.parameters
             ≡ parameters_of A.answers self.old.core.records call.now.id }
-        ensures boxes { self.new.boxes ≡ self.old.boxes }
+        ensures kinds { HasKinds C.behaviour SimpleModule-box self.new }
         ensures step { IfOk result (λ turn. flow_of turn (world_in SimpleModule-box self.new)
-            ≡ answered_at C.behaviour A.answers occasion call.now.id reply.now
+            ≡ answered C.behaviour A.answers call.now.id reply.now
             (world_in SimpleModule-box self.old)) }
         ensures grown { IsGrownFrom self.old.core self.new.core }
     {
         let reads = reply.reads.as_slice();
         let fault = read_fault(&self.core, alloc, model, call, reads)?;
-        self.core.ask_noted(alloc, occasion, call.id, reads)?;
+        self.core.ask_noted(alloc, Occasion::Event, call.id, reads)?;
         match fault {
             Some(fault) => self.core.broken(alloc, call.id, fault),
-            None => self.act_few(alloc, model, occasion, call.id, reply.actions.as_slice()),
+            None => self.act_few(alloc, model, call.id, reply.actions.as_slice()),
         }
     }
 
@@ -426,15 +401,14 @@ impl<C: Catalogue> Kernel<C> {
         &mut self,
         alloc: Global,
         model: &mut A,
-        occasion: Occasion,
         call: &Call,
     ) -> Result<EventFlow, NoMemory>
-        requires callable { IsCallable C.behaviour SimpleModule-box 1000 self.old }
+        requires callable { IsCallable C.behaviour SimpleModule-box (2 ^ 76) self.old }
         requires told { call.now
             ≡ call_of A.answers call.now.id call.now.prompt (world_in SimpleModule-box self.old) }
-        ensures kept { KeepsBoxes C.behaviour SimpleModule-box self.old self.new }
+        ensures kinds { HasKinds C.behaviour SimpleModule-box self.new }
         ensures step { IfOk result (λ turn. flow_of turn (world_in SimpleModule-box self.new)
-            ≡ call_at C.behaviour A.answers occasion call.now.id call.now.prompt
+            ≡ call_module C.behaviour A.answers call.now.id call.now.prompt
             (world_in SimpleModule-box self.old)) }
         ensures grown { IsGrownFrom (world_in SimpleModule-box self.old)
             (world_in SimpleModule-box self.new) }
@@ -443,7 +417,7 @@ impl<C: Catalogue> Kernel<C> {
             return Ok(EventFlow::GoOn);
         };
         let reply = reply?;
-        self.follow(alloc, model, occasion, call, &reply)
+        self.follow(alloc, model, call, &reply)
     }
 
     /// One call of the module of that id. What calls show of it is taken out of the table for the
@@ -454,16 +428,14 @@ impl<C: Catalogue> Kernel<C> {
         alloc: Global,
         model: &mut A,
         shown: &mut CallViews,
-        occasion: Occasion,
         id: u32,
         prompt: CallReason,
     ) -> Result<EventFlow, NoMemory>
-        requires callable { IsCallable C.behaviour SimpleModule-box 1000 self.old }
+        requires callable { IsCallable C.behaviour SimpleModule-box (2 ^ 76) self.old }
         requires shown { AreShown A.answers (world_in SimpleModule-box self.old).records shown.old }
-        ensures kept { KeepsBoxes C.behaviour SimpleModule-box self.old self.new }
+        ensures kinds { HasKinds C.behaviour SimpleModule-box self.new }
         ensures step { IfOk result (λ turn. flow_of turn (world_in SimpleModule-box self.new)
-            ≡ call_at C.behaviour A.answers occasion id prompt
-            (world_in SimpleModule-box self.old)) }
+            ≡ call_module C.behaviour A.answers id prompt (world_in SimpleModule-box self.old)) }
         ensures grown { IsGrownFrom (world_in SimpleModule-box self.old)
             (world_in SimpleModule-box self.new) }
         ensures shown { AreShown A.answers (world_in SimpleModule-box self.new).records shown.new }
@@ -471,9 +443,206 @@ impl<C: Catalogue> Kernel<C> {
         let lent = shown.take(alloc, model, self.core.records(), id)?;
         let lasts = lent.lasts;
         let call = call_shown(&self.core, id, prompt, lent.shown);
-        let turn = self.carry_out(alloc, model, occasion, &call);
+        let turn = self.carry_out(alloc, model, &call);
         shown.put_back(lasts, id, shown_in(call));
         turn
+    }
+
+    // ---- modules that are finished
+
+    /// Tells the module that the call names that it is over, and does what its reply says. A call of
+    /// what isn't there is passed over.
+    #[tactic(auto, using(kernel_actions::proofs::Lasting::growth_same))]
+    fn carry_out_last<A: Answers>(
+        &mut self,
+        alloc: Global,
+        model: &mut A,
+        occasion: Occasion,
+        call: &Call,
+    ) -> Result<EventFlow, NoMemory>
+        requires callable { IsCallable C.behaviour SimpleModule-box 1000 self.old }
+        requires told { call.now
+            ≡ call_of A.answers call.now.id call.now.prompt (world_in SimpleModule-box self.old) }
+        ensures kept { KeepsBoxes C.behaviour SimpleModule-box self.old self.new }
+        ensures step { IfOk result (λ turn. flow_of turn (world_in SimpleModule-box self.new)
+            ≡ called_last C.behaviour A.answers occasion call.now.id call.now.prompt
+            (world_in SimpleModule-box self.old)) }
+        ensures grown { IsGrownFrom (world_in SimpleModule-box self.old)
+            (world_in SimpleModule-box self.new) }
+    {
+        let Some(reply) = self.reply_of(alloc, call) else {
+            return Ok(EventFlow::GoOn);
+        };
+        let reply = reply?;
+        follow_last(&mut self.core, alloc, model, occasion, call, &reply)
+    }
+
+    /// Tells the module of that id that it is over, where it has a box. What calls show of it is
+    /// taken out of the table for the call, and put back after it.
+    #[tactic(auto, using(kernel_actions::proofs::Lasting::growth_same))]
+    fn call_last<A: Answers>(
+        &mut self,
+        alloc: Global,
+        model: &mut A,
+        shown: &mut CallViews,
+        occasion: Occasion,
+        id: u32,
+    ) -> Result<EventFlow, NoMemory>
+        requires callable { IsCallable C.behaviour SimpleModule-box 1000 self.old }
+        requires shown { AreShown A.answers (world_in SimpleModule-box self.old).records shown.old }
+        ensures kept { KeepsBoxes C.behaviour SimpleModule-box self.old self.new }
+        ensures step { let before = world_in SimpleModule-box self.old in
+            IfOk result (λ turn. flow_of turn (world_in SimpleModule-box self.new)
+            ≡ call_last C.behaviour A.answers occasion id before) }
+        ensures grown { IsGrownFrom (world_in SimpleModule-box self.old)
+            (world_in SimpleModule-box self.new) }
+        ensures shown { AreShown A.answers (world_in SimpleModule-box self.new).records shown.new }
+    {
+        if self.stages_at(id).is_none() {
+            return Ok(EventFlow::GoOn);
+        }
+        let lent = shown.take(alloc, model, self.core.records(), id)?;
+        let lasts = lent.lasts;
+        let call = call_shown(&self.core, id, CallReason::Finish, lent.shown);
+        let turn = self.carry_out_last(alloc, model, occasion, &call);
+        shown.put_back(lasts, id, shown_in(call));
+        turn
+    }
+
+    /// Finishes the module of that id: a simple one is told first, a compound one just counts as
+    /// finished.
+    #[tactic(auto, using(kernel_actions::proofs::Lasting::growth_same))]
+    fn finish_one<A: Answers>(
+        &mut self,
+        alloc: Global,
+        model: &mut A,
+        shown: &mut CallViews,
+        occasion: Occasion,
+        id: u32,
+    ) -> Result<EventFlow, NoMemory>
+        requires callable { IsCallable C.behaviour SimpleModule-box 1000 self.old }
+        requires shown { AreShown A.answers (world_in SimpleModule-box self.old).records shown.old }
+        ensures kept { KeepsBoxes C.behaviour SimpleModule-box self.old self.new }
+        ensures next { let before = world_in SimpleModule-box self.old in
+            OnOk result ((world_in SimpleModule-box self.new).next ≤ before.next + 1000) }
+        ensures step { let before = world_in SimpleModule-box self.old in
+            IfOk result (λ turn. flow_of turn (world_in SimpleModule-box self.new)
+            ≡ finish C.behaviour A.answers occasion id before) }
+        ensures grown { IsGrownFrom (world_in SimpleModule-box self.old)
+            (world_in SimpleModule-box self.new) }
+        ensures shown { AreShown A.answers (world_in SimpleModule-box self.new).records shown.new }
+    {
+        match self.call_last(alloc, model, shown, occasion, id)? {
+            EventFlow::GoOn => {
+                self.core.mark_finished(id)?;
+                Ok(EventFlow::GoOn)
+            }
+            turn => Ok(turn),
+        }
+    }
+
+    /// Finishes these modules, in this order.
+    fn finish_all<A: Answers>(
+        &mut self,
+        alloc: Global,
+        model: &mut A,
+        shown: &mut CallViews,
+        occasion: Occasion,
+        ids: &[u32],
+    ) -> Result<EventFlow, NoMemory>
+        requires callable { IsCallable C.behaviour SimpleModule-box (2 ^ 75) self.old }
+        requires shown { AreShown A.answers (world_in SimpleModule-box self.old).records shown.old }
+        ensures kept { KeepsBoxes C.behaviour SimpleModule-box self.old self.new }
+        ensures step { let before = world_in SimpleModule-box self.old in
+            IfOk result (λ turn. flow_of turn (world_in SimpleModule-box self.new)
+            ≡ finish_all C.behaviour A.answers occasion ids.now before) }
+        ensures grown { IsGrownFrom (world_in SimpleModule-box self.old)
+            (world_in SimpleModule-box self.new) }
+        ensures shown { AreShown A.answers (world_in SimpleModule-box self.new).records shown.new }
+    {
+        for id in ids {
+            match self.finish_one(alloc, model, shown, occasion, *id)? {
+                EventFlow::GoOn => {}
+                turn => return Ok(turn),
+            }
+        }
+        Ok(EventFlow::GoOn)
+    }
+
+    // ---- modules that are deleted
+
+    /// Finishes a module that is to be deleted, with all that is inside of it, if that is wanted.
+    #[tactic(auto, using(kernel_actions::proofs::Lasting::growth_same))]
+    fn finish_first<A: Answers>(
+        &mut self,
+        alloc: Global,
+        model: &mut A,
+        finish: bool,
+        target: u32,
+    ) -> Result<EventFlow, NoMemory>
+        requires callable { IsCallable C.behaviour SimpleModule-box (2 ^ 75) self.old }
+        ensures kept { KeepsBoxes C.behaviour SimpleModule-box self.old self.new }
+        ensures step { let before = world_in SimpleModule-box self.old in
+            IfOk result (λ turn. flow_of turn (world_in SimpleModule-box self.new)
+            ≡ finished_first C.behaviour A.answers finish target before) }
+        ensures grown { IsGrownFrom (world_in SimpleModule-box self.old)
+            (world_in SimpleModule-box self.new) }
+    {
+        if !finish {
+            return Ok(EventFlow::GoOn);
+        }
+        let ids = self.core.to_finish_in(alloc, target)?;
+        // What calls show of these modules is needed once: they are gone after it.
+        let mut shown = CallViews::new(alloc);
+        self.finish_all(alloc, model, &mut shown, Occasion::Deletion, ids.as_slice())
+    }
+
+    /// A module is dead, with all that is inside of it: their boxes are dropped. Where the module of
+    /// that id is one of them the rest of the event is discarded.
+    fn drop_subtree(&mut self, alloc: Global, id: u32, target: u32) -> Result<EventFlow, NoMemory>
+        requires kinds { HasKinds C.behaviour SimpleModule-box self.old }
+        ensures kinds { HasKinds C.behaviour SimpleModule-box self.new }
+        ensures step { let before = world_in SimpleModule-box self.old in
+            IfOk result (λ turn. flow_of turn (world_in SimpleModule-box self.new)
+            ≡ subtree_dropped id target before) }
+        ensures grown { IsGrownFrom self.old.core self.new.core }
+    {
+        let ids = self.core.subtree_of(alloc, target)?;
+        self.core.bury(ids.as_slice())?;
+        drop_those(&mut self.boxes, ids.as_slice());
+        if is_among(ids.as_slice(), id) {
+            Ok(EventFlow::Stop)
+        } else {
+            Ok(EventFlow::GoOn)
+        }
+    }
+
+    /// Deletes the module of that path, with all that is inside of it, as the module of that id
+    /// wants it.
+    fn delete<A: Answers>(
+        &mut self,
+        alloc: Global,
+        model: &mut A,
+        id: u32,
+        path: &[u8],
+        finish: bool,
+    ) -> Result<EventFlow, NoMemory>
+        requires callable { IsCallable C.behaviour SimpleModule-box (2 ^ 75) self.old }
+        ensures kinds { HasKinds C.behaviour SimpleModule-box self.new }
+        ensures step { let before = world_in SimpleModule-box self.old in
+            IfOk result (λ turn. flow_of turn (world_in SimpleModule-box self.new)
+            ≡ deleted C.behaviour A.answers id path.now finish before) }
+        ensures grown { IsGrownFrom self.old.core self.new.core }
+    {
+        let target = match self.core.module_at(alloc, path)? {
+            // The network can't be deleted.
+            Some(target) if target != 1 => target,
+            _ => return self.core.broken(alloc, id, RunFault::NoModule),
+        };
+        match self.finish_first(alloc, model, finish, target)? {
+            EventFlow::GoOn => self.drop_subtree(alloc, id, target),
+            turn => Ok(turn),
+        }
     }
 
     // ---- event zero
@@ -506,9 +675,9 @@ impl<C: Catalogue> Kernel<C> {
         stage: u8,
         id: u32,
     ) -> Result<EventFlow, NoMemory>
-        requires callable { IsCallable C.behaviour SimpleModule-box 1000 self.old }
+        requires callable { IsCallable C.behaviour SimpleModule-box (2 ^ 76) self.old }
         requires shown { AreShown A.answers (world_in SimpleModule-box self.old).records shown.old }
-        ensures kept { KeepsBoxes C.behaviour SimpleModule-box self.old self.new }
+        ensures kinds { HasKinds C.behaviour SimpleModule-box self.new }
         ensures next { let before = world_in SimpleModule-box self.old in
             OnOk result ((world_in SimpleModule-box self.new).next ≤ before.next + 1000) }
         ensures step { let before = world_in SimpleModule-box self.old in
@@ -520,7 +689,7 @@ impl<C: Catalogue> Kernel<C> {
             return Ok(EventFlow::GoOn);
         }
         let prompt = CallReason::Initialize(stage);
-        let turn = self.call_module(alloc, model, shown, Occasion::Event, id, prompt)?;
+        let turn = self.call_module(alloc, model, shown, id, prompt)?;
         Ok(turn)
     }
 
@@ -533,9 +702,9 @@ impl<C: Catalogue> Kernel<C> {
         stage: u8,
         ids: &[u32],
     ) -> Result<EventFlow, NoMemory>
-        requires callable { IsCallable C.behaviour SimpleModule-box (2 ^ 75) self.old }
+        requires callable { IsCallable C.behaviour SimpleModule-box (2 ^ 77) self.old }
         requires shown { AreShown A.answers (world_in SimpleModule-box self.old).records shown.old }
-        ensures kept { KeepsBoxes C.behaviour SimpleModule-box self.old self.new }
+        ensures kinds { HasKinds C.behaviour SimpleModule-box self.new }
         ensures next { let before = world_in SimpleModule-box self.old in
             OnOk result ((world_in SimpleModule-box self.new).next ≤ before.next + 2 ^ 74) }
         ensures step { let before = world_in SimpleModule-box self.old in
@@ -577,7 +746,7 @@ impl<C: Catalogue> Kernel<C> {
         requires next { (world_in SimpleModule-box self.old).next ≡ 0 }
         requires kinds { HasKinds C.behaviour SimpleModule-box self.old }
         requires shown { AreShown A.answers (world_in SimpleModule-box self.old).records shown.old }
-        ensures kept { KeepsBoxes C.behaviour SimpleModule-box self.old self.new }
+        ensures kinds { HasKinds C.behaviour SimpleModule-box self.new }
         ensures next { OnOk result ((world_in SimpleModule-box self.new).next ≤ 2 ^ 82) }
         ensures step { let before = world_in SimpleModule-box self.old in
             IfOk result (λ turn. flow_of turn (world_in SimpleModule-box self.new)
@@ -605,7 +774,6 @@ impl<C: Catalogue> Kernel<C> {
         requires kinds { HasKinds C.behaviour SimpleModule-box self.old }
         requires shown { AreShown A.answers (world_in SimpleModule-box self.old).records shown.old }
         ensures kinds { HasKinds C.behaviour SimpleModule-box self.new }
-        ensures kept { KeepsBoxes C.behaviour SimpleModule-box self.old self.new }
         ensures next { OnOk result ((world_in SimpleModule-box self.new).next ≤ 2 ^ 82) }
         ensures step { IfOk result (λ over.
             stage_of over (world_in SimpleModule-box self.new) ≡ start C.behaviour A.answers) }
@@ -637,8 +805,6 @@ impl<C: Catalogue> Kernel<C> {
             (seats_held SimpleModule-box waiting.old) }
         requires shown { AreShown A.answers (world_in SimpleModule-box self.old).records shown.old }
         ensures kinds { HasKinds C.behaviour SimpleModule-box self.new }
-        ensures stands { standing (world_in SimpleModule-box self.new).modules
-            ≡ needs (world_in SimpleModule-box self.old) }
         ensures none { seats_held SimpleModule-box waiting.new ≡ [] }
         ensures next { OnOk result ((world_in SimpleModule-box self.new).next ≤ 2 ^ 82) }
         ensures step { IfOk result (λ over.
@@ -733,7 +899,6 @@ impl<C: Catalogue> Kernel<C> {
         requires limit { limit ≡ A.answers.time_limit }
         requires shown { AreShown A.answers (world_in SimpleModule-box self.old).records shown.old }
         ensures kinds { HasKinds C.behaviour SimpleModule-box self.new }
-        ensures kept { KeepsBoxes C.behaviour SimpleModule-box self.old self.new }
         ensures room { OnOk result (HasRoom (world_in SimpleModule-box self.new)) }
         ensures step { IfOk result (λ over. stage_of over (world_in SimpleModule-box self.new)
             ≡ next_stage C.behaviour A.answers (Running (world_in SimpleModule-box self.old))) }
@@ -749,7 +914,7 @@ impl<C: Catalogue> Kernel<C> {
             Ok(event) => {
                 let id = event.id;
                 let prompt = CallReason::Message(message_of(alloc, event));
-                let turn = self.call_module(alloc, model, shown, Occasion::Event, id, prompt)?;
+                let turn = self.call_module(alloc, model, shown, id, prompt)?;
                 Ok(self.settle(turn))
             }
             Err(outcome) => Ok(Some(outcome)),
@@ -769,89 +934,6 @@ impl<C: Catalogue> Kernel<C> {
     }
 
     // ---- the end
-
-    /// Tells the module of that id that the run is over, where it has a box.
-    #[tactic(auto, using(kernel_actions::proofs::Lasting::growth_same))]
-    fn call_last<A: Answers>(
-        &mut self,
-        alloc: Global,
-        model: &mut A,
-        shown: &mut CallViews,
-        id: u32,
-    ) -> Result<EventFlow, NoMemory>
-        requires callable { IsCallable C.behaviour SimpleModule-box 1000 self.old }
-        requires shown { AreShown A.answers (world_in SimpleModule-box self.old).records shown.old }
-        ensures kept { KeepsBoxes C.behaviour SimpleModule-box self.old self.new }
-        ensures step { let before = world_in SimpleModule-box self.old in
-            IfOk result (λ turn. flow_of turn (world_in SimpleModule-box self.new)
-            ≡ call_last C.behaviour A.answers occasions.End id before) }
-        ensures grown { IsGrownFrom (world_in SimpleModule-box self.old)
-            (world_in SimpleModule-box self.new) }
-        ensures shown { AreShown A.answers (world_in SimpleModule-box self.new).records shown.new }
-    {
-        if self.stages_at(id).is_none() {
-            return Ok(EventFlow::GoOn);
-        }
-        self.call_module(alloc, model, shown, Occasion::End, id, CallReason::Finish)
-    }
-
-    /// Finishes the module of that id: a simple one is told first, a compound one just counts as
-    /// finished.
-    #[tactic(auto, using(kernel_actions::proofs::Lasting::growth_same))]
-    fn finish_one<A: Answers>(
-        &mut self,
-        alloc: Global,
-        model: &mut A,
-        shown: &mut CallViews,
-        id: u32,
-    ) -> Result<EventFlow, NoMemory>
-        requires callable { IsCallable C.behaviour SimpleModule-box 1000 self.old }
-        requires shown { AreShown A.answers (world_in SimpleModule-box self.old).records shown.old }
-        ensures kept { KeepsBoxes C.behaviour SimpleModule-box self.old self.new }
-        ensures next { let before = world_in SimpleModule-box self.old in
-            OnOk result ((world_in SimpleModule-box self.new).next ≤ before.next + 1000) }
-        ensures step { let before = world_in SimpleModule-box self.old in
-            IfOk result (λ turn. flow_of turn (world_in SimpleModule-box self.new)
-            ≡ finish C.behaviour A.answers occasions.End id before) }
-        ensures grown { IsGrownFrom (world_in SimpleModule-box self.old)
-            (world_in SimpleModule-box self.new) }
-        ensures shown { AreShown A.answers (world_in SimpleModule-box self.new).records shown.new }
-    {
-        match self.call_last(alloc, model, shown, id)? {
-            EventFlow::GoOn => {
-                self.core.mark_finished(id)?;
-                Ok(EventFlow::GoOn)
-            }
-            turn => Ok(turn),
-        }
-    }
-
-    /// Finishes these modules, in this order.
-    fn finish_all<A: Answers>(
-        &mut self,
-        alloc: Global,
-        model: &mut A,
-        shown: &mut CallViews,
-        ids: &[u32],
-    ) -> Result<EventFlow, NoMemory>
-        requires callable { IsCallable C.behaviour SimpleModule-box (2 ^ 75) self.old }
-        requires shown { AreShown A.answers (world_in SimpleModule-box self.old).records shown.old }
-        ensures kept { KeepsBoxes C.behaviour SimpleModule-box self.old self.new }
-        ensures step { let before = world_in SimpleModule-box self.old in
-            IfOk result (λ turn. flow_of turn (world_in SimpleModule-box self.new)
-            ≡ finish_all C.behaviour A.answers occasions.End ids.now before) }
-        ensures grown { IsGrownFrom (world_in SimpleModule-box self.old)
-            (world_in SimpleModule-box self.new) }
-        ensures shown { AreShown A.answers (world_in SimpleModule-box self.new).records shown.new }
-    {
-        for id in ids {
-            match self.finish_one(alloc, model, shown, *id)? {
-                EventFlow::GoOn => {}
-                turn => return Ok(turn),
-            }
-        }
-        Ok(EventFlow::GoOn)
-    }
 
     /// Finishes the modules of a run that ended so, and answers how it ends then. What calls show
     /// of modules is taken from the table, or found and put in there.
@@ -879,7 +961,7 @@ impl<C: Catalogue> Kernel<C> {
             return Ok(outcome);
         }
         let ids = self.core.to_finish(alloc)?;
-        match self.finish_all(alloc, model, shown, ids.as_slice())? {
+        match self.finish_all(alloc, model, shown, Occasion::End, ids.as_slice())? {
             EventFlow::GoOn | EventFlow::Stop => Ok(outcome),
             EventFlow::Break(path, fault) => Ok(Outcome::Fault(self.core.count(), path, fault)),
         }
@@ -952,6 +1034,38 @@ impl<C: Catalogue> Kernel<C> {
             })),
             None => Ok(None),
         }
+    }
+
+    /// The id of the first module of a position that has no box.
+    pub fn lacking_id(&self, position: &Position) -> Option<u32>
+        ensures { let world = world_in SimpleModule-box self.now in
+            result ≡ option_map (λ (p : Part). p.id)
+            (first_without (standing world.modules) (standing position.now.modules)) }
+    {
+        match first_lacking(&self.boxes, position.modules.as_slice()) {
+            Some(instance) => Some(instance.id),
+            None => None,
+        }
+    }
+
+    /// Gives the module of that id, which has none, its box, or hands the box back where memory
+    /// runs out. Going back brings the box into the state of its module.
+    pub fn supply(
+        &mut self,
+        id: u32,
+        held: Box<dyn SimpleModule>,
+    ) -> Result<(), AllocFailed<Box<dyn SimpleModule>>>
+        requires free { module_in id (boxes_in SimpleModule-box self.old) ≡ None }
+        ensures rest { IsSameBesideModules (world_in SimpleModule-box self.new)
+            (world_in SimpleModule-box self.old) }
+        ensures ok { let supplied : BoxAt = record { id = id; box = meaning held } in
+            OnOk result (boxes_in SimpleModule-box self.new
+            ≡ with_seat supplied (boxes_in SimpleModule-box self.old)) }
+        ensures err { OnErr result
+            (boxes_in SimpleModule-box self.new ≡ boxes_in SimpleModule-box self.old) }
+        ensures returned { IfErr result (λ failed. failed.value ≡ held) }
+    {
+        self.boxes.place(id, held)
     }
 
     /// Goes back to a position whose modules are those that have boxes: each box takes its state.

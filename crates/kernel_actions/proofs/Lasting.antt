@@ -6,7 +6,7 @@ use Rattle.std.proofs.Math.Seq.{drop-cons}
 use Rattle.sim_values.specs.declared.NoMemory.{NoMemory}
 use Rattle.sim_time.specs.Time.{time_sum}
 use Rattle.module_api.specs.declared.reply.Action.{Action}
-use Rattle.module_api.specs.declared.reply.Action.TheVariants.{Emit, RecordScalar, Send, SendDelayed, SendDirect, ScheduleAt, ScheduleAfter, Cancel, Connect, Disconnect, End, Fail}
+use Rattle.module_api.specs.declared.reply.Action.TheVariants.{Emit, RecordScalar, Send, SendDelayed, SendDirect, ScheduleAt, ScheduleAfter, Cancel, Delete, Connect, Disconnect, End, Fail}
 use Rattle.module_api.specs.declared.reply.Appointment.{Appointment}
 use Rattle.module_api.specs.declared.reply.Schedule.{Schedule}
 use Rattle.module_api.specs.Names.{is_scalar_name}
@@ -109,6 +109,7 @@ deed_grows id End w = record {
   scalars = on_same w.scalars;
   questions = on_same w.questions;
 }
+deed_grows id (Delete path finish) w = growth_same w
 deed_grows id (Connect from to link) w = growth_same w
 deed_grows id (Disconnect place) w = growth_same w
 deed_grows id (Send gate message) w = growth_same w

@@ -8,6 +8,8 @@ ghost use Rattle.run_semantics.specs.World.{empty, asked, is_live, live_of, time
 ghost use Rattle.run_semantics.specs.Perform.{flow_of, deed, scheduled_at, ask_all, ask_noted};
 ghost use Rattle.run_semantics.specs.Perform.{question_of, broken};
 ghost use Rattle.run_semantics.specs.Routes.{arriving, hop_by, is_at, module_at, transmitting};
+ghost use Rattle.run_semantics.specs.Deleting.{gone, subtree_of, to_finish_in};
+ghost use Rattle.run_semantics.specs.Laws.{GoesOn};
 ghost use Rattle.run_semantics.specs.Routes.{with_change};
 ghost use Rattle.run_semantics.specs.Ending.{with_finished};
 ghost use Rattle.kernel_actions.specs.Upcoming.{asked_in, first_is_beyond, looked};
@@ -54,7 +56,7 @@ use sim_values::text::Text;
 use sqlite_items::Items;
 use std::alloc::Global;
 use std::marker::Model;
-use subtrees::{all_ids, common, inner_first, outer_first, without};
+use subtrees::{all_ids, common, inner_first, outer_first, subtree_in, without};
 
 /// How many modules live at most.
 const MAX_LIVE: usize = 65_536;
@@ -368,10 +370,11 @@ impl Core {
                 self.ended = true;
                 Ok(EventFlow::Stop)
             }
-            // What is sent, joined or freed asks of the model: it is no deed.
+            // What is sent, deleted or joined asks of the model or calls modules: it is no deed.
             Action::Send(_, _)
             | Action::SendDelayed(_, _, _)
             | Action::SendDirect(_, _, _)
+            | Action::Delete(_, _)
             | Action::Connect(_, _, _)
             | Action::Disconnect(_) => Ok(EventFlow::GoOn),
         }
@@ -908,6 +911,35 @@ impl Core {
         Ok(())
     }
 
+    // ---- modules that are deleted
+
+    /// The module of that id and all that stand inside of it, of those that live, by their ids.
+    pub fn subtree_of(&self, alloc: Global, id: u32) -> Result<Items<u32>, NoMemory>
+        ensures { IfOk result (λ ids. ids ≡ subtree_of id self.now) }
+    {
+        let live = self.live_ids(alloc)?;
+        subtree_in(alloc, self.records.as_slice(), live.as_slice(), id)
+    }
+
+    /// Those of them that were started, in the order in which they are finished.
+    pub fn to_finish_in(&self, alloc: Global, id: u32) -> Result<Items<u32>, NoMemory>
+        ensures { IfOk result (λ ids. ids ≡ to_finish_in id self.now) }
+    {
+        let live = self.live_ids(alloc)?;
+        let all = inner_first(alloc, self.records.as_slice(), live.as_slice(), id)?;
+        common(alloc, all.as_slice(), self.started.as_slice())
+    }
+
+    /// These modules are dead from now on, and no event is to come for one of them.
+    pub fn bury(&mut self, ids: &[u32]) -> Result<(), NoMemory>
+        ensures done { OnOk result (self.new ≡ gone ids.now self.old) }
+        ensures grown { IsGrownFrom self.old self.new }
+    {
+        note_dead(&mut self.dead, ids)?;
+        self.pending.drop_modules(ids);
+        Ok(())
+    }
+
     // ---- positions
 
     /// How long the lists are that only grow while a run goes on.
@@ -977,4 +1009,15 @@ impl Core {
         self.delivered = position.delivered;
         self.transmissions = transmissions;
     }
+}
+
+/// Notes that these modules are dead. Where memory runs out some of them are noted.
+fn note_dead(dead: &mut Items<u32>, ids: &[u32]) -> Result<(), NoMemory>
+    ensures ok { OnOk result (dead.new ≡ dead.old ++ ids.now) }
+    ensures grown { GoesOn dead.old dead.new }
+{
+    for id in ids {
+        dead.push(*id)?;
+    }
+    Ok(())
 }

@@ -2,7 +2,7 @@
 //! positions to which it can go back.
 #![tactic(auto)]
 
-mod classes;
+pub mod classes;
 pub mod core_part;
 pub mod events;
 pub mod gates;

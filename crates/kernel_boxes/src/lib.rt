@@ -2,4 +2,5 @@
 #![tactic(auto)]
 
 pub mod boxes_saved;
+pub mod dropping;
 pub mod going_back;

@@ -1,7 +1,7 @@
 use Rattle.std.proofs.Common.{◌≡◌, ◌+◌, ◌≤◌, drop}
-use Rattle.run_semantics.specs.Perform.{act_all}
-use Rattle.kernel.specs.Calls.{done_at}
-use Rattle.kernel.specs.Kernels.{world_in}
+use Rattle.run_semantics.specs.Perform.{act_all, perform}
+use Rattle.run_semantics.specs.declared.occasions.Occasion.TheVariants.{Event}
+use Rattle.kernel.specs.Kernels.{world_in, HasKinds}
 use Rattle.kernel_actions.specs.Positions.{IsGrownFrom}
 use Rattle.kernel.proofs.kernel.Kernel.act_all.Given as goal
 
@@ -10,8 +10,8 @@ invariant-loop-action g l =
     let old = world_in (λ b. (g.dyn-1.0.entry b.vtable).1) l.fn.self in
     let world = world_in (λ b. (g.dyn-1.0.entry b.vtable).1) l.self in
     record {
-      step : act_all (done_at g.C.Catalogue.behaviour g.A.Answers.answers l.occasion l.id) l.occasion l.id (drop l.action-index l.actions) world ≡ act_all (done_at g.C.Catalogue.behaviour g.A.Answers.answers l.occasion l.id) l.occasion l.id l.actions old;
+      step : act_all (perform g.C.Catalogue.behaviour g.A.Answers.answers l.id) Event l.id (drop l.action-index l.actions) world ≡ act_all (perform g.C.Catalogue.behaviour g.A.Answers.answers l.id) Event l.id l.actions old;
       next : world.next ≤ old.next + l.action-index;
-      boxes : l.self.boxes ≡ l.fn.self.boxes;
+      kinds : HasKinds g.C.Catalogue.behaviour (λ b. (g.dyn-1.0.entry b.vtable).1) l.self;
       grown : IsGrownFrom l.fn.self.core l.self.core;
     }

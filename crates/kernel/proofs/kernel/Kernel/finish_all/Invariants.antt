@@ -1,5 +1,4 @@
 use Rattle.std.proofs.Common.{◌≡◌, ◌+◌, ◌*◌, ◌≤◌, drop}
-use Rattle.run_semantics.specs.declared.occasions.Occasion.TheVariants.{End}
 use Rattle.run_semantics.specs.Ending.{finish_all}
 use Rattle.kernel_call_views.specs.Tables.{AreShown}
 use Rattle.kernel.specs.Kernels.{world_in, KeepsBoxes}
@@ -11,7 +10,7 @@ invariant-loop-id g l =
     let old = world_in (λ b. (g.dyn-1.0.entry b.vtable).1) l.fn.self in
     let world = world_in (λ b. (g.dyn-1.0.entry b.vtable).1) l.self in
     record {
-      flow : finish_all g.C.Catalogue.behaviour g.A.Answers.answers End (drop l.id-index l.ids) world ≡ finish_all g.C.Catalogue.behaviour g.A.Answers.answers End l.ids old;
+      flow : finish_all g.C.Catalogue.behaviour g.A.Answers.answers l.occasion (drop l.id-index l.ids) world ≡ finish_all g.C.Catalogue.behaviour g.A.Answers.answers l.occasion l.ids old;
       next : world.next ≤ old.next + 1000 * l.id-index;
       grown : IsGrownFrom old world;
       kept : KeepsBoxes g.C.Catalogue.behaviour (λ b. (g.dyn-1.0.entry b.vtable).1) l.fn.self l.self;

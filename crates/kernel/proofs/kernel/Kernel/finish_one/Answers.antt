@@ -10,7 +10,7 @@ use Rattle.kernel.proofs.kernel.Kernel.finish_one.Goals as goal
 
 pub returns-in_ok-mark_finished-in-GoOn-clause-next : goal.returns-in_ok-mark_finished-in-GoOn-clause-next
 returns-in_ok-mark_finished-in-GoOn-clause-next g c =
-    let kept = last_leaves g.C.Catalogue.behaviour g.A.Answers.answers c.args.id c.in_ok-turn.turn (world_in (λ b. (g.dyn-1.0.entry b.vtable).1) c.args.self.now) (world_in (λ b. (g.dyn-1.0.entry b.vtable).1) c.call_last.new.self) c.in_ok-turn.ensures.step in
+    let kept = last_leaves g.C.Catalogue.behaviour g.A.Answers.answers c.args.occasion c.args.id c.in_ok-turn.turn (world_in (λ b. (g.dyn-1.0.entry b.vtable).1) c.args.self.now) (world_in (λ b. (g.dyn-1.0.entry b.vtable).1) c.call_last.new.self) c.in_ok-turn.ensures.step in
     omega (arith, kept.next, ap (λ (w : World). w.next) c.in_ok-mark_finished-in-GoOn.ensures.marked)
 
 pub returns-in_ok-mark_finished-in-GoOn-clause-step : goal.returns-in_ok-mark_finished-in-GoOn-clause-step
@@ -20,7 +20,7 @@ returns-in_ok-mark_finished-in-GoOn-clause-step g c =
 
 pub returns-in_default-clause-next : goal.returns-in_default-clause-next
 returns-in_default-clause-next g c =
-    let kept = last_leaves g.C.Catalogue.behaviour g.A.Answers.answers c.args.id c.in_ok-turn.turn (world_in (λ b. (g.dyn-1.0.entry b.vtable).1) c.args.self.now) (world_in (λ b. (g.dyn-1.0.entry b.vtable).1) c.call_last.new.self) c.in_ok-turn.ensures.step in
+    let kept = last_leaves g.C.Catalogue.behaviour g.A.Answers.answers c.args.occasion c.args.id c.in_ok-turn.turn (world_in (λ b. (g.dyn-1.0.entry b.vtable).1) c.args.self.now) (world_in (λ b. (g.dyn-1.0.entry b.vtable).1) c.call_last.new.self) c.in_ok-turn.ensures.step in
     omega (arith, kept.next)
 
 pub returns-in_default-clause-step : goal.returns-in_default-clause-step

@@ -2,12 +2,8 @@ use Rattle.std.proofs.Common.{◌+◌, refl, sym, ◌∙◌, arith, drop}
 use Rattle.run_semantics.specs.Perform.{On, flow_of}
 use Rattle.run_semantics.specs.Run.{initialize, one_stage}
 use Rattle.kernel.specs.Kernels.{world_in}
-use Rattle.kernel_boxes.proofs.Keeping.{still_kept}
 use Rattle.kernel.proofs.Starting.{stops, each_step, each_ends}
 use Rattle.kernel.proofs.kernel.Kernel.one_stage.Goals as goal
-
-pub returns-in_default-clause-kept : goal.returns-in_default-clause-kept
-returns-in_default-clause-kept g c = still_kept c.loop-id.invariant.kept c.initialize.ensures.kept
 
 pub returns-in_default-clause-step : goal.returns-in_default-clause-step
 returns-in_default-clause-step g c =
@@ -18,7 +14,7 @@ pub loop-id-preserved : goal.loop-id-preserved
 loop-id-preserved g c = record {
   flow = each_step (initialize g.C.Catalogue.behaviour g.A.Answers.answers c.args.stage) c.args.ids.now c.loop-id.id-index 0 (world_in (λ b. (g.dyn-1.0.entry b.vtable).1) c.loop-id.self) (On (world_in (λ b. (g.dyn-1.0.entry b.vtable).1) c.initialize.new.self)) _ (omega arith) (rw c.in-GoOn.is at c.in_ok-turn.ensures.step) c.loop-id.invariant.flow;
   next = omega (arith, c.in_ok-turn.ensures.next, c.loop-id.invariant.next);
-  kept = still_kept c.loop-id.invariant.kept c.initialize.ensures.kept;
+  kinds = c.initialize.ensures.kinds;
   shown = c.initialize.ensures.shown;
 }
 
@@ -26,7 +22,7 @@ pub loop-id-init : goal.loop-id-init
 loop-id-init g c = record {
   flow = refl;
   next = omega arith;
-  kept = record { kinds = c.requires.callable.kinds; standing_is = refl };
+  kinds = c.requires.callable.kinds;
   shown = c.requires.shown;
 }
 

@@ -52,9 +52,9 @@ pub returns-in_default : goal.returns-in_default
 returns-in_default g c =
     let world = world_in (λ b. (g.dyn-1.0.entry b.vtable).1) c.args.self.now in
     record {
-      boxes = refl;
+      kinds = c.requires.callable.kinds;
       step = ok_step c.deed.result c.deed.ensures.flow (λ turn step.
           deed_is (map instance_of (boxes_in (λ b. (g.dyn-1.0.entry b.vtable).1) c.args.self.now)) c.args.id c.args.action.now c.args.self.now.core c.deed.new.self turn step
-          ∙ sym (other_is_deed g.C.Catalogue.behaviour g.A.Answers.answers c.args.id c.args.action.now world c.in_default.not-Send c.in_default.not-SendDelayed c.in_default.not-SendDirect c.in_default.not-Connect c.in_default.not-Disconnect));
+          ∙ sym (other_is_deed g.C.Catalogue.behaviour g.A.Answers.answers c.args.id c.args.action.now world c.in_default.not-Send c.in_default.not-SendDelayed c.in_default.not-SendDirect c.in_default.not-Connect c.in_default.not-Disconnect c.in_default.not-Delete));
       grown = deed_left c.deed.result c.args.id c.args.action.now c.args.self.now.core c.deed.new.self c.deed.ensures.flow c.deed.ensures.err;
     }

@@ -3,11 +3,7 @@ use Rattle.run_semantics.specs.Perform.{On, flow_of}
 use Rattle.run_semantics.specs.Run.{stages_from}
 use Rattle.kernel.specs.Kernels.{world_in}
 use Rattle.kernel.proofs.Starting.{stops, stages_on}
-use Rattle.kernel_boxes.proofs.Keeping.{still_kept}
 use Rattle.kernel.proofs.kernel.Kernel.stages.Goals as goal
-
-pub returns-in_default-clause-kept : goal.returns-in_default-clause-kept
-returns-in_default-clause-kept g c = still_kept c.loop-stage.invariant.kept c.one_stage.ensures.kept
 
 pub returns-in_default-clause-next : goal.returns-in_default-clause-next
 returns-in_default-clause-next g c = omega (arith, c.in_ok-turn.ensures.next, c.loop-stage.invariant.next)
@@ -21,6 +17,6 @@ pub loop-stage-preserved : goal.loop-stage-preserved
 loop-stage-preserved g c = record {
   flow = stages_on g.C.Catalogue.behaviour g.A.Answers.answers c.args.ids.now c.loop-stage.stage c.args.most (world_in (λ b. (g.dyn-1.0.entry b.vtable).1) c.loop-stage.self) (On (world_in (λ b. (g.dyn-1.0.entry b.vtable).1) c.one_stage.new.self)) _ (omega arith) (rw c.in-GoOn.is at c.in_ok-turn.ensures.step) c.loop-stage.invariant.flow;
   next = omega (arith, c.in_ok-turn.ensures.next, c.loop-stage.invariant.next);
-  kept = still_kept c.loop-stage.invariant.kept c.one_stage.ensures.kept;
+  kinds = c.one_stage.ensures.kinds;
   shown = c.one_stage.ensures.shown;
 }

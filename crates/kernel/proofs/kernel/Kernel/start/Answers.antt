@@ -1,13 +1,12 @@
 use Rattle.std.proofs.Common.{◌≡◌, sym, ap, ◌∙◌, map, subst}
 use Rattle.run_semantics.specs.Perform.{On}
-use Rattle.run_semantics.specs.Run.{standing}
 use Rattle.kernel.specs.Setups.{ready}
 use Rattle.kernel_boxes.specs.Saved.{seats_held}
-use Rattle.kernel_boxes.specs.Seats.{instance_of, seat_of, AreOfKinds}
+use Rattle.kernel_boxes.specs.Seats.{seat_of, AreOfKinds}
 use Rattle.kernel.specs.Kernels.{boxes_in, world_in}
 use Rattle.kernel.specs.Seats.{needs, world_of}
 use Rattle.kernel.proofs.Behind.{needs_rise}
-use Rattle.kernel.proofs.Waiting.{fresh_kinds, fresh_ready, fresh_standing, no_seats}
+use Rattle.kernel.proofs.Waiting.{fresh_kinds, fresh_ready, no_seats}
 use Rattle.kernel.proofs.kernel.Kernel.start.Goals as goal
 
 pub initialize_all-requires-clause-ready : goal.initialize_all-requires-clause-ready
@@ -21,12 +20,6 @@ pub initialize_all-requires-clause-kinds : goal.initialize_all-requires-clause-k
 initialize_all-requires-clause-kinds g c =
     subst (λ t. AreOfKinds g.C.Catalogue.behaviour (map (seat_of (λ b. (g.dyn-1.0.entry b.vtable).1)) t.seats)) (sym c.swap.ensures.x_after)
     (fresh_kinds g.C.Catalogue.behaviour (needs (world_in (λ b. (g.dyn-1.0.entry b.vtable).1) c.args.self.now)) (seats_held (λ b. (g.dyn-1.0.entry b.vtable).1) c.args.waiting.now) c.requires.fresh)
-
-pub returns-clause-stands : goal.returns-clause-stands
-returns-clause-stands g c =
-    c.initialize_all.ensures.kept.standing_is
-    ∙ ap (λ t. standing (map instance_of (map (seat_of (λ b. (g.dyn-1.0.entry b.vtable).1)) t.seats))) c.swap.ensures.x_after
-    ∙ fresh_standing g.C.Catalogue.behaviour (needs (world_in (λ b. (g.dyn-1.0.entry b.vtable).1) c.args.self.now)) (seats_held (λ b. (g.dyn-1.0.entry b.vtable).1) c.args.waiting.now) c.requires.fresh
 
 pub returns-clause-none : goal.returns-clause-none
 returns-clause-none g c =
