@@ -82,7 +82,7 @@ pub fn supply(desk: &mut Desk<Stock>, held: Box<dyn SimpleModule>) -> Result<(),
 fn give(desk: &mut Desk<Stock>, held: Box<dyn SimpleModule>) -> Result<(), Fail>
     requires wanted { let editing =
         editing_at (λ b. ⟦<dyn SimpleModule as SimpleModule>⟧ b.vtable) desk.old in
-        IsFor stock (wanted_of editing) (meaning held) }
+        IsFor stock (wanted_of stock editing) (meaning held) }
     requires sound { IsSettled stock (λ b. ⟦<dyn SimpleModule as SimpleModule>⟧ b.vtable) desk.old }
     ensures { IsSettled stock (λ b. ⟦<dyn SimpleModule as SimpleModule>⟧ b.vtable) desk.new }
 {

@@ -1,5 +1,5 @@
 -- A run that gets its boxes, one after the other.
-use Rattle.std.proofs.Common.{◌≡◌, ◌⊎◌, ℕ, zero, suc, ◌≤◌, ◌<◌, ◌+◌, Bool, true, false, cond, List, [], ◌∷◌, ◌++◌, take, Option, Some, None, option_map, refl, sym, ap, ◌∙◌, subst, arith, append_assoc, append-nil, slice_get, length, map, IfOk, OnOk, Result, Ok, Err}
+use Rattle.std.proofs.Common.{◌≡◌, ℕ, zero, suc, ◌≤◌, ◌<◌, ◌+◌, Bool, true, false, cond, List, [], ◌∷◌, ◌++◌, take, Option, Some, None, option_map, refl, sym, ap, ◌∙◌, subst, arith, append_assoc, append-nil, slice_get, length, map, IfOk, OnOk, Result, Ok, Err}
 use Rattle.module_api.specs.Behaviour.{Behaviour}
 use Rattle.module_api.specs.Meaning.{Module, IsFresh}
 use Rattle.model_questions.specs.Answers.{Answers}
@@ -27,11 +27,10 @@ use Rattle.checkpoint_runs.specs.declared.running.Ended.{Ended}
 use Rattle.checkpoint_runs.specs.declared.running.RunStatus.{RunStatus}
 use Rattle.checkpoint_runs.specs.declared.running.RunStatus.TheVariants as status
 use Rattle.checkpoint_runs.specs.declared.running.Phase.{Phase}
-use Rattle.checkpoint_runs.specs.declared.running.Phase.TheVariants.{Declined}
 use Rattle.checkpoint_runs.specs.Positions.{cut, start_of}
 use Rattle.checkpoint_runs.proofs.Counting.{setup_after}
 use Rattle.checkpoint_runs.proofs.Unstarted.{IsBuilt, needs_all, prepared_built}
-use Rattle.checkpoint_runs.specs.Running.{boxes_left, boxes_of, boxes_unless, known_first, parts_in, needed_by, wanted_after, wanted_by, Advances, CanStart, IsFilled, IsDeclined, whole_run}
+use Rattle.checkpoint_runs.specs.Running.{boxes_left, boxes_of, boxes_unless, known_first, parts_in, wanted_after, wanted_by, Advances, CanStart, IsDeclined, IsEnded, IsFilled, IsWaiting, whole_run}
 
 -- the calls of the start, where the modules of that world are started
 abbrev calls_of : Behaviour → Answers → World → World → Flow
@@ -389,23 +388,26 @@ going_boxes b m k w all e = (subst (HasBegun b m) (sym e) (begun_after b m k)) a
 -- ---- a run that begins with setup
 
 -- where no position is up to the limit, what a run comes to with none is what it comes to
-pub setup_advances : (b : Behaviour) (m : Answers) (limit : ℕ) (kept : List Part) (phase : Phase) (old cleared : Timeline ℕ) (w : World) (waiting : List BoxAt) (new : Timeline ℕ) (a : RunStatus Ended) → start_of limit old.stored ≡ None → cleared ≡ begun old.first
-    → Advances b m limit kept phase cleared w waiting new a → Advances b m limit kept phase old w waiting new a
-setup_advances b m limit kept phase old cleared w waiting new (status.Waits request) none is h = record {
-  filled = h.filled;
-  kept_is = h.kept_is;
-  undeclined = h.undeclined;
-  wanted = h.wanted;
-  start = none;
-  positions = h.positions ∙ ap (cut None) is;
-}
-setup_advances b m limit kept phase old cleared w waiting new (status.Done ended) none is h =
-    let starts : start_of limit cleared.stored ≡ start_of limit old.stored = ap (λ (t : Timeline ℕ). start_of limit t.stored) is ∙ sym none in
-    record {
-      whole = h.whole;
-      boxes = h.boxes;
-      start = h.start ∙ starts;
-      within = h.within;
-      needs_none = subst (λ o. (phase ≡ Declined) ⊎ (needed_by m o kept ≡ None)) starts h.needs_none;
-      positions = setup_after b m limit old cleared new none is h.positions;
-    }
+pub setup_advances : (b : Behaviour) (m : Answers) (limit : ℕ) (phase : Phase) (boxes : List Part) (old cleared : Timeline ℕ) (w : World) (waiting : List BoxAt) (new : Timeline ℕ) (a : RunStatus Ended) → start_of limit old.stored ≡ None → cleared ≡ begun old.first
+    → Advances b m limit phase boxes cleared w waiting new a → Advances b m limit phase boxes old w waiting new a
+setup_advances b m limit phase boxes old cleared w waiting new (status.Waits request) none is h =
+    let first : start_of limit cleared.stored ≡ None = ap (λ (t : Timeline ℕ). start_of limit t.stored) is in
+    let at : IsWaiting b m None phase boxes cleared w waiting new request = subst (λ o. IsWaiting b m o phase boxes cleared w waiting new request) first h in
+    subst (λ o. IsWaiting b m o phase boxes old w waiting new request) (sym none) (record {
+      live = at.live;
+      kept = at.kept;
+      undeclined = at.undeclined;
+      wanted = at.wanted;
+      positions = at.positions ∙ ap (cut None) is;
+    })
+setup_advances b m limit phase boxes old cleared w waiting new (status.Done ended) none is h =
+    let first : start_of limit cleared.stored ≡ None = ap (λ (t : Timeline ℕ). start_of limit t.stored) is in
+    let at : IsEnded b m limit None phase boxes cleared w waiting new ended.start ended.outcome = subst (λ o. IsEnded b m limit o phase boxes cleared w waiting new ended.start ended.outcome) first h in
+    subst (λ o. IsEnded b m limit o phase boxes old w waiting new ended.start ended.outcome) (sym none) (record {
+      whole = at.whole;
+      boxes_are = at.boxes_are;
+      start_is = at.start_is;
+      within = at.within;
+      needs_none = at.needs_none;
+      positions = setup_after b m limit old cleared new none is at.positions;
+    })

@@ -3,6 +3,8 @@ pub mod Filling
 pub mod Going
 pub mod Good
 pub mod Whole
+pub mod Standing
+pub mod Back
 pub mod Few
 pub mod Most
 mod Unstarted

@@ -1,39 +1,46 @@
 -- Stored positions, and how a run leaves them.
 use Rattle.std.specs.Prelude.{◌≡◌, ◌⊎◌, ◌≤◌, ℕ, suc, ◌-◌, ◌<◌, ◌&&◌, nat_lt, not, Bool, true, false}
-use Rattle.std.specs.Prelude.{List, [], ◌∷◌, ◌++◌, Option, Some, None, map, if◌then◌else◌}
+use Rattle.std.specs.Prelude.{List, [], ◌∷◌, ◌++◌, Option, Some, None, option_map, if◌then◌else◌}
 use Rattle.checkpoints.specs.Stored.{counts_in, cut_after, ends_at, begun, is_multiple}
 use Rattle.checkpoints.specs.Stored.{with_position, AreBelow, Timeline}
 use Rattle.kernel_actions.specs.declared.position.Position.{Position}
 use Rattle.kernel_boxes.specs.Seats.{Members}
-use Rattle.kernel.specs.Kernels.{boxes_in, world_in}
+use Rattle.kernel.specs.Kernels.{world_in}
 use Rattle.kernel_actions.specs.Positions.{cut_to, position_of, IsGrownFrom}
-use Rattle.kernel_boxes.specs.Seats.{BoxAt, instance_of}
+use Rattle.kernel_boxes.specs.Seats.{BoxAt}
 use Rattle.module_api.specs.Behaviour.{Behaviour}
 use Rattle.model_questions.specs.Answers.{Answers}
 use Rattle.run_semantics.specs.declared.outcome.Outcome.{Outcome}
 use Rattle.run_semantics.specs.Run.{Running, Part, Ran, after, run_to, standing, is_fault}
 use Rattle.run_semantics.specs.World.{World, HasRoom}
 use Rattle.kernel_boxes.specs.Saved.{seats_held}
+use Rattle.kernel_boxes.specs.Staying.{first_without}
 use Rattle.checkpoint_runs.specs.Positions.{behind, CanGoOn, is_left, numbers_from}
-use Rattle.checkpoint_runs.specs.Running.{parts_in}
+use Rattle.kernel.specs.declared.request.Request.{Request}
+use Rattle.checkpoint_runs.specs.Running.{kept_back, needed_by, parts_in}
 use Rattle.checkpoint_runs.specs.declared.running.Runner.{Runner}
+use Rattle.checkpoint_runs.specs.declared.running.RunStatus.{RunStatus}
+use Rattle.checkpoint_runs.specs.declared.running.RunStatus.TheVariants as status
 use Rattle.checkpoint_runs.specs.declared.running.Stood.{Stood}
 use Rattle.checkpoint_runs.specs.declared.running.Stood.TheVariants as stood
 
--- A POSITION IS GOOD: the run of the model goes on after its events, it is the position of the
--- world there, whose lists have only grown since, and its modules are those that have boxes.
-pub record IsGood (b : Behaviour) (m : Answers) (seats : List BoxAt) (w : World)
-    (p : Position) : Type 0 where
+-- A POSITION IS GOOD: the run of the model goes on after its events, and it is the position of the
+-- world there, whose lists have only grown since. Which of its modules have boxes is not said:
+-- those that were deleted since have none.
+pub record IsGood (b : Behaviour) (m : Answers) (w : World) (p : Position) : Type 0 where
   pub world : World
   pub stage : after b m p.count ≡ Running world
   pub position : p ≡ position_of world
   pub room : HasRoom world
   pub grown : IsGrownFrom world w
-  pub same : standing (map instance_of seats) ≡ standing world.modules
 
-abbrev pub AreGood : Behaviour → Answers → List BoxAt → World → List Position → Type 0
-AreGood b m seats w [] = Unit {0}
-AreGood b m seats w (p ∷ ps) = IsGood b m seats w p × AreGood b m seats w ps
+abbrev pub AreGood : Behaviour → Answers → World → List Position → Type 0
+AreGood b m w [] = Unit {0}
+AreGood b m w (p ∷ ps) = IsGood b m w p × AreGood b m w ps
+
+-- Boxes wait for a start in event zero, so there is no position while one waits.
+abbrev pub IsAlone : List BoxAt → Timeline Position → Type 0
+IsAlone waiting t = (waiting ≡ []) ⊎ (t.stored ≡ [])
 
 -- those up to an event are left; up to none there is none
 abbrev pub kept_up_to : Option ℕ → Timeline Position → Timeline Position
@@ -97,13 +104,18 @@ HasBegun b m limit from (stood.Untaken k) before new =
     HasGone b m limit from (suc from) k (k - suc from) before new
 HasBegun b m limit from stood.Ending before new = HasLeft from before new (run_to b m limit)
 
+-- of the modules of a position the first one that has none of these boxes
+abbrev pub lacking_at : Option Position → List Part → Option ℕ
+lacking_at None boxes = None
+lacking_at (Some p) boxes =
+    option_map (λ (part : Part). part.id) (first_without boxes (standing p.modules))
+
 -- ---- in a runner
 
 module _ {C X : Type 0} {Y : X → Type 0} where
   -- its positions are good
   abbrev pub HasGood : Behaviour → Answers → Members X Y → Runner C X Y → Type 0
-  HasGood b m members r =
-      AreGood b m (boxes_in members r.kernel) (world_in members r.kernel) r.positions.stored
+  HasGood b m members r = AreGood b m (world_in members r.kernel) r.positions.stored
 
   -- the run of the model goes on from where its kernel stands, which is up to the limit; numbers
   -- are far from running out
@@ -125,15 +137,41 @@ module _ {C X : Type 0} {Y : X → Type 0} where
   standing_in members r =
       standing (world_in members r.kernel).modules ++ parts_in (waiting_in members r)
 
-  -- Where there is a start the run goes on from there, of the positions those up to it are left,
-  -- and no box waits; else nothing has changed.
-  abbrev pub IsBack : Behaviour → Answers → Members X Y → ℕ → Runner C X Y → Runner C X Y
-      → Option ℕ → Type 0
-  IsBack b m members limit before after None = after ≡ before
-  IsBack b m members limit before after (Some start) =
-      IsGoing b m members limit after × ((world_in members after.kernel).count ≡ start)
-      × (after.positions ≡ cut_after start before.positions)
-      × (waiting_in members after ≡ [])
+  -- no position is stored while a box waits
+  abbrev pub HasNoneAlone : Members X Y → Runner C X Y → Type 0
+  HasNoneAlone members r = IsAlone (waiting_in members r) r.positions
+
+  -- A run that goes back to a position waits there: it has the boxes that stay, and needs one more.
+  pub record IsHeldBack (b : Behaviour) (m : Answers) (members : Members X Y) (event : ℕ)
+      (request : Request) (before after : Runner C X Y) : Type 0 where
+    pub going : CanGoOn b m event
+    pub none : waiting_in members after ≡ []
+    pub kept : standing_in members after ≡ kept_back b m event (standing_in members before)
+    pub wanted : needed_by b m (Some event) (kept_back b m event (standing_in members before))
+        ≡ Some request
+    pub positions : after.positions ≡ cut_after event before.positions
+    pub stood : after.stood ≡ stood.After event
+
+  -- A run has gone back to a position, and goes on from there: the boxes that stayed are enough.
+  pub record HasGoneBack (b : Behaviour) (m : Answers) (members : Members X Y) (limit event : ℕ)
+      (before after : Runner C X Y) : Type 0 where
+    pub going : IsGoing b m members limit after
+    pub count : (world_in members after.kernel).count ≡ event
+    pub none : waiting_in members after ≡ []
+    pub needs_none : needed_by b m (Some event) (kept_back b m event (standing_in members before))
+        ≡ None
+    pub positions : after.positions ≡ cut_after event before.positions
+
+  -- Where there is a start the run waits there or goes on from there, and of the positions those up
+  -- to it are left; else nothing has changed.
+  abbrev pub IsBack : Behaviour → Answers → Members X Y → ℕ → Option ℕ → Runner C X Y
+      → Runner C X Y → RunStatus (Option ℕ) → Type 0
+  IsBack b m members limit start before after (status.Waits request) =
+      (event : ℕ) × (start ≡ Some event) × IsHeldBack b m members event request before after
+  IsBack b m members limit start before after (status.Done None) =
+      (start ≡ None) × (after ≡ before)
+  IsBack b m members limit start before after (status.Done (Some event)) =
+      (start ≡ Some event) × HasGoneBack b m members limit event before after
 
   -- all but its kernel and its boxes stays
   abbrev pub IsBesideKernel : Runner C X Y → Runner C X Y → Type 0

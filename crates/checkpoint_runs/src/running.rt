@@ -3,7 +3,7 @@
 ghost use Rattle.std.specs.Prelude.{◌≡◌, ◌≤◌, ◌&&◌, ◌++◌, ◌∷◌, [], nat_lt, not, true, None, OnOk};
 ghost use Rattle.std.specs.Prelude.{OnErr, IfOk, IfErr, length};
 ghost use Rattle.model_answers.specs.Answering.{answers_of};
-ghost use Rattle.run_semantics.specs.Run.{prepared, run_to, settled, stage_of};
+ghost use Rattle.run_semantics.specs.Run.{prepared, run_to, settled, stage_of, standing};
 ghost use Rattle.kernel_actions.specs.Positions.{position_of};
 ghost use Rattle.kernel_call_views.specs.Tables.{AreShown};
 ghost use Rattle.kernel.specs.Kernels.{boxes_in, world_in, ran_in, HasKinds};
@@ -12,9 +12,10 @@ ghost use Rattle.checkpoints.specs.Stored.{AreRising, IsBegun};
 ghost use Rattle.checkpoint_runs.specs.Running.{boxes_left, fresh_run, kept_boxes, parts_in};
 ghost use Rattle.checkpoint_runs.specs.Running.{Advances, CanStart, IsDeclined, IsFilled, IsLive};
 ghost use Rattle.checkpoint_runs.specs.Running.{IsStopped, IsUndeclined, Stands, Wants};
-ghost use Rattle.checkpoint_runs.specs.Kept.{standing_in, cut_to_last, kept_up_to, taken_if};
+ghost use Rattle.checkpoint_runs.specs.Kept.{standing_in, cut_to_last, kept_up_to, lacking_at};
+ghost use Rattle.checkpoint_runs.specs.Kept.{taken_if};
 ghost use Rattle.checkpoint_runs.specs.Kept.{waiting_in, HasBegun, HasGood, HasGoneOn, HasLeft};
-ghost use Rattle.checkpoint_runs.specs.Kept.{IsBack, IsBesideKernel, IsGoing};
+ghost use Rattle.checkpoint_runs.specs.Kept.{HasNoneAlone, IsBack, IsBesideKernel, IsGoing};
 ghost use Rattle.checkpoint_runs.specs.Positions.{last_count, positions_after, start_of, HasStored};
 ghost use Rattle.kernel_boxes.specs.Seats.{BoxAt, AreBelow as AreOfSmallerIds};
 ghost use Rattle.kernel_boxes.specs.Saved.{instances_held};
@@ -42,6 +43,9 @@ use std::marker::{Brand, PhantomData};
 pub enum Point {
     /// Its network is set up, and is to be started.
     Setup,
+    /// It goes back to a position, for one of whose modules there is no box: that one was deleted
+    /// since.
+    Position,
 }
 
 /// Where a run stands between two calls.
@@ -233,9 +237,13 @@ impl<C: Catalogue> Runner<C> {
                 let standing = self.set_up::<M>(alloc, model)?;
                 Ok(standing)
             }
-            Phase::Waiting(_from, _point) => {
+            Phase::Waiting(_from, Point::Setup) => {
                 let standing = self.next_box::<M>(alloc)?;
                 Ok(standing)
+            }
+            Phase::Waiting(_from, Point::Position) => {
+                let anew = self.set_up::<M>(alloc, model)?;
+                Ok(anew)
             }
             Phase::Declined => {
                 let standing = self.declined::<M>(alloc)?;
@@ -300,37 +308,50 @@ impl<C: Catalogue> Runner<C> {
         Ok(())
     }
 
-    /// Goes back to the last position up to the limit, and gives up those after it; where there is
-    /// none, nothing changes.
+    /// Goes back to the last position up to the limit, and gives up those after it: of its modules
+    /// the boxes stay, and all others are dropped. Where one of its modules has none, the run waits
+    /// there. Where there is no such position, nothing changes, and no event is answered.
     fn go_back<M: ModelMarker>(
         &mut self,
         alloc: Global,
         limit: u64,
-    ) -> Result<Option<u64>, NoMemory>
+    ) -> Result<RunStatus<Option<u64>>, NoMemory>
         requires kinds { HasKinds C.behaviour SimpleModule-box self.old.kernel }
         requires good { HasGood C.behaviour M.answers SimpleModule-box self.old }
+        requires alone { HasNoneAlone SimpleModule-box self.old }
         ensures kinds { HasKinds C.behaviour SimpleModule-box self.new.kernel }
         ensures good { HasGood C.behaviour M.answers SimpleModule-box self.new }
-        ensures back { IfOk result (λ start.
-            (start ≡ start_of limit (counts_of self.old.positions.stored))
-            × IsBack C.behaviour M.answers SimpleModule-box limit self.old self.new start) }
+        ensures alone { HasNoneAlone SimpleModule-box self.new }
+        ensures back { let start = start_of limit (counts_of self.old.positions.stored) in
+            IfOk result (λ back. IsBack C.behaviour M.answers SimpleModule-box limit start self.old
+            self.new back) }
         ensures err { OnErr result
             (HasStored C.behaviour M.answers limit (counts_in self.old.positions)
             self.new.stood (counts_in self.new.positions)) }
     {
         let Some(position) = self.positions.at_most(limit) else {
-            return Ok(None);
+            return Ok(RunStatus::Done(None));
         };
         let start = position.count();
-        let _ids_rise = self.kernel.held();
         self.waiting.clear();
         self.stood = Stood::After(start);
         let back = self.kernel.go_back(alloc, position);
         self.positions.cut_after(start);
-        // No box is missing: no module comes or goes while a run goes on, so its boxes are those of
-        // each position that it left.
-        back?;
-        Ok(Some(start))
+        match back? {
+            Some(request) => Ok(RunStatus::Waits(request)),
+            None => Ok(RunStatus::Done(Some(start))),
+        }
+    }
+
+    /// The id of the first module of the last position that has no box.
+    pub fn lacking_id(&self) -> Option<u32>
+        ensures { result ≡ lacking_at (last_of self.now.positions.stored)
+            (standing (world_in SimpleModule-box self.now.kernel).modules) }
+    {
+        match self.positions.last() {
+            Some(position) => self.kernel.lacking_id(position),
+            None => None,
+        }
     }
 
     /// Gives up the positions after an event, or all of them.
@@ -508,11 +529,12 @@ impl<C: Catalogue> Runner<C> {
         requires stood { self.old.stood ≡ Stood.Before }
         ensures kinds { HasKinds C.behaviour SimpleModule-box self.new.kernel }
         ensures good { HasGood C.behaviour M.answers SimpleModule-box self.new }
-        ensures advances { let kept = kept_boxes phase (standing_in SimpleModule-box self.old) in
+        ensures alone { HasNoneAlone SimpleModule-box self.new }
+        ensures advances { let boxes = standing_in SimpleModule-box self.old in
             let left = world_in SimpleModule-box self.new.kernel in
             let waiting = waiting_in SimpleModule-box self.new in
             IfOk result (λ advance.
-            Advances C.behaviour M.answers limit kept phase (counts_in self.old.positions)
+            Advances C.behaviour M.answers limit phase boxes (counts_in self.old.positions)
             left waiting
             (counts_in self.new.positions) advance) }
         ensures stopped { HasStored C.behaviour M.answers limit (counts_in self.old.positions)
@@ -551,13 +573,15 @@ impl<C: Catalogue> Runner<C> {
             IsLive C.behaviour (answers_of model.now) world waiting phase }
         requires kinds { HasKinds C.behaviour SimpleModule-box self.old.kernel }
         requires good { HasGood C.behaviour (answers_of model.now) SimpleModule-box self.old }
+        requires alone { HasNoneAlone SimpleModule-box self.old }
         ensures kinds { HasKinds C.behaviour SimpleModule-box self.new.kernel }
         ensures good { HasGood C.behaviour (answers_of model.now) SimpleModule-box self.new }
-        ensures advances { let kept = kept_boxes phase (standing_in SimpleModule-box self.old) in
+        ensures alone { HasNoneAlone SimpleModule-box self.new }
+        ensures advances { let boxes = standing_in SimpleModule-box self.old in
             let left = world_in SimpleModule-box self.new.kernel in
             let waiting = waiting_in SimpleModule-box self.new in
             IfOk result (λ advance.
-            Advances C.behaviour (answers_of model.now) limit kept phase
+            Advances C.behaviour (answers_of model.now) limit phase boxes
             (counts_in self.old.positions) left waiting
             (counts_in self.new.positions) advance) }
         ensures stopped { HasStored C.behaviour (answers_of model.now) limit
@@ -584,20 +608,23 @@ impl<C: Catalogue> Runner<C> {
             IsLive C.behaviour M.answers world waiting phase }
         requires kinds { HasKinds C.behaviour SimpleModule-box self.old.kernel }
         requires good { HasGood C.behaviour M.answers SimpleModule-box self.old }
+        requires alone { HasNoneAlone SimpleModule-box self.old }
         ensures kinds { HasKinds C.behaviour SimpleModule-box self.new.kernel }
         ensures good { HasGood C.behaviour M.answers SimpleModule-box self.new }
-        ensures advances { let kept = kept_boxes phase (standing_in SimpleModule-box self.old) in
+        ensures alone { HasNoneAlone SimpleModule-box self.new }
+        ensures advances { let boxes = standing_in SimpleModule-box self.old in
             let left = world_in SimpleModule-box self.new.kernel in
             let waiting = waiting_in SimpleModule-box self.new in
             IfOk result (λ advance.
-            Advances C.behaviour M.answers limit kept phase (counts_in self.old.positions)
+            Advances C.behaviour M.answers limit phase boxes (counts_in self.old.positions)
             left waiting
             (counts_in self.new.positions) advance) }
         ensures stopped { HasStored C.behaviour M.answers limit (counts_in self.old.positions)
             self.new.stood (counts_in self.new.positions) }
     {
         match self.go_back::<M>(alloc, limit)? {
-            Some(start) => {
+            RunStatus::Waits(request) => Ok(RunStatus::Waits(request)),
+            RunStatus::Done(Some(start)) => {
                 let mut answers = AskedModel::<M>::new(alloc, model)?;
                 let mut shown = CallViews::new(alloc);
                 let outcome = self.run_on(alloc, &mut answers, &mut shown, limit, observer)?;
@@ -606,7 +633,7 @@ impl<C: Catalogue> Runner<C> {
                     outcome,
                 }))
             }
-            None => {
+            RunStatus::Done(None) => {
                 self.positions.clear();
                 self.stood = Stood::Before;
                 self.run_from_setup::<M, W>(alloc, model, phase, limit, observer)

@@ -70,7 +70,7 @@ pub record HasRun (b : Behaviour) (before : Editing) (limit : ℕ) (text : List 
 -- WHAT A RUN COMES TO: it is done, and its answer is that of a fresh run; or it waits for a box
 abbrev pub IsRunTurn : Behaviour → Editing → ℕ → DeskTurn → Editing → Type 0
 IsRunTurn b before limit (turn.Text answer) after = HasRun b before limit answer.text after
-IsRunTurn b before limit (turn.Want request) after = WaitsFor before limit request after
+IsRunTurn b before limit (turn.Want request) after = WaitsFor b before limit request after
 
 -- What lack of memory leaves after a run to that limit: no run is done, and the positions are those
 -- that it stored; or this one is done.

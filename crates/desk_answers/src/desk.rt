@@ -227,16 +227,16 @@ impl<C: Catalogue> Desk<C> {
     /// Gives the module that the run waits for its box, or hands the box back.
     pub fn supply(&mut self, held: Box<dyn SimpleModule>) -> Result<(), SupplyFault>
         requires wanted { let editing = editing_at SimpleModule-box self.old in
-            IsFor C.behaviour (wanted_of editing) (meaning held) }
+            IsFor C.behaviour (wanted_of C.behaviour editing) (meaning held) }
         requires sound { IsSettled C.behaviour SimpleModule-box self.old }
         ensures sound { IsSettled C.behaviour SimpleModule-box self.new }
         ensures ok { let editing = editing_at SimpleModule-box self.old in
-            OnOk result (IsSome (wanted_of editing)
-            × (editing_at SimpleModule-box self.new ≡ with_box editing)) }
+            OnOk result (IsSome (wanted_of C.behaviour editing)
+            × (editing_at SimpleModule-box self.new ≡ with_box C.behaviour editing)) }
         ensures err { let editing = editing_at SimpleModule-box self.old in
             IfErr result (λ fault. (fault.held ≡ held)
             × (editing_at SimpleModule-box self.new ≡ editing)
-            × (fault.reason ≡ SupplyReason.NotWanted ↔ wanted_of editing ≡ None)) }
+            × (fault.reason ≡ SupplyReason.NotWanted ↔ wanted_of C.behaviour editing ≡ None)) }
         ensures limit { limit_at self.new ≡ limit_at self.old }
     {
         self.session.supply(held)
@@ -245,14 +245,14 @@ impl<C: Catalogue> Desk<C> {
     /// Says that there is no box for the module that the run waits for.
     pub fn decline(&mut self) -> Result<(), NotWanted>
         requires unknown { let editing = editing_at SimpleModule-box self.old in
-            IsUnknown C.behaviour (wanted_of editing) }
+            IsUnknown C.behaviour (wanted_of C.behaviour editing) }
         requires sound { IsSettled C.behaviour SimpleModule-box self.old }
         ensures sound { IsSettled C.behaviour SimpleModule-box self.new }
         ensures ok { let editing = editing_at SimpleModule-box self.old in
-            OnOk result (IsSome (wanted_of editing)
+            OnOk result (IsSome (wanted_of C.behaviour editing)
             × (editing_at SimpleModule-box self.new ≡ record editing { phase = Phase.Declined })) }
         ensures err { let editing = editing_at SimpleModule-box self.old in
-            OnErr result ((wanted_of editing ≡ None)
+            OnErr result ((wanted_of C.behaviour editing ≡ None)
             × (editing_at SimpleModule-box self.new ≡ editing)) }
         ensures limit { limit_at self.new ≡ limit_at self.old }
     {

@@ -1,14 +1,15 @@
 -- A run that is the same of a session and of the plain machine.
-use Rattle.std.proofs.Common.{◌≡◌, ℕ, suc, ◌-◌, Option, None, refl, sym, subst, ap, ◌∙◌}
+use Rattle.std.proofs.Common.{◌≡◌, ℕ, suc, ◌-◌, Option, Some, None, refl, sym, subst, ap, ◌∙◌}
 use Rattle.module_api.specs.Behaviour.{Behaviour}
 use Rattle.model_data.specs.declared.model.Model.{Model}
 use Rattle.model_answers.specs.Answering.{answers_of}
 use Rattle.run_semantics.specs.Run.{run_to, is_fault}
 use Rattle.edit_session.specs.Editing.{Editing}
-use Rattle.checkpoints.specs.Stored.{begun, is_multiple, Timeline}
+use Rattle.checkpoints.specs.Stored.{is_multiple, Timeline}
 use Rattle.checkpoint_runs.specs.declared.running.Stood.{Stood}
 use Rattle.checkpoint_runs.specs.declared.running.Stood.TheVariants as stood
 use Rattle.checkpoint_runs.specs.Positions.{behind, cut, first_behind, is_left, numbers_from, positions_after, positions_begun, start_of, starts_within, CanGoOn, HasGoneTo, HasStored}
+use Rattle.checkpoint_runs.proofs.Back.{cut_again, start_again}
 use Rattle.desk_answers.specs.Turns.{answer_from, run_answer}
 use Rattle.desk_server.specs.Served.{Machine}
 use Rattle.desk_server.specs.Serving.{Seen, IsAt, RunsAlike, WaitsIn}
@@ -75,16 +76,17 @@ at_alike b limit e s at = record {
   kept = ap (λ (t : Timeline ℕ). cut (start_of limit t.stored) t) at.positions;
 }
 
--- it began with setup, as where nothing is stored
-begun_alike : (limit : ℕ) (s : Machine) → start_of limit s.positions.stored ≡ None → cut (start_of limit (cut None s.positions).stored) (cut None s.positions) ≡ cut (start_of limit s.positions.stored) s.positions
-begun_alike limit s none = subst (λ (o : Option ℕ). begun s.positions.first ≡ cut o s.positions) (sym none) refl
+-- to cut them there once more changes nothing
+cut_twice : (start : Option ℕ) (old : Timeline ℕ) → cut start (cut start old) ≡ cut start old
+cut_twice None old = refl
+cut_twice (Some k) old = cut_again k old
 
 pub waits_alike : (limit : ℕ) (before after : Seen) (s : Machine) → WaitsIn before after limit → RunsAlike limit before.editing s → RunsAlike limit after.editing s
 waits_alike limit before after s w same =
-    let none : start_of limit s.positions.stored ≡ None = sym same.start ∙ w.start in
-    let is : after.editing.positions ≡ cut None s.positions = w.positions ∙ none_kept limit before.editing s same w.start in
+    let old : Timeline ℕ = before.editing.positions in
+    let start : Option ℕ = start_of limit old.stored in
     record {
       model = w.model ∙ same.model;
-      start = ap (λ (t : Timeline ℕ). start_of limit t.stored) is ∙ sym none;
-      kept = ap (λ (t : Timeline ℕ). cut (start_of limit t.stored) t) is ∙ begun_alike limit s none;
+      start = ap (λ (t : Timeline ℕ). start_of limit t.stored) w.positions ∙ start_again limit old ∙ same.start;
+      kept = ap (λ (t : Timeline ℕ). cut (start_of limit t.stored) t) w.positions ∙ ap (λ o. cut o (cut start old)) (start_again limit old) ∙ cut_twice start old ∙ same.kept;
     }

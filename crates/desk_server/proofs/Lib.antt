@@ -4,3 +4,4 @@ pub mod Hearing
 pub mod ServingTurns
 pub mod Telling
 pub mod Turning
+pub mod Wanting

@@ -1,22 +1,27 @@
 -- One turn of a desk with a client after the other.
 use Rattle.std.proofs.Common.{◌≡◌, ℕ, ◌+◌, ◌*◌, ◌<◌, ◌≤◌, List, [], ◌∷◌, ◌++◌, length, Option, Some, None, IsSome, arith, inl, inr, refl, sym, ap, ◌∙◌, subst}
 use Rattle.module_api.specs.Behaviour.{Behaviour}
-use Rattle.checkpoints.specs.Stored.{begun, counts_in, IsBegun, Timeline}
+use Rattle.checkpoints.specs.Stored.{begun, counts_in, counts_of, Timeline}
 use Rattle.desk_commands.specs.declared.commands.Command.{Command}
 use Rattle.desk_commands.specs.declared.commands.Command.TheVariants as command
-use Rattle.run_semantics.specs.Run.{Part}
-use Rattle.edit_session.specs.Editing.{Completed, Editing, IsUndone, fresh_editing, waited_for, wanted_of, with_box}
-use Rattle.checkpoint_runs.specs.declared.running.Stood.TheVariants.{Before}
-use Rattle.checkpoint_runs.specs.Positions.{last_count, start_of}
-use Rattle.checkpoint_runs.proofs.Counting.{begun_is}
+use Rattle.edit_session.specs.Editing.{Editing, IsUndone, fresh_editing, start_in, wanted_of, with_box}
+use Rattle.edit_session.specs.Sessions.{editing_of, IsSound}
+use Rattle.edit_session.specs.declared.session.Session.{Session}
+use Rattle.kernel.specs.Kernels.{world_in}
+use Rattle.kernel_boxes.specs.Seats.{Members}
+use Rattle.checkpoint_runs.specs.declared.running.Stood.TheVariants.{Before, After}
+use Rattle.checkpoint_runs.specs.Positions.{cut, last_count, start_of, CanGoOn}
+use Rattle.checkpoint_runs.specs.Running.{waiting_at}
+use Rattle.checkpoint_runs.proofs.Back.{last_goes_on}
+use Rattle.checkpoint_runs.proofs.Counting.{back_stored, begun_is}
 use Rattle.checkpoint_runs.specs.declared.running.Phase.{Phase}
 use Rattle.kernel_actions.specs.declared.position.Position.{Position}
 use Rattle.model_data.specs.declared.model.Model.{Model}
+use Rattle.model_answers.specs.Answering.{answers_of}
 use Rattle.module_network.specs.declared.library.LibraryModule.{LibraryModule}
-use Rattle.checkpoint_runs.specs.declared.running.Phase.TheVariants.{Idle, Waiting, Declined}
 use Rattle.desk_server.specs.Boxes.{most_boxes}
 use Rattle.desk_server.specs.Served.{Machine, AreHeard, BeginsToHear, Hears, command_asked, fresh_machine}
-use Rattle.desk_server.specs.Serving.{Seen, ComesTo, Ends, EndsServing, HearsNext, HearsOne, IsAt, IsCutOff, IsGoing, IsNextServing, IsRunIn, IsServed, IsServingTurn, NeedsBox, RunsAlike, Stands, StandsBy, WaitsIn, going, left_in_run, left_seen}
+use Rattle.desk_server.specs.Serving.{Seen, ComesTo, Ends, EndsServing, HearsNext, HearsOne, IsAt, IsCutOff, IsGoing, IsHeldAt, IsNextServing, IsRunIn, IsServed, IsServingTurn, NeedsBox, RunsAlike, Stands, StandsBy, WaitsIn, going, left_in_run, left_seen}
 use Rattle.transcripts.specs.Heard.{Heard, OutOfMemory}
 use Rattle.transcripts.specs.declared.asked.AskedLine.{AskedLine}
 use Rattle.desk_server.specs.declared.serving.Next.{Next}
@@ -43,19 +48,19 @@ still_going b s limit before after w g = subst (λ r. StandsBy r b s after) (sym
 })
 
 -- what is left of a run that goes on, with all that may be asked
-abbrev left_going : Seen → ℕ
-left_going v = v.may * (most_boxes + 4) + (left_in_run v.editing + 1)
+abbrev left_going : Behaviour → ℕ → Seen → ℕ
+left_going b limit v = v.may * (most_boxes + 4) + (left_in_run b limit v.editing + 1)
 
-no_more_left : (n : ℕ) (before after : Seen) (limit : ℕ) → left_going before ≤ n → WaitsIn before after limit → left_in_run after.editing ≤ left_in_run before.editing
-    → left_seen after ≤ n
-no_more_left n before after limit fits w less = rw (w.running, w.may) (omega (arith, less, fits))
+no_more_left : (b : Behaviour) (n : ℕ) (before after : Seen) (limit : ℕ) → left_going b limit before ≤ n → WaitsIn before after limit → left_in_run b limit after.editing ≤ left_in_run b limit before.editing
+    → left_seen b after ≤ n
+no_more_left b n before after limit fits w less = rw (w.running, w.may) (omega (arith, less, fits))
 
-less_left : (n : ℕ) (before after : Seen) (limit : ℕ) → left_going before ≤ n → WaitsIn before after limit → left_in_run after.editing < left_in_run before.editing
-    → left_seen after < n
-less_left n before after limit fits w less = rw (w.running, w.may) (omega (arith, less, fits))
+less_left : (b : Behaviour) (n : ℕ) (before after : Seen) (limit : ℕ) → left_going b limit before ≤ n → WaitsIn before after limit → left_in_run b limit after.editing < left_in_run b limit before.editing
+    → left_seen b after < n
+less_left b n before after limit fits w less = rw (w.running, w.may) (omega (arith, less, fits))
 
-none_left : (n : ℕ) (before after : Seen) → left_going before ≤ n → after.running ≡ None → after.may ≡ before.may → left_seen after < n
-none_left n before after fits none may = rw (none, may) (omega (arith, fits))
+none_left : (b : Behaviour) (n : ℕ) (before after : Seen) (limit : ℕ) → left_going b limit before ≤ n → after.running ≡ None → after.may ≡ before.may → left_seen b after < n
+none_left b n before after limit fits none may = rw (none, may) (omega (arith, fits))
 
 -- it is heard: all that was asked is
 run_served : (b : Behaviour) (s mid : Machine) (limit : ℕ) (before after : Seen) (g : IsGoing b s limit before) (front : List Heard) → after.asked ≡ before.asked
@@ -66,23 +71,23 @@ run_served b s mid limit before after g front asked heard hears at = record {
   heard = rw (asked, heard, g.all) (heard_more b s g.machine mid g.before before.heard front g.last g.heard (rw g.runs hears));
 }
 
-run_goes : (b : Behaviour) (limit : ℕ) (first before after : Seen) (t : ServerStep) → ((s : Machine) → Stands b s first → IsGoing b s limit before) → left_going before ≤ left_seen first
+run_goes : (b : Behaviour) (limit : ℕ) (first before after : Seen) (t : ServerStep) → ((s : Machine) → Stands b s first → IsGoing b s limit before) → left_going b limit before ≤ left_seen b first
     → IsRunIn b limit before after t → IsServingTurn b first after t
 run_goes b limit first before after (turn.Need made) on fits run = record {
   goes_on = λ s stands. still_going b s limit before after run.0 (on s stands);
   wanted = run.1;
   waits = run.2;
-  going = rw run.0.running refl;
-  left = no_more_left (left_seen first) before after limit fits run.0 run.3;
+  going = subst (λ o. IsHeldAt o after.editing) (sym run.0.running) run.3;
+  left = no_more_left b (left_seen b first) before after limit fits run.0 run.4;
 }
 run_goes b limit first before after (turn.Over next.GoOn) on fits (inl waits) = (
   (λ s stands. still_going b s limit before after waits.0 (on s stands)),
-  less_left (left_seen first) before after limit fits waits.0 waits.1,
+  less_left b (left_seen b first) before after limit fits waits.0 waits.1,
 )
 run_goes b limit first before after (turn.Over next.GoOn) on fits (inr run) = (
   (λ s stands. let g = on s stands in let h = run.3 g.machine g.alike in
       subst (λ r. StandsBy r b s after) (sym run.2) (run_served b s h.1 limit before after g h.0 run.0 h.2 h.3 h.4)),
-  none_left (left_seen first) before after fits run.2 run.1,
+  none_left b (left_seen b first) before after limit fits run.2 run.1,
 )
 run_goes b limit first before after (turn.Over (next.Stop stop.Gone)) on fits cut = λ s stands. let g = on s stands in
     inr (record { before = g.before; last = g.last; all = cut.asked ∙ g.all; front = before.heard; more = cut.more; heard_is = cut.heard; left = g.machine; are = g.heard; begins = rw g.runs (cut.begins g.machine g.alike) })
@@ -150,7 +155,7 @@ by_command : (b : Behaviour) (s : Machine) (a : AskedLine) (c : Command) (before
     → IsServingTurn b before after t
 by_command b s a (command.Run limit) before mid after t is asks run =
     run_goes b limit before mid after t (λ m stands. now_going b m a limit before mid is asks (served b m before asks.idle stands))
-    (fewer_going before.may mid.may (left_in_run mid.editing) _ asks.less (few_left mid.editing)) run
+    (fewer_going before.may mid.may (left_in_run b limit mid.editing) _ asks.less (few_left b limit mid.editing)) run
 by_command b s a (command.Edit e) before mid after (turn.Over n) is asks hears = now_heard b s a (command.Edit e) before mid after n is asks hears
 by_command b s a (command.Ned number path) before mid after (turn.Over n) is asks hears = now_heard b s a (command.Ned number path) before mid after n is asks hears
 by_command b s a command.Positions before mid after (turn.Over n) is asks hears = now_heard b s a command.Positions before mid after n is asks hears
@@ -171,21 +176,22 @@ asked_turn b a before mid after t asks comes = by_command b (fresh_machine befor
 
 -- ---- memory runs out for a box
 
-some_limit : (o : Option ℕ) → IsSome o → (limit : ℕ) × (o ≡ Some limit)
-some_limit None is = absurd cc
-some_limit (Some limit) is = (limit, refl)
+-- the limit of the run that waits
+held_limit : (o : Option ℕ) (e : Editing) → IsHeldAt o e → (limit : ℕ) × (o ≡ Some limit) × (e.phase ≡ waiting_at (start_in e limit))
+held_limit None e is = absurd is
+held_limit (Some limit) e is = (limit, refl, is)
 
-undone : (phase : Phase) (m : Model) (boxes : List Part) (done : Option Completed) (known : Option ℕ) (ps : Timeline Position) → IsSome (waited_for phase m boxes)
-    → IsUndone phase done known ps → (done ≡ None) × (known ≡ None) × IsBegun ps
-undone Idle m boxes d k ps is none = absurd cc
-undone (Waiting from at) m boxes d k ps is none = none
-undone Declined m boxes d k ps is none = absurd cc
+-- the run of the model goes on after the last position
+abbrev pub GoesOnLast : Behaviour → Editing → Timeline Position → Type 0
+GoesOnLast b e ps = (k : ℕ) → last_count (counts_of ps.stored) ≡ Some k → CanGoOn b (answers_of e.model) k
 
--- a run that waits leaves nothing: neither it nor one before it is done, and no position is stored
-waits_for_none : (b : Behaviour) (limit : ℕ) (e : Editing) (ps : Timeline Position) → IsSome (wanted_of e) → IsUndone e.phase e.done e.known ps
+-- which a session keeps
+pub goes_on_last : {C X : Type 0} {Y : X → Type 0} (b : Behaviour) (members : Members X Y) (s : Session C X Y) → IsSound b members s → GoesOnLast b (editing_of members s) s.runner.positions
+goes_on_last b members s sound = λ k e. last_goes_on b (answers_of s.model) (world_in members s.runner.kernel) s.runner.positions.stored k sound.good e
+
+waits_for_none : (b : Behaviour) (limit : ℕ) (e : Editing) (ps : Timeline Position) (start : Option ℕ) → start_of limit e.positions.stored ≡ start → IsUndone (waiting_at start) e.done e.known ps → GoesOnLast b e ps
     → e.positions ≡ counts_in ps → LeavesNone b e limit e
-waits_for_none b limit e ps waits none counts =
-    let left = undone e.phase e.model e.boxes e.done e.known ps waits none in
+waits_for_none b limit e ps None starts left goes counts =
     let no_counts : e.positions ≡ begun ps.first = counts ∙ ap counts_in left.2 in
     record {
       done = left.0;
@@ -193,42 +199,52 @@ waits_for_none b limit e ps waits none counts =
       stood = Before;
       positions = (ap (λ (t : Timeline ℕ). start_of limit t.stored) no_counts, begun_is e.positions ps.first no_counts);
     }
+waits_for_none b limit e ps (Some k) starts left goes counts = record {
+  done = left.none;
+  known = left.known_is ∙ sym left.last_is ∙ sym (ap (λ (t : Timeline ℕ). last_count t.stored) counts);
+  stood = After k;
+  positions = back_stored b (answers_of e.model) limit k e.positions e.positions starts (goes k left.last_is) (counts ∙ sym left.cut_is ∙ ap (cut (Some k)) (sym counts));
+}
 
-pub memory_turn : (b : Behaviour) (before after : Seen) (n : Next) (ps : Timeline Position) → IsSome before.running → IsSome (wanted_of before.editing)
-    → IsUndone before.editing.phase before.editing.done before.editing.known ps → before.editing.positions ≡ counts_in ps
+-- a run that waits leaves none, neither it nor one before it is done, and no position after where it
+-- begins is stored
+pub memory_turn : (b : Behaviour) (before after : Seen) (n : Next) (ps : Timeline Position) → IsHeldAt before.running before.editing
+    → IsUndone before.editing.phase before.editing.done before.editing.known ps → GoesOnLast b before.editing ps → before.editing.positions ≡ counts_in ps
     → after.editing ≡ before.editing → after.asked ≡ before.asked → after.may ≡ before.may → after.running ≡ None
     → HearsOne OutOfMemory before.heard after.heard n → IsNextServing b before after n
-memory_turn b before after n ps going waits none counts same asked may running heard =
-    let at = some_limit before.running going in
+memory_turn b before after n ps going left goes counts same asked may running heard =
+    let at = held_limit before.running before.editing going in
+    let e : Editing = before.editing in
+    let none : LeavesNone b e at.0 e = waits_for_none b at.0 e ps (start_in e at.0) refl (subst (λ (phase : Phase). IsUndone phase e.done e.known ps) at.2 left) goes counts in
     run_turn b at.0 before after (turn.Over n) at.1
     (tells_none b at.0 before after n asked may running
     (record { model = ap (λ (e : Editing). e.model) same })
-    (subst (LeavesNone b before.editing at.0) (sym same) (waits_for_none b at.0 before.editing ps waits none counts)) heard)
+    (subst (LeavesNone b before.editing at.0) (sym same) none) heard)
 
 -- ---- a run that waits has one box more
 
-more_alike : (limit : ℕ) (e f : Editing) (s : Machine) → f ≡ with_box e → RunsAlike limit e s → RunsAlike limit f s
-more_alike limit e f s is h = subst (λ (x : Editing). RunsAlike limit x s) (sym is) (record { model = h.model; start = h.start; kept = h.kept })
+more_alike : (b : Behaviour) (limit : ℕ) (e f : Editing) (s : Machine) → f ≡ with_box b e → RunsAlike limit e s → RunsAlike limit f s
+more_alike b limit e f s is h = subst (λ (x : Editing). RunsAlike limit x s) (sym is) (record { model = h.model; start = h.start; kept = h.kept })
 
-more_going : (b : Behaviour) (s : Machine) (limit : ℕ) (before after : Seen) → after.editing ≡ with_box before.editing → after.asked ≡ before.asked → after.heard ≡ before.heard → IsGoing b s limit before → IsGoing b s limit after
+more_going : (b : Behaviour) (s : Machine) (limit : ℕ) (before after : Seen) → after.editing ≡ with_box b before.editing → after.asked ≡ before.asked → after.heard ≡ before.heard → IsGoing b s limit before → IsGoing b s limit after
 more_going b s limit before after is asked heard h = record {
   before = h.before;
   last = h.last;
   all = asked ∙ h.all;
   runs = h.runs;
   machine = h.machine;
-  alike = more_alike limit before.editing after.editing h.machine is h.alike;
+  alike = more_alike b limit before.editing after.editing h.machine is h.alike;
   heard = subst (λ told. AreHeard b s h.before told h.machine) (sym heard) h.heard;
 }
 
 -- it goes on, and less is left
-pub supplied_turn : (b : Behaviour) (before after : Seen) → IsSome before.running → IsSome (wanted_of before.editing) → after.editing ≡ with_box before.editing → after.asked ≡ before.asked → after.heard ≡ before.heard → after.may ≡ before.may → after.running ≡ before.running
+pub supplied_turn : (b : Behaviour) (before after : Seen) → IsHeldAt before.running before.editing → IsSome (wanted_of b before.editing) → after.editing ≡ with_box b before.editing → after.asked ≡ before.asked → after.heard ≡ before.heard → after.may ≡ before.may → after.running ≡ before.running
     → IsNextServing b before after next.GoOn
 supplied_turn b before after going_on wants is asked heard may running =
-    let at = some_limit before.running going_on in
-    let less : left_in_run after.editing < left_in_run before.editing = supplied_left before.editing after.editing wants is in
-    let new : going after.running (left_in_run after.editing) ≡ left_in_run after.editing + 1 = ap (λ o. going o (left_in_run after.editing)) (running ∙ at.1) in
-    let old : going before.running (left_in_run before.editing) ≡ left_in_run before.editing + 1 = ap (λ o. going o (left_in_run before.editing)) at.1 in
+    let at = held_limit before.running before.editing going_on in
+    let less : left_in_run b at.0 after.editing < left_in_run b at.0 before.editing = supplied_left b at.0 before.editing after.editing wants at.2 is in
+    let new : going b after.running after.editing ≡ left_in_run b at.0 after.editing + 1 = ap (λ o. going b o after.editing) (running ∙ at.1) in
+    let old : going b before.running before.editing ≡ left_in_run b at.0 before.editing + 1 = ap (λ o. going b o before.editing) at.1 in
     let same : after.may * (most_boxes + 4) ≡ before.may * (most_boxes + 4) = ap (λ n. n * (most_boxes + 4)) may in (
       λ s stands. subst (λ o. StandsBy o b s after) (sym (running ∙ at.1)) (more_going b s at.0 before after is asked heard (subst (λ o. StandsBy o b s before) at.1 stands)),
       omega (arith, less, new, old, same),

@@ -1,11 +1,13 @@
 -- The boxes that a run needs.
-use Rattle.std.specs.Prelude.{ℕ, suc, ◌+◌, List, [], ◌∷◌, if◌then◌else◌}
+use Rattle.std.specs.Prelude.{ℕ, suc, ◌+◌, List, [], ◌∷◌, Option, Some, None, if◌then◌else◌}
+use Rattle.module_api.specs.Behaviour.{Behaviour}
 use Rattle.model_data.specs.declared.model.Model.{Model}
 use Rattle.model_answers.specs.Answering.{answers_of}
 use Rattle.run_semantics.specs.Perform.{Flow, On, Stopped, Broken}
-use Rattle.run_semantics.specs.Run.{Part, prepared}
+use Rattle.run_semantics.specs.Run.{Part, after, prepared, standing, world_at}
 use Rattle.kernel.specs.Seats.{needs}
 use Rattle.kernel_boxes.specs.Staying.{is_held}
+use Rattle.checkpoint_runs.specs.Running.{kept_at}
 use Rattle.checkpoint_runs.specs.declared.running.Phase.{Phase}
 use Rattle.checkpoint_runs.specs.declared.running.Phase.TheVariants.{Idle, Waiting, Declined}
 
@@ -27,9 +29,17 @@ boxes_lacking m boxes = lacking_after (prepared (answers_of m)) boxes
 abbrev pub most_boxes : ℕ
 most_boxes = 65536
 
--- How many turns a run takes at most: a turn for each box that it doesn't hold yet, and one more
--- where a box may be declined.
-abbrev pub left_of : Phase → Model → List Part → ℕ
-left_of Idle m boxes = boxes_lacking m [] + 2
-left_of (Waiting from at) m boxes = boxes_lacking m boxes + 1
-left_of Declined m boxes = 0
+-- how many a run needs that begins there
+abbrev pub lacking_from : Behaviour → Model → Option ℕ → List Part → ℕ
+lacking_from b m None boxes = boxes_lacking m boxes
+lacking_from b m (Some event) boxes =
+    lacking boxes (standing (world_at (after b (answers_of m) event)).modules)
+
+-- How many turns a run takes at most that begins there: a turn for each box that it doesn't hold
+-- yet, and one more where a box may be declined.
+abbrev pub left_of : Behaviour → Phase → Model → Option ℕ → List Part → ℕ
+left_of b Idle m start boxes =
+    lacking_from b m start (kept_at b (answers_of m) start Idle boxes) + 1
+left_of b (Waiting from at) m start boxes =
+    lacking_from b m start (kept_at b (answers_of m) start (Waiting from at) boxes) + 1
+left_of b Declined m start boxes = 0

@@ -7,9 +7,10 @@ use Rattle.desk_commands.specs.declared.commands.Command.{Command}
 use Rattle.desk_commands.specs.declared.commands.Command.TheVariants as command
 use Rattle.module_network.specs.Library.{box_of}
 use Rattle.module_network.specs.declared.library.LibraryModule.{LibraryModule}
-use Rattle.edit_session.specs.Editing.{Completed, Editing, completed, wanted_of, IsFor}
+use Rattle.edit_session.specs.Editing.{Completed, Editing, completed, start_in, wanted_of, IsFor}
 use Rattle.edit_session.specs.Files.{scalars_of_run, vectors_of_run}
 use Rattle.checkpoint_runs.specs.Positions.{cut, start_of}
+use Rattle.checkpoint_runs.specs.Running.{waiting_at}
 use Rattle.kernel_boxes.specs.Seats.{Members}
 use Rattle.desk_answers.specs.Turns.{editing_at, IsSettled}
 use Rattle.checkpoint_runs.specs.declared.running.Phase.TheVariants.{Declined}
@@ -63,8 +64,8 @@ pub record IsServed (b : Behaviour) (s : Machine) (v : Seen) : Type 0 where
   pub at : IsAt b v.editing machine
   pub heard : AreHeard b s v.asked v.heard machine
 
--- A run to that limit was asked last, and goes on; all before is heard. It began with setup, and
--- where the machine has positions, all after the limit, the session has none any more.
+-- A run to that limit was asked last, and goes on; all before is heard. Where it waits the session
+-- has the positions up to where it began, and no others.
 pub record IsGoing (b : Behaviour) (s : Machine) (limit : ℕ) (v : Seen) : Type 0 where
   pub before : List AskedLine
   pub last : AskedLine
@@ -88,17 +89,17 @@ GoesOnServing b before after = (s : Machine) → Stands b s before → Stands b 
 
 -- ---- what is left to be done
 
-abbrev pub going : Option ℕ → ℕ → ℕ
-going None left = 0
-going (Some limit) left = left + 1
+abbrev pub left_in_run : Behaviour → ℕ → Editing → ℕ
+left_in_run b limit e = left_of b e.phase e.model (start_in e limit) e.boxes
 
-abbrev pub left_in_run : Editing → ℕ
-left_in_run e = left_of e.phase e.model e.boxes
+abbrev pub going : Behaviour → Option ℕ → Editing → ℕ
+going b None e = 0
+going b (Some limit) e = left_in_run b limit e + 1
 
 -- how many turns are left at most: for each thing that may be asked, as many as a model may need
 -- boxes, and four more
-abbrev pub left_seen : Seen → ℕ
-left_seen v = v.may * (most_boxes + 4) + going v.running (left_in_run v.editing)
+abbrev pub left_seen : Behaviour → Seen → ℕ
+left_seen b v = v.may * (most_boxes + 4) + going b v.running v.editing
 
 -- ---- how it ends
 
@@ -133,17 +134,22 @@ HearsOne h before after (next.Stop _) = ⊥
 
 abbrev pub IsNextServing : Behaviour → Seen → Seen → Next → Type 0
 IsNextServing b before after next.GoOn =
-    GoesOnServing b before after × (left_seen after < left_seen before)
+    GoesOnServing b before after × (left_seen b after < left_seen b before)
 IsNextServing b before after (next.Stop why) = (s : Machine) → Stands b s before
     → EndsServing b s after why
+
+-- the run to that limit goes on, and waits where it begins
+abbrev pub IsHeldAt : Option ℕ → Editing → Type 0
+IsHeldAt None e = ⊥
+IsHeldAt (Some limit) e = e.phase ≡ waiting_at (start_in e limit)
 
 -- A run waits for a box, and a module was made for it.
 pub record NeedsBox (b : Behaviour) (before after : Seen) (made : LibraryModule) : Type 0 where
   pub goes_on : GoesOnServing b before after
-  pub wanted : IsFor b (wanted_of after.editing) (box_of made)
-  pub waits : IsSome (wanted_of after.editing)
-  pub going : IsSome after.running
-  pub left : left_seen after ≤ left_seen before
+  pub wanted : IsFor b (wanted_of b after.editing) (box_of made)
+  pub waits : IsSome (wanted_of b after.editing)
+  pub going : IsHeldAt after.running after.editing
+  pub left : left_seen b after ≤ left_seen b before
 
 abbrev pub IsServingTurn : Behaviour → Seen → Seen → ServerStep → Type 0
 IsServingTurn b before after (turn.Need made) = NeedsBox b before after made
@@ -252,20 +258,21 @@ module _ {O K X : Type 0} {Y : X → Type 0} where
 
 -- ---- runs
 
--- It waits for a box, as it began with setup.
+-- It waits for a box where it begins, or was told that there is none: of the positions those up to
+-- there are left.
 pub record WaitsIn (before after : Seen) (limit : ℕ) : Type 0 where
   pub asked : after.asked ≡ before.asked
   pub heard : after.heard ≡ before.heard
   pub may : after.may ≡ before.may
   pub running : after.running ≡ Some limit
   pub model : after.editing.model ≡ before.editing.model
-  pub start : start_of limit before.editing.positions.stored ≡ None
-  pub positions : after.editing.positions ≡ cut None before.editing.positions
+  pub positions : after.editing.positions
+      ≡ cut (start_in before.editing limit) before.editing.positions
 
 -- a box is made for what the run waits for, or there may be no such box, and the run is told so
 abbrev pub IsMetIn : Behaviour → Editing → Editing → ServerStep → Type 0
 IsMetIn b before after (turn.Need made) =
-    (after ≡ before) × IsFor b (wanted_of after) (box_of made)
+    (after ≡ before) × IsFor b (wanted_of b after) (box_of made)
 IsMetIn b before after (turn.Over next.GoOn) = after ≡ record before { phase = Declined }
 IsMetIn b before after (turn.Over (next.Stop why)) = ⊥
 
@@ -273,11 +280,12 @@ IsMetIn b before after (turn.Over (next.Stop why)) = ⊥
 -- what is made, or was told that there is none; or the client is gone.
 abbrev pub IsRunIn : Behaviour → ℕ → Seen → Seen → ServerStep → Type 0
 IsRunIn b limit before after (turn.Need made) =
-    WaitsIn before after limit × IsFor b (wanted_of after.editing) (box_of made)
-    × IsSome (wanted_of after.editing)
-    × (left_in_run after.editing ≤ left_in_run before.editing)
+    WaitsIn before after limit × IsFor b (wanted_of b after.editing) (box_of made)
+    × IsSome (wanted_of b after.editing) × IsHeldAt (Some limit) after.editing
+    × (left_in_run b limit after.editing ≤ left_in_run b limit before.editing)
 IsRunIn b limit before after (turn.Over next.GoOn) =
-    (WaitsIn before after limit × (left_in_run after.editing < left_in_run before.editing))
+    (WaitsIn before after limit
+    × (left_in_run b limit after.editing < left_in_run b limit before.editing))
     ⊎ IsHeardRun b limit before after
 IsRunIn b limit before after (turn.Over (next.Stop stop.Gone)) =
     IsCutOff b (command.Run limit) (RunsAlike limit before.editing) before after

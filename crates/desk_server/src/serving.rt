@@ -12,7 +12,7 @@ ghost use Rattle.desk_server.specs.Served.{fresh_machine};
 ghost use Rattle.desk_commands.specs.declared.commands.Command.TheVariants as commands;
 ghost use Rattle.desk_server.specs.Served.{command_asked};
 ghost use Rattle.desk_server.specs.Serving.{AreFilled, ComesTo, Ends, HearsNext, IsMetIn};
-ghost use Rattle.desk_server.specs.Serving.{IsNextServing, IsReady, IsRunIn, IsServer};
+ghost use Rattle.desk_server.specs.Serving.{IsHeldAt, IsNextServing, IsReady, IsRunIn, IsServer};
 ghost use Rattle.desk_server.specs.Serving.{IsServingTurn, MayStopAt, MayStopIn, Serves, Tells};
 ghost use Rattle.result_lines.specs.Taken.{untouched};
 ghost use Rattle.transcripts.specs.Heard.{Answer, OutOfMemory};
@@ -84,7 +84,8 @@ impl<O: Out + Drop, K: Client<O> + Drop> Server<O, K> {
 
     /// What a run needs that waits for a box: a module of that kind, or to hear that there is none.
     fn need_of(&mut self, alloc: Global, request: &Request) -> ServerStep
-        requires waits { wanted_of (editing_at SimpleModule-box self.old.desk) ≡ Some request.now }
+        requires waits { let editing = editing_at SimpleModule-box self.old.desk in
+            wanted_of library editing ≡ Some request.now }
         requires sound { IsServer library SimpleModule-box self.old }
         ensures sound { IsServer library SimpleModule-box self.new }
         ensures client { self.new.client ≡ self.old.client }
@@ -283,9 +284,11 @@ impl<O: Out + Drop, K: Client<O> + Drop> Server<O, K> {
     /// Gives the run that waits its box.
     fn supply(&mut self, held: Box<dyn SimpleModule>) -> Next
         requires wanted { let editing = editing_at SimpleModule-box self.old.desk in
-            IsFor library (wanted_of editing) (meaning held) }
-        requires waits { IsSome (wanted_of (editing_at SimpleModule-box self.old.desk)) }
-        requires going { IsSome self.old.running }
+            IsFor library (wanted_of library editing) (meaning held) }
+        requires waits { let editing = editing_at SimpleModule-box self.old.desk in
+            IsSome (wanted_of library editing) }
+        requires going { IsHeldAt self.old.running
+            (editing_at SimpleModule-box self.old.desk) }
         requires sound { IsServer library SimpleModule-box self.old }
         requires kept { K.keeps self.old.client }
         ensures { Serves library SimpleModule-box K.asked K.heard K.left K.keeps K.label K.stops

@@ -1,5 +1,5 @@
 -- Up to which event a run stays valid.
-use Rattle.std.proofs.Common.{◌≡◌, ◌≤◌, ◌<◌, ℕ, List, [], ◌∷◌, ◌++◌, Option, Some, None, Result, Ok, Err, IfOk, refl, sym, ap, ◌∙◌, arith, subst}
+use Rattle.std.proofs.Common.{◌≡◌, inl, inr, ◌≤◌, ◌<◌, ℕ, List, [], ◌∷◌, ◌++◌, Option, Some, None, Result, Ok, Err, IfOk, refl, sym, ap, ◌∙◌, arith, subst}
 use Rattle.sim_values.specs.declared.NoMemory.{NoMemory}
 use Rattle.module_api.specs.Behaviour.{Behaviour}
 use Rattle.module_api.specs.Laws.{IsLawful}
@@ -20,17 +20,17 @@ use Rattle.run_semantics.proofs.Reuse.{reached_same_up_to}
 use Rattle.result_files.specs.declared.files.ResultFiles.{ResultFiles}
 use Rattle.kernel_actions.specs.declared.position.Position.{Position}
 use Rattle.kernel_boxes.specs.Seats.{BoxAt, AreOfKinds}
-use Rattle.checkpoint_runs.specs.Kept.{kept_up_to, AreGood}
+use Rattle.checkpoint_runs.specs.Kept.{kept_up_to, AreGood, IsAlone}
 use Rattle.checkpoint_runs.specs.declared.running.Phase.{Phase}
 use Rattle.checkpoint_runs.specs.declared.running.Phase.TheVariants.{Idle}
 use Rattle.edit_session.specs.declared.session.Change.{Change}
-use Rattle.checkpoints.specs.Stored.{begun, counts_in, Timeline}
-use Rattle.checkpoint_runs.specs.Positions.{cut, events_behind, start_of, CanBeStored, begins, is_cut}
-use Rattle.edit_session.specs.Editing.{Completed, Editing, edited_by, files_in, IsFreshRun, IsKept}
+use Rattle.checkpoints.specs.Stored.{begun, counts_in, up_to, Timeline}
+use Rattle.checkpoint_runs.specs.Positions.{cut, events_behind, CanBeStored, begins, is_cut}
+use Rattle.edit_session.specs.Editing.{Completed, Editing, edited_by, files_in, start_in, IsFreshRun, IsKept}
 use Rattle.edit_session.specs.declared.session.Report.{Report}
-use Rattle.checkpoint_runs.specs.Running.{fresh_run, kept_boxes, parts_in, whole_run, IsEnded}
+use Rattle.checkpoint_runs.specs.Running.{fresh_run, parts_in, whole_run, IsEnded}
 use Rattle.checkpoint_runs.proofs.Whole.{stopped_world}
-use Rattle.checkpoint_runs.proofs.Counting.{kept_counts}
+use Rattle.checkpoint_runs.proofs.Counting.{kept_counts, left_stored}
 use Rattle.edit_session.specs.Reuse.{IsValidTo, IsAskedUpTo, IsKnown}
 
 -- ---- a run that is done
@@ -135,20 +135,21 @@ known_of b m n w known last (Ok found) e h a = known_edited b m n w last found (
 
 -- what is kept of a run that is done
 pub kept_done : (b : Behaviour) (ss xs : List BoxAt) (w : World) (m : Model) (limit : ℕ) (outcome : Outcome) (files : ResultFiles) (known : ℕ) (ps : Timeline Position) → AreOfKinds b ss → whole_run b (answers_of m) limit w outcome
-    → files ≡ files_in m w → known ≡ w.count → AreGood b (answers_of m) ss w ps.stored → CanBeStored (counts_in ps) → IsKept b ss xs w m Idle (Some (record { limit = limit; outcome = outcome; files = files })) (Some known) ps
-kept_done b ss xs w m limit outcome files known ps kinds whole e n good stored = record {
+    → files ≡ files_in m w → known ≡ w.count → AreGood b (answers_of m) w ps.stored → IsAlone xs ps → CanBeStored (counts_in ps) → IsKept b ss xs w m Idle (Some (record { limit = limit; outcome = outcome; files = files })) (Some known) ps
+kept_done b ss xs w m limit outcome files known ps kinds whole e n good alone stored = record {
   kinds = kinds;
   live = tt;
   left = (whole, e);
   undone = tt;
   asked = subst (IsAskedUpTo b (answers_of m) w) (sym n) (known_done b (answers_of m) limit w outcome whole);
   good = good;
+  alone = alone;
   stored = stored;
 }
 
 -- what it tells, and what callers see of it
 pub fresh_done : (b : Behaviour) (before after : Editing) (limit : ℕ) (report : Report) (w : World) (waiting : List BoxAt) (new : Timeline ℕ) (start : Option ℕ) (outcome : Outcome) (files : ResultFiles) (count : ℕ)
-    → IsEnded b (answers_of before.model) limit (kept_boxes before.phase before.boxes) before.phase before.positions w waiting new start outcome
+    → IsEnded b (answers_of before.model) limit (start_in before limit) before.phase before.boxes before.positions w waiting new start outcome
     → report ≡ record { outcome = outcome; started_from = start; executed = events_behind start count } → files ≡ files_in before.model w → count ≡ w.count
     → after.done ≡ Some (record { limit = limit; outcome = outcome; files = files }) → after.boxes ≡ standing w.modules ++ parts_in waiting → after.known ≡ Some count → after.positions ≡ new
     → IsFreshRun b before limit report after
@@ -159,10 +160,10 @@ fresh_done b before after limit report w waiting new start outcome files count h
     let counted : count ≡ (fresh_run b m limit).world.count = n ∙ ap (λ (v : World). v.count) world in
     record {
       outcome = ap (λ (r : Report). r.outcome) told ∙ ended;
-      started_from = ap (λ (r : Report). r.started_from) told ∙ h.start;
-      executed = ap (λ (r : Report). r.executed) told ∙ ap (λ s. events_behind s count) h.start ∙ ap (events_behind (start_of limit before.positions.stored)) counted;
+      started_from = ap (λ (r : Report). r.started_from) told ∙ h.start_is;
+      executed = ap (λ (r : Report). r.executed) told ∙ ap (λ s. events_behind s count) h.start_is ∙ ap (events_behind (start_in before limit)) counted;
       done = d ∙ ap Some (completed_is limit outcome (fresh_run b m limit).outcome files (files_in before.model (fresh_run b m limit).world) ended (written ∙ ap (files_in before.model) world));
-      boxes = boxes ∙ h.boxes;
+      boxes = boxes ∙ h.boxes_are;
       known = known ∙ ap Some counted;
       positions = positions ∙ h.positions;
       needs_none = h.needs_none;
@@ -180,19 +181,27 @@ kept_begun b ss xs w m interval ps some kinds e = rw e (record {
   undone = tt;
   asked = tt;
   good = tt;
+  alone = inr refl;
   stored = begins interval some;
 })
 
+-- where no position is stored while a box waits there is none when some are cut
+alone_cut : (xs : List BoxAt) (t : Timeline Position) (valid : Option ℕ) → IsAlone xs t → IsAlone xs (kept_up_to valid t)
+alone_cut xs t valid (inl none) = inl none
+alone_cut xs t None (inr none) = inr refl
+alone_cut xs t (Some v) (inr none) = inr (left_stored t (up_to v t.stored) ∙ ap (up_to v) none)
+
 -- what is kept after an accepted edit
 pub kept_edited : (b : Behaviour) (ss ts ws xs : List BoxAt) (w u : World) (m n : Model) (phase : Phase) (done : Option Completed) (known valid : Option ℕ) (ps qs : Timeline Position) → IsKept b ss ws w m phase done known ps → ts ≡ ss → u ≡ w → qs ≡ kept_up_to valid ps
-    → IsKnown b (answers_of n) w valid → AreGood b (answers_of n) ss w (kept_up_to valid ps).stored → IsKept b ts xs u n Idle None valid qs
-kept_edited b ss ts ws xs w u m n phase last known valid ps qs kept t e q asked good = rw (t, e, q) (record {
+    → IsKnown b (answers_of n) w valid → AreGood b (answers_of n) w (kept_up_to valid ps).stored → xs ≡ ws → IsKept b ts xs u n Idle None valid qs
+kept_edited b ss ts ws xs w u m n phase last known valid ps qs kept t e q asked good same = rw (t, e, q, same) (record {
   kinds = kept.kinds;
   live = tt;
   left = tt;
   undone = tt;
   asked = asked;
   good = good;
+  alone = alone_cut ws ps valid kept.alone;
   stored = subst CanBeStored (sym (kept_counts valid ps)) (is_cut valid (counts_in ps) kept.stored);
 })
 

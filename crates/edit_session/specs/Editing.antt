@@ -1,6 +1,6 @@
 -- What a session keeps.
-use Rattle.std.specs.Prelude.{◌≡◌, ◌⊎◌, ◌≤◌, ◌<◌, ◌^◌, ℕ, false, List, [], ◌∷◌, ◌++◌, Option, Some}
-use Rattle.std.specs.Prelude.{None}
+use Rattle.std.specs.Prelude.{◌≡◌, ◌⊎◌, ◌≤◌, ◌<◌, ◌^◌, ℕ, false, List, [], Option, Some}
+use Rattle.std.specs.Prelude.{None, IsSome}
 use Rattle.module_api.specs.Behaviour.{Behaviour}
 use Rattle.module_api.specs.Meaning.{Module, IsFresh}
 use Rattle.model_data.specs.declared.model.Model.{Model}
@@ -18,18 +18,18 @@ use Rattle.kernel.specs.declared.request.Request.{Request}
 use Rattle.kernel_boxes.specs.Seats.{BoxAt, AreOfKinds}
 use Rattle.checkpoint_runs.specs.declared.running.Phase.{Phase}
 use Rattle.checkpoint_runs.specs.declared.running.Phase.TheVariants.{Idle, Waiting, Declined}
-use Rattle.checkpoint_runs.specs.declared.running.Point.TheVariants.{Setup}
+use Rattle.checkpoint_runs.specs.declared.running.Point.TheVariants as point
 use Rattle.edit_session.specs.declared.session.Change.{Change}
 use Rattle.edit_session.specs.declared.session.Edited.{Edited}
 use Rattle.checkpoint_runs.specs.declared.running.RunStatus.{RunStatus}
 use Rattle.checkpoint_runs.specs.declared.running.RunStatus.TheVariants as status
 use Rattle.edit_session.specs.declared.session.Report.{Report}
-use Rattle.checkpoint_runs.specs.Kept.{AreGood}
+use Rattle.checkpoint_runs.specs.Kept.{AreGood, IsAlone}
 use Rattle.checkpoint_runs.specs.declared.running.Stood.{Stood}
 use Rattle.checkpoint_runs.specs.Positions.{cut, events_behind, last_count, positions_after}
 use Rattle.checkpoint_runs.specs.Positions.{start_of, HasStored, CanBeStored}
-use Rattle.checkpoint_runs.specs.Running.{boxes_left, fresh_run, kept_boxes, needed_by, wanted_by}
-use Rattle.checkpoint_runs.specs.Running.{whole_run, IsLive, IsUndeclined}
+use Rattle.checkpoint_runs.specs.Running.{boxes_left, fresh_run, kept_at, needed_by, waiting_at}
+use Rattle.checkpoint_runs.specs.Running.{wanted_by, whole_run, with_part, IsLive, IsUndeclined}
 use Rattle.edit_session.specs.Reuse.{IsKnown, IsValidTo}
 
 -- a run that is done: its limit, its outcome, and what is known of its result files before they are
@@ -61,27 +61,48 @@ pub record Editing : Type 0 where
   pub known : Option ℕ
   pub positions : Timeline ℕ
 
--- what a session waits for
-abbrev pub waited_for : Phase → Model → List Part → Option Request
-waited_for (Waiting from at) m boxes = wanted_by (answers_of m) boxes
-waited_for Idle m boxes = None
-waited_for Declined m boxes = None
+-- what a session waits for: the box that is needed next where its run waits
+abbrev pub waited_for : Behaviour → Phase → Model → List Part → Option Request
+waited_for b (Waiting from point.Setup) m boxes = wanted_by (answers_of m) boxes
+waited_for b (Waiting from point.Position) m boxes = needed_by b (answers_of m) from boxes
+waited_for b Idle m boxes = None
+waited_for b Declined m boxes = None
 
-abbrev pub wanted_of : Editing → Option Request
-wanted_of e = waited_for e.phase e.model e.boxes
+abbrev pub wanted_of : Behaviour → Editing → Option Request
+wanted_of b e = waited_for b e.phase e.model e.boxes
 
--- the boxes after one more is supplied: that of the module that it was asked for
+-- the boxes after one more is supplied: that of the module that it was asked for, in its place
 abbrev pub with_wanted : Option Request → List Part → List Part
 with_wanted None boxes = boxes
-with_wanted (Some r) boxes = boxes ++ record { id = r.id; kind = r.kind } ∷ []
+with_wanted (Some r) boxes = with_part (record { id = r.id; kind = r.kind }) boxes
 
-abbrev pub with_box : Editing → Editing
-with_box e = record e { boxes = with_wanted (wanted_of e) e.boxes }
+abbrev pub with_box : Behaviour → Editing → Editing
+with_box b e = record e { boxes = with_wanted (wanted_of b e) e.boxes }
+
+-- where a run to that limit begins: at the greatest position up to there, or with setup
+abbrev pub start_in : Editing → ℕ → Option ℕ
+start_in e limit = start_of limit e.positions.stored
+
+-- the boxes that stay where it begins there
+abbrev pub kept_in : Behaviour → Editing → Option ℕ → List Part
+kept_in b e start = kept_at b (answers_of e.model) start e.phase e.boxes
 
 -- the box that a run to that limit needs first
-abbrev pub needed : Editing → ℕ → Option Request
-needed e limit = needed_by (answers_of e.model) (start_of limit e.positions.stored)
-    (kept_boxes e.phase e.boxes)
+abbrev pub needed : Behaviour → Editing → ℕ → Option Request
+needed b e limit =
+    needed_by b (answers_of e.model) (start_in e limit) (kept_in b e (start_in e limit))
+
+-- WHAT A RUN LEAVES THAT WAITS where it begins: the boxes that stay there, and the positions up to
+-- there. None is done, and what is known is what was asked up to there.
+abbrev pub waits_from : Behaviour → Editing → Option ℕ → Editing
+waits_from b e start = record {
+  model = e.model;
+  done = None;
+  phase = waiting_at start;
+  boxes = kept_in b e start;
+  known = start;
+  positions = cut start e.positions;
+}
 
 -- ---- what it keeps
 
@@ -91,10 +112,22 @@ IsLeft b m w None = Unit {0}
 IsLeft b m w (Some done) =
     whole_run b (answers_of m) done.limit w done.outcome × (done.files ≡ files_in m w)
 
--- while a run waits, none is done, nothing is known of one, and no position is stored
+-- WHERE A RUN WAITS that goes back to a position: none is done, it is the last position, and what
+-- is known is what was asked up to there.
+pub record IsBackAt (from : Option ℕ) (last : Option Completed) (known : Option ℕ)
+    (t : Timeline ℕ) : Type 0 where
+  pub none : last ≡ None
+  pub some : IsSome from
+  pub known_is : known ≡ from
+  pub last_is : last_count t.stored ≡ from
+  pub cut_is : cut from t ≡ t
+
+-- While a run waits none is done. Where it waits with setup nothing is known of one, and no
+-- position is stored.
 abbrev pub IsUndone : Phase → Option Completed → Option ℕ → Timeline Position → Type 0
 IsUndone Idle last known ps = Unit {0}
-IsUndone (Waiting from at) last known ps = (last ≡ None) × (known ≡ None) × IsBegun ps
+IsUndone (Waiting from point.Setup) last known ps = (last ≡ None) × (known ≡ None) × IsBegun ps
+IsUndone (Waiting from point.Position) last known ps = IsBackAt from last known (counts_in ps)
 IsUndone Declined last known ps = (last ≡ None) × (known ≡ None) × IsBegun ps
 
 -- all that a session keeps
@@ -106,7 +139,8 @@ pub record IsKept (b : Behaviour) (seats waiting : List BoxAt)
   pub left : IsLeft b m w done
   pub undone : IsUndone phase done known ps
   pub asked : IsKnown b (answers_of m) w known
-  pub good : AreGood b (answers_of m) seats w ps.stored
+  pub good : AreGood b (answers_of m) w ps.stored
+  pub alone : IsAlone waiting ps
   pub stored : CanBeStored (counts_in ps)
 
 -- ---- premises and answers
@@ -127,33 +161,24 @@ IsUnknown b (Some request) = b.known request.kind ≡ false
 pub record IsFreshRun (b : Behaviour) (before : Editing) (limit : ℕ) (report : Report)
     (after : Editing) : Type 0 where
   pub outcome : report.outcome ≡ (fresh_run b (answers_of before.model) limit).outcome
-  pub started_from : report.started_from ≡ start_of limit before.positions.stored
-  pub executed : report.executed ≡ events_behind (start_of limit before.positions.stored)
+  pub started_from : report.started_from ≡ start_in before limit
+  pub executed : report.executed ≡ events_behind (start_in before limit)
       (fresh_run b (answers_of before.model) limit).world.count
   pub done : after.done ≡ Some (completed b before.model limit)
   pub boxes : after.boxes ≡ boxes_left b (answers_of before.model) limit
   pub known : after.known ≡ Some (fresh_run b (answers_of before.model) limit).world.count
   pub positions : after.positions
       ≡ positions_after b (answers_of before.model) limit before.positions
-  pub needs_none : (before.phase ≡ Declined) ⊎ (needed before limit ≡ None)
+  pub needs_none : (before.phase ≡ Declined) ⊎ (needed b before limit ≡ None)
 
--- It waits for the box that its model wants next, with those that it kept, and none is done. It
--- began with setup, as there was no position up to its limit, and there is none now. No box was
--- declined before.
-pub record WaitsFor (before : Editing) (limit : ℕ) (request : Request)
+-- IT WAITS where it begins, for the box that is needed first there, with those that stay. No box
+-- was declined before. What is then waited for is that box.
+pub record WaitsFor (b : Behaviour) (before : Editing) (limit : ℕ) (request : Request)
     (after : Editing) : Type 0 where
   pub undeclined : IsUndeclined before.phase
-  pub start : start_of limit before.positions.stored ≡ None
-  pub wanted : wanted_by (answers_of before.model) (kept_boxes before.phase before.boxes)
-      ≡ Some request
-  pub waits : after ≡ record {
-    model = before.model;
-    done = None;
-    phase = Waiting None Setup;
-    boxes = kept_boxes before.phase before.boxes;
-    known = None;
-    positions = cut None before.positions;
-  }
+  pub wanted : needed b before limit ≡ Some request
+  pub waits : after ≡ waits_from b before (start_in before limit)
+  pub asks : wanted_of b after ≡ Some request
 
 -- the last number that was used, where one was given
 abbrev pub last_used : ℕ → Option ℕ → Option ℕ

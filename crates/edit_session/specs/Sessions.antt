@@ -53,6 +53,5 @@ module _ {C X : Type 0} {Y : X → Type 0} where
     pub by : IsChangeBy b (editing_of members s) e change
     pub known : IsKnown b (answers_of change.model) (world_in members s.runner.kernel)
         change.edited.valid_to
-    pub good : AreGood b (answers_of change.model) (boxes_in members s.runner.kernel)
-        (world_in members s.runner.kernel)
+    pub good : AreGood b (answers_of change.model) (world_in members s.runner.kernel)
         (kept_up_to change.edited.valid_to s.runner.positions).stored

@@ -16,13 +16,14 @@ ghost use Rattle.edit_session.specs.Files.{TextWritten};
 ghost use Rattle.edit_session.specs.Editing.{Completed, edited_by, fresh_editing, last_used};
 ghost use Rattle.edit_session.specs.Editing.{wanted_of, with_box, IfDone, IfWaiting, IsAccepted};
 ghost use Rattle.edit_session.specs.Editing.{IsFor, IsFreshRun, IsGivenUp, IsUnknown, WaitsFor};
-ghost use Rattle.checkpoint_runs.specs.Kept.{kept_up_to, AreGood, HasGood};
+ghost use Rattle.checkpoint_runs.specs.Kept.{kept_up_to, AreGood, HasGood, HasNoneAlone};
 ghost use Rattle.checkpoint_runs.specs.Positions.{events_behind, starts_within, HasStored};
+ghost use Rattle.checkpoint_runs.specs.Running.{is_back, waiting_at};
 ghost use Rattle.kernel.specs.declared.request.Request.{Request};
 ghost use Rattle.edit_session.specs.Reuse.{IsKnown, IsValidTo};
 ghost use Rattle.edit_session.specs.Sessions.{editing_of, stood_in, IsChangeOf, IsSound};
 ghost use Rattle.edit_session.specs.Sessions.{KeepsModel};
-ghost use Rattle.kernel.specs.Kernels.{boxes_in, world_in, HasKinds};
+ghost use Rattle.kernel.specs.Kernels.{world_in, HasKinds};
 ghost use Rattle.checkpoints.specs.Stored.{counts_in, most_stored};
 ghost use Rattle.model_edits.specs.declared.edit.Edit.{Edit};
 
@@ -270,8 +271,7 @@ impl<C: Catalogue> Session<C> {
             (world_in SimpleModule-box self.now.runner.kernel) change.edited.valid_to) }
         ensures good { let kernel = self.now.runner.kernel in
             IfOk result (λ change.
-            AreGood C.behaviour (answers_of change.model) (boxes_in SimpleModule-box kernel)
-            (world_in SimpleModule-box kernel)
+            AreGood C.behaviour (answers_of change.model) (world_in SimpleModule-box kernel)
             (kept_up_to change.edited.valid_to self.now.runner.positions).stored) }
     {
         let injection = last_used(model.last_injection, given);
@@ -297,8 +297,7 @@ impl<C: Catalogue> Session<C> {
             (world_in SimpleModule-box self.now.runner.kernel) valid) }
         ensures good { let kernel = self.now.runner.kernel in
             IfOk result (λ valid.
-            AreGood C.behaviour (answers_of model.now) (boxes_in SimpleModule-box kernel)
-            (world_in SimpleModule-box kernel)
+            AreGood C.behaviour (answers_of model.now) (world_in SimpleModule-box kernel)
             (kept_up_to valid self.now.runner.positions).stored) }
     {
         let Some(last) = self.known else {
@@ -381,7 +380,7 @@ impl<C: Catalogue> Session<C> {
         ensures waits { let before = editing_of SimpleModule-box self.old in
             let after = editing_of SimpleModule-box self.new in
             IfOk result (λ status.
-            IfWaiting status (λ request. WaitsFor before limit request after)) }
+            IfWaiting status (λ request. WaitsFor C.behaviour before limit request after)) }
 
         // After lack of memory no run waits, and none is done; the positions that it stored stay,
         // up to where it stood.
@@ -414,6 +413,7 @@ impl<C: Catalogue> Session<C> {
         ensures kinds { HasKinds C.behaviour SimpleModule-box self.new.runner.kernel }
         ensures good { HasGood C.behaviour (answers_of self.new.model) SimpleModule-box
             self.new.runner }
+        ensures alone { HasNoneAlone SimpleModule-box self.new.runner }
         ensures stored { HasStored C.behaviour (answers_of self.old.model) limit
             (counts_in self.old.runner.positions) self.new.runner.stood
             (counts_in self.new.runner.positions) }
@@ -425,7 +425,7 @@ impl<C: Catalogue> Session<C> {
         ensures waits { let before = editing_of SimpleModule-box self.old in
             let after = editing_of SimpleModule-box self.new in
             IfOk result (λ status.
-            IfWaiting status (λ request. WaitsFor before limit request after)) }
+            IfWaiting status (λ request. WaitsFor C.behaviour before limit request after)) }
     {
         let phase = self.phase;
         self.give_up();
@@ -434,7 +434,9 @@ impl<C: Catalogue> Session<C> {
             .advance(self.alloc, &self.model, phase, limit, observer)?
         {
             RunStatus::Waits(request) => {
-                self.phase = Phase::Waiting(None, Point::Setup);
+                // What was asked after the event where it begins is given up.
+                self.known = self.runner.cut_back();
+                self.phase = waiting_at(self.known);
                 Ok(RunStatus::Waits(request))
             }
             RunStatus::Done(ended) => {
@@ -472,23 +474,23 @@ impl<C: Catalogue> Session<C> {
     /// for one, or where memory runs out, and then the run waits still.
     pub fn supply(&mut self, held: Box<dyn SimpleModule>) -> Result<(), SupplyFault>
         requires wanted { let editing = editing_of SimpleModule-box self.old in
-            IsFor C.behaviour (wanted_of editing) (meaning held) }
+            IsFor C.behaviour (wanted_of C.behaviour editing) (meaning held) }
         requires sound { IsSound C.behaviour SimpleModule-box self.old }
         ensures sound { IsSound C.behaviour SimpleModule-box self.new }
         ensures ok { let editing = editing_of SimpleModule-box self.old in
-            OnOk result (IsSome (wanted_of editing)
-            × (editing_of SimpleModule-box self.new ≡ with_box editing)) }
+            OnOk result (IsSome (wanted_of C.behaviour editing)
+            × (editing_of SimpleModule-box self.new ≡ with_box C.behaviour editing)) }
         ensures err { let editing = editing_of SimpleModule-box self.old in
             IfErr result (λ fault. (fault.held ≡ held)
             × (editing_of SimpleModule-box self.new ≡ editing)
-            × (fault.reason ≡ SupplyReason.NotWanted ↔ wanted_of editing ≡ None)) }
+            × (fault.reason ≡ SupplyReason.NotWanted ↔ wanted_of C.behaviour editing ≡ None)) }
     {
         match self.wanted_id() {
             None => Err(SupplyFault {
                 held,
                 reason: SupplyReason::NotWanted,
             }),
-            Some(id) => match self.runner.supply(id, held) {
+            Some(id) => match self.place(id, held) {
                 Ok(()) => Ok(()),
                 Err(failed) => Err(no_room_for(failed)),
             },
@@ -499,14 +501,14 @@ impl<C: Catalogue> Session<C> {
     /// fault UnknownClass, without a further question.
     pub fn decline(&mut self) -> Result<(), NotWanted>
         requires unknown { let editing = editing_of SimpleModule-box self.old in
-            IsUnknown C.behaviour (wanted_of editing) }
+            IsUnknown C.behaviour (wanted_of C.behaviour editing) }
         requires sound { IsSound C.behaviour SimpleModule-box self.old }
         ensures sound { IsSound C.behaviour SimpleModule-box self.new }
         ensures ok { let editing = editing_of SimpleModule-box self.old in
-            OnOk result (IsSome (wanted_of editing)
+            OnOk result (IsSome (wanted_of C.behaviour editing)
             × (editing_of SimpleModule-box self.new ≡ record editing { phase = Phase.Declined })) }
         ensures err { let editing = editing_of SimpleModule-box self.old in
-            OnErr result ((wanted_of editing ≡ None)
+            OnErr result ((wanted_of C.behaviour editing ≡ None)
             × (editing_of SimpleModule-box self.new ≡ editing)) }
     {
         match self.wanted_id() {
@@ -522,11 +524,41 @@ impl<C: Catalogue> Session<C> {
     fn wanted_id(&self) -> Option<u32>
         requires sound { IsSound C.behaviour SimpleModule-box self.now }
         ensures { let editing = editing_of SimpleModule-box self.now in
-            result ≡ option_map (λ (r : Request). r.id) (wanted_of editing) }
+            result ≡ option_map (λ (r : Request). r.id) (wanted_of C.behaviour editing) }
     {
         match self.phase {
-            Phase::Waiting(_from, _point) => self.runner.kernel.missing_id(&self.runner.waiting),
-            _ => None,
+            Phase::Waiting(_from, Point::Setup) => {
+                self.runner.kernel.missing_id(&self.runner.waiting)
+            }
+            Phase::Waiting(_from, Point::Position) => self.runner.lacking_id(),
+            Phase::Idle => None,
+            Phase::Declined => None,
+        }
+    }
+
+    /// Gives the module of that id, which is waited for, its box, or hands the box back where
+    /// memory runs out.
+    fn place(
+        &mut self,
+        id: u32,
+        held: Box<dyn SimpleModule>,
+    ) -> Result<(), AllocFailed<Box<dyn SimpleModule>>>
+        requires id { let editing = editing_of SimpleModule-box self.old in
+            option_map (λ (r : Request). r.id) (wanted_of C.behaviour editing) ≡ Some id }
+        requires wanted { let editing = editing_of SimpleModule-box self.old in
+            IsFor C.behaviour (wanted_of C.behaviour editing) (meaning held) }
+        requires sound { IsSound C.behaviour SimpleModule-box self.old }
+        ensures sound { IsSound C.behaviour SimpleModule-box self.new }
+        ensures ok { let editing = editing_of SimpleModule-box self.old in
+            OnOk result (editing_of SimpleModule-box self.new ≡ with_box C.behaviour editing) }
+        ensures err { OnErr result (editing_of SimpleModule-box self.new
+            ≡ editing_of SimpleModule-box self.old) }
+        ensures returned { IfErr result (λ failed. failed.value ≡ held) }
+    {
+        if is_back(self.phase) {
+            self.runner.kernel.supply(id, held)
+        } else {
+            self.runner.supply(id, held)
         }
     }
 
@@ -595,6 +627,28 @@ impl<C: Catalogue> Session<C> {
             Some(done) => Some(&done.outcome),
             None => None,
         }
+    }
+}
+
+/// How a run waits that begins there.
+fn waiting_at(start: Option<u64>) -> Phase
+    ensures { result ≡ waiting_at start }
+{
+    match start {
+        None => Phase::Waiting(None, Point::Setup),
+        Some(event) => Phase::Waiting(Some(event), Point::Position),
+    }
+}
+
+/// Whether a run waits that goes back to a position.
+fn is_back(phase: Phase) -> bool
+    ensures { result ≡ is_back phase }
+{
+    match phase {
+        Phase::Waiting(_from, Point::Position) => true,
+        Phase::Waiting(_from, Point::Setup) => false,
+        Phase::Idle => false,
+        Phase::Declined => false,
     }
 }
 

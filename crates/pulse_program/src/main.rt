@@ -61,7 +61,7 @@ fn fresh() -> Player<Pulse>
 fn give(session: &mut Session<Pulses>, held: Box<dyn SimpleModule>) -> anyhow::Result<()>
     requires wanted { let editing =
         editing_of (λ b. ⟦<dyn SimpleModule as SimpleModule>⟧ b.vtable) session.old in
-        IsFor pulses (wanted_of editing) (meaning held) }
+        IsFor pulses (wanted_of pulses editing) (meaning held) }
     requires sound { IsSound pulses
         (λ b. ⟦<dyn SimpleModule as SimpleModule>⟧ b.vtable) session.old }
     ensures { IsSound pulses (λ b. ⟦<dyn SimpleModule as SimpleModule>⟧ b.vtable) session.new }

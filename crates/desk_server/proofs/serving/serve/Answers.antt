@@ -7,7 +7,7 @@ use Rattle.module_network.specs.Library.{box_of}
 use Rattle.module_network.specs.Library.{library}
 use Rattle.desk_server.specs.Served.{fresh_machine}
 use Rattle.desk_server.specs.Serving.{seen, seen_in, IsNextServing, IsServer, MayStopAt}
-use Rattle.desk_server.proofs.ServingTurns.{ends_served, memory_turn, served_first, went_serving}
+use Rattle.desk_server.proofs.ServingTurns.{ends_served, goes_on_last, memory_turn, served_first, went_serving}
 use Rattle.desk_server.proofs.serving.serve.OwnLists.{at-1-1, own-1}
 use Rattle.desk_server.proofs.serving.serve.Goals.{in-Need+in-Ok, in-Need+in-Err, in-Over}
 use Rattle.desk_server.proofs.serving.serve.Goals as goal
@@ -26,7 +26,13 @@ pub supply-requires-clause-wanted : goal.supply-requires-clause-wanted
 supply-requires-clause-wanted g c =
     let means : (own-1.entry c.into_dyn_box-held.result.vtable).1.meaning c.into_dyn_box-held.result.value ≡ box_of c.in-Ok.held.value =
     read_made own-1 (own-1.entry at-1-1) at-1-1 refl Module (λ j y. j.1.meaning y) c.into_dyn_box-held.result.vtable c.into_dyn_box-held.result.value c.in-Ok.held.value c.into_dyn_box-held.ensures.1 in
-    subst (λ (m : Module). IsFor library (wanted_of (editing_at (λ b. (own-1.entry b.vtable).1) c.turn.new.self.desk)) m) (sym (means ∙ ap box_of c.in-Ok.ensures.ok)) c.in-Need.ensures.comes.wanted
+    subst (λ (m : Module). IsFor library (wanted_of library (editing_at (λ b. (own-1.entry b.vtable).1) c.turn.new.self.desk)) m) (sym (means ∙ ap box_of c.in-Ok.ensures.ok)) c.in-Need.ensures.comes.wanted
+
+pub supply-requires-clause-waits : goal.supply-requires-clause-waits
+supply-requires-clause-waits g c = c.in-Need.ensures.comes.waits
+
+pub supply-requires-clause-going : goal.supply-requires-clause-going
+supply-requires-clause-going g c = c.in-Need.ensures.comes.going
 
 -- each turn leaves less to be done
 pub turns-smaller : goal.turns-smaller
@@ -34,7 +40,7 @@ turns-smaller g c =
     let went : IsNextServing library (seen_in (λ b. (own-1.entry b.vtable).1) g.K.Client.asked g.K.Client.heard g.K.Client.left c.turns.server) (seen_in (λ b. (own-1.entry b.vtable).1) g.K.Client.asked g.K.Client.heard g.K.Client.left c.match-turn.server) c.match-turn.next = elim c.match-turn.branch [
       | in-Need+in-Ok w ↦ rw (w.server-is, w.next-is) (went_serving library (seen_in (λ b. (own-1.entry b.vtable).1) g.K.Client.asked g.K.Client.heard g.K.Client.left c.turns.server) (seen_in (λ b. (own-1.entry b.vtable).1) g.K.Client.asked g.K.Client.heard g.K.Client.left c.turn.new.self) (seen_in (λ b. (own-1.entry b.vtable).1) g.K.Client.asked g.K.Client.heard g.K.Client.left w.supply.new.self) w.in-Need.made w.supply.result w.in-Need.ensures.comes w.supply.ensures.comes)
       | in-Need+in-Err w ↦ rw (w.server-is, w.next-is) (went_serving library (seen_in (λ b. (own-1.entry b.vtable).1) g.K.Client.asked g.K.Client.heard g.K.Client.left c.turns.server) (seen_in (λ b. (own-1.entry b.vtable).1) g.K.Client.asked g.K.Client.heard g.K.Client.left c.turn.new.self) (seen_in (λ b. (own-1.entry b.vtable).1) g.K.Client.asked g.K.Client.heard g.K.Client.left w.out_of_memory.new.self) w.in-Need.made w.out_of_memory.result w.in-Need.ensures.comes
-          (memory_turn library (seen_in (λ b. (own-1.entry b.vtable).1) g.K.Client.asked g.K.Client.heard g.K.Client.left c.turn.new.self) (seen_in (λ b. (own-1.entry b.vtable).1) g.K.Client.asked g.K.Client.heard g.K.Client.left w.out_of_memory.new.self) w.out_of_memory.result _ w.in-Need.ensures.comes.going w.in-Need.ensures.comes.waits c.turn.ensures.sound.undone refl
+          (memory_turn library (seen_in (λ b. (own-1.entry b.vtable).1) g.K.Client.asked g.K.Client.heard g.K.Client.left c.turn.new.self) (seen_in (λ b. (own-1.entry b.vtable).1) g.K.Client.asked g.K.Client.heard g.K.Client.left w.out_of_memory.new.self) w.out_of_memory.result c.turn.new.self.desk.session.runner.positions w.in-Need.ensures.comes.going c.turn.ensures.sound.undone (goes_on_last library (λ b. (own-1.entry b.vtable).1) c.turn.new.self.desk.session c.turn.ensures.sound) refl
           (ap (editing_at (λ b. (own-1.entry b.vtable).1)) w.out_of_memory.ensures.desk) w.out_of_memory.ensures.asked w.out_of_memory.ensures.left w.out_of_memory.ensures.running w.out_of_memory.ensures.heard))
       | in-Over w ↦ rw (w.server-is, w.next-is) w.in-Over.ensures.comes
     ] in
@@ -46,7 +52,7 @@ turns-preserved g c =
     let went : IsNextServing library (seen_in (λ b. (own-1.entry b.vtable).1) g.K.Client.asked g.K.Client.heard g.K.Client.left c.turns.server) (seen_in (λ b. (own-1.entry b.vtable).1) g.K.Client.asked g.K.Client.heard g.K.Client.left c.match-turn.server) c.match-turn.next = elim c.match-turn.branch [
       | in-Need+in-Ok w ↦ rw (w.server-is, w.next-is) (went_serving library (seen_in (λ b. (own-1.entry b.vtable).1) g.K.Client.asked g.K.Client.heard g.K.Client.left c.turns.server) (seen_in (λ b. (own-1.entry b.vtable).1) g.K.Client.asked g.K.Client.heard g.K.Client.left c.turn.new.self) (seen_in (λ b. (own-1.entry b.vtable).1) g.K.Client.asked g.K.Client.heard g.K.Client.left w.supply.new.self) w.in-Need.made w.supply.result w.in-Need.ensures.comes w.supply.ensures.comes)
       | in-Need+in-Err w ↦ rw (w.server-is, w.next-is) (went_serving library (seen_in (λ b. (own-1.entry b.vtable).1) g.K.Client.asked g.K.Client.heard g.K.Client.left c.turns.server) (seen_in (λ b. (own-1.entry b.vtable).1) g.K.Client.asked g.K.Client.heard g.K.Client.left c.turn.new.self) (seen_in (λ b. (own-1.entry b.vtable).1) g.K.Client.asked g.K.Client.heard g.K.Client.left w.out_of_memory.new.self) w.in-Need.made w.out_of_memory.result w.in-Need.ensures.comes
-          (memory_turn library (seen_in (λ b. (own-1.entry b.vtable).1) g.K.Client.asked g.K.Client.heard g.K.Client.left c.turn.new.self) (seen_in (λ b. (own-1.entry b.vtable).1) g.K.Client.asked g.K.Client.heard g.K.Client.left w.out_of_memory.new.self) w.out_of_memory.result _ w.in-Need.ensures.comes.going w.in-Need.ensures.comes.waits c.turn.ensures.sound.undone refl
+          (memory_turn library (seen_in (λ b. (own-1.entry b.vtable).1) g.K.Client.asked g.K.Client.heard g.K.Client.left c.turn.new.self) (seen_in (λ b. (own-1.entry b.vtable).1) g.K.Client.asked g.K.Client.heard g.K.Client.left w.out_of_memory.new.self) w.out_of_memory.result c.turn.new.self.desk.session.runner.positions w.in-Need.ensures.comes.going c.turn.ensures.sound.undone (goes_on_last library (λ b. (own-1.entry b.vtable).1) c.turn.new.self.desk.session c.turn.ensures.sound) refl
           (ap (editing_at (λ b. (own-1.entry b.vtable).1)) w.out_of_memory.ensures.desk) w.out_of_memory.ensures.asked w.out_of_memory.ensures.left w.out_of_memory.ensures.running w.out_of_memory.ensures.heard))
       | in-Over w ↦ rw (w.server-is, w.next-is) w.in-Over.ensures.comes
     ] in
@@ -74,7 +80,7 @@ returns-in-Stop-clause-served g c =
     let went : IsNextServing library (seen_in (λ b. (own-1.entry b.vtable).1) g.K.Client.asked g.K.Client.heard g.K.Client.left c.turns.server) (seen_in (λ b. (own-1.entry b.vtable).1) g.K.Client.asked g.K.Client.heard g.K.Client.left c.match-turn.server) c.match-turn.next = elim c.match-turn.branch [
       | in-Need+in-Ok w ↦ rw (w.server-is, w.next-is) (went_serving library (seen_in (λ b. (own-1.entry b.vtable).1) g.K.Client.asked g.K.Client.heard g.K.Client.left c.turns.server) (seen_in (λ b. (own-1.entry b.vtable).1) g.K.Client.asked g.K.Client.heard g.K.Client.left c.turn.new.self) (seen_in (λ b. (own-1.entry b.vtable).1) g.K.Client.asked g.K.Client.heard g.K.Client.left w.supply.new.self) w.in-Need.made w.supply.result w.in-Need.ensures.comes w.supply.ensures.comes)
       | in-Need+in-Err w ↦ rw (w.server-is, w.next-is) (went_serving library (seen_in (λ b. (own-1.entry b.vtable).1) g.K.Client.asked g.K.Client.heard g.K.Client.left c.turns.server) (seen_in (λ b. (own-1.entry b.vtable).1) g.K.Client.asked g.K.Client.heard g.K.Client.left c.turn.new.self) (seen_in (λ b. (own-1.entry b.vtable).1) g.K.Client.asked g.K.Client.heard g.K.Client.left w.out_of_memory.new.self) w.in-Need.made w.out_of_memory.result w.in-Need.ensures.comes
-          (memory_turn library (seen_in (λ b. (own-1.entry b.vtable).1) g.K.Client.asked g.K.Client.heard g.K.Client.left c.turn.new.self) (seen_in (λ b. (own-1.entry b.vtable).1) g.K.Client.asked g.K.Client.heard g.K.Client.left w.out_of_memory.new.self) w.out_of_memory.result _ w.in-Need.ensures.comes.going w.in-Need.ensures.comes.waits c.turn.ensures.sound.undone refl
+          (memory_turn library (seen_in (λ b. (own-1.entry b.vtable).1) g.K.Client.asked g.K.Client.heard g.K.Client.left c.turn.new.self) (seen_in (λ b. (own-1.entry b.vtable).1) g.K.Client.asked g.K.Client.heard g.K.Client.left w.out_of_memory.new.self) w.out_of_memory.result c.turn.new.self.desk.session.runner.positions w.in-Need.ensures.comes.going c.turn.ensures.sound.undone (goes_on_last library (λ b. (own-1.entry b.vtable).1) c.turn.new.self.desk.session c.turn.ensures.sound) refl
           (ap (editing_at (λ b. (own-1.entry b.vtable).1)) w.out_of_memory.ensures.desk) w.out_of_memory.ensures.asked w.out_of_memory.ensures.left w.out_of_memory.ensures.running w.out_of_memory.ensures.heard))
       | in-Over w ↦ rw (w.server-is, w.next-is) w.in-Over.ensures.comes
     ] in

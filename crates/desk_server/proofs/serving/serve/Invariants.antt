@@ -19,4 +19,4 @@ invariant-turns g l = record {
 
 -- each turn leaves less to be done
 abbrev pub decreases-turns : goal.decreases-turns
-decreases-turns g l = left_seen (seen_in (λ b. (own-1.entry b.vtable).1) g.K.Client.asked g.K.Client.heard g.K.Client.left l.server)
+decreases-turns g l = left_seen library (seen_in (λ b. (own-1.entry b.vtable).1) g.K.Client.asked g.K.Client.heard g.K.Client.left l.server)

@@ -1,77 +1,123 @@
-use Rattle.std.proofs.Common.{Some, map, option_map, refl, sym, ap, ◌∙◌, subst}
+use Rattle.std.proofs.Common.{◌≡◌, [], Some, None, option_map, refl, sym, ap, ◌∙◌, subst}
 use Rattle.kernel_actions.specs.declared.position.Position.{Position}
 use Rattle.kernel.specs.Kernels.{boxes_in, world_in}
-use Rattle.checkpoints.specs.Stored.{counts_in, cut_after, Timeline}
-use Rattle.kernel_boxes.specs.Seats.{instance_of}
+use Rattle.checkpoints.specs.Stored.{counts_in, Timeline}
 use Rattle.kernel_boxes.specs.Saved.{seats_held}
-use Rattle.kernel_boxes.proofs.Going.{rise_alike}
-use Rattle.checkpoint_runs.specs.Kept.{AreGood}
+use Rattle.checkpoint_runs.specs.Kept.{standing_in, waiting_in, AreGood}
+use Rattle.checkpoint_runs.specs.Running.{kept_back, needed_by}
 use Rattle.checkpoint_runs.specs.Positions.{CanGoOn}
 use Rattle.checkpoint_runs.specs.declared.running.Stood.TheVariants as stood
+use Rattle.checkpoint_runs.proofs.Back.{alone_none, back_needs, boxes_back}
 use Rattle.checkpoint_runs.proofs.Counting.{back_stored, kept_counts, left_stored, on_err, start_is}
-use Rattle.checkpoint_runs.proofs.Good.{all_kept, can_go_on_last, can_take_last, good_on, good_up_to, grown_beside, back_at, none_wanted}
+use Rattle.checkpoint_runs.proofs.Good.{back_at, can_go_on_last, good_found, good_on, good_rises, good_states, good_up_to, grown_beside}
 use Rattle.checkpoint_runs.proofs.running.Runner.go_back.Goals as goal
 
 pub returns-in_default-clause-back : goal.returns-in_default-clause-back
-returns-in_default-clause-back g c = (sym (start_is c.args.limit c.args.self.now.positions.stored ∙ ap (option_map (λ (p : Position). p.count)) (sym c.in_default.ensures)), refl)
+returns-in_default-clause-back g c = (start_is c.args.limit c.args.self.now.positions.stored ∙ ap (option_map (λ (p : Position). p.count)) (sym c.in_default.ensures), refl)
 
 pub go_back-back-requires : goal.go_back-back-requires
 go_back-back-requires g c =
-    let ss = boxes_in (λ b. (g.dyn-1.0.entry b.vtable).1) c.args.self.now.kernel in
-    let can = can_take_last g.C.Catalogue.behaviour g.C.Catalogue.lawful g.M.ModelMarker.answers c.args.limit ss (world_in (λ b. (g.dyn-1.0.entry b.vtable).1) c.args.self.now.kernel)
-    c.in-Some.position.now c.args.self.now.positions.stored c.requires.kinds c.requires.good (sym c.in-Some.ensures) in
+    let b = g.C.Catalogue.behaviour in
+    let m = g.M.ModelMarker.answers in
+    let w = world_in (λ b. (g.dyn-1.0.entry b.vtable).1) c.args.self.now.kernel in
+    let p = c.in-Some.position.now in
+    let found = good_found b m c.args.limit w p c.args.self.now.positions.stored c.requires.good (sym c.in-Some.ensures) in
     record {
       kinds = c.requires.kinds;
-      rising = rise_alike 0 (map instance_of ss) c.in-Some.position.now.modules can.same c.held-ids_rise.ensures.rising;
-      states = can.states;
+      rising = good_rises b m w p found;
+      states = good_states b g.C.Catalogue.lawful m w p found;
     }
 
-pub returns-in_err-back-clause-good : goal.returns-in_err-back-clause-good
-returns-in_err-back-clause-good g c =
-    let old = c.args.self.now.kernel in
-    let new = c.go_back-back.new.self in
-    let ss = boxes_in (λ b. (g.dyn-1.0.entry b.vtable).1) old in
-    let can = can_take_last g.C.Catalogue.behaviour g.C.Catalogue.lawful g.M.ModelMarker.answers c.args.limit ss (world_in (λ b. (g.dyn-1.0.entry b.vtable).1) old) c.in-Some.position.now c.args.self.now.positions.stored c.requires.kinds c.requires.good (sym c.in-Some.ensures) in
-    let kept = all_kept g.C.Catalogue.behaviour c.in-Some.position.now.modules ss (boxes_in (λ b. (g.dyn-1.0.entry b.vtable).1) new) c.held-ids_rise.ensures.rising can.same c.go_back-back.ensures.kept in
-    subst (λ ps. AreGood g.C.Catalogue.behaviour g.M.ModelMarker.answers (boxes_in (λ b. (g.dyn-1.0.entry b.vtable).1) new) (world_in (λ b. (g.dyn-1.0.entry b.vtable).1) new) ps) (sym (ap (λ (t : Timeline Position). t.stored) c.cut_after.ensures ∙ left_stored c.args.self.now.positions _))
-    (good_on g.C.Catalogue.behaviour g.M.ModelMarker.answers (boxes_in (λ b. (g.dyn-1.0.entry b.vtable).1) old) (boxes_in (λ b. (g.dyn-1.0.entry b.vtable).1) new) (world_in (λ b. (g.dyn-1.0.entry b.vtable).1) old) (world_in (λ b. (g.dyn-1.0.entry b.vtable).1) new)
-    _ kept (grown_beside (world_in (λ b. (g.dyn-1.0.entry b.vtable).1) new) (world_in (λ b. (g.dyn-1.0.entry b.vtable).1) old) c.in_err-back.ensures.err)
-    (good_up_to g.C.Catalogue.behaviour g.M.ModelMarker.answers (boxes_in (λ b. (g.dyn-1.0.entry b.vtable).1) old) (world_in (λ b. (g.dyn-1.0.entry b.vtable).1) old) c.count-start.result c.args.self.now.positions.stored c.requires.good))
+-- of the positions those up to where it goes back are good
+pub returns-in_err-request-clause-good : goal.returns-in_err-request-clause-good
+returns-in_err-request-clause-good g c =
+    let b = g.C.Catalogue.behaviour in
+    let m = g.M.ModelMarker.answers in
+    let w = world_in (λ b. (g.dyn-1.0.entry b.vtable).1) c.args.self.now.kernel in
+    let u = world_in (λ b. (g.dyn-1.0.entry b.vtable).1) c.go_back-back.new.self in
+    subst (λ ps. AreGood b m u ps) (sym (ap (λ (t : Timeline Position). t.stored) c.cut_after.ensures ∙ left_stored c.args.self.now.positions _))
+    (good_on b m w u _ (grown_beside u w c.in_err-request.ensures.err) (good_up_to b m w c.count-start.result c.args.self.now.positions.stored c.requires.good))
 
-pub returns-in_err-back-clause-err : goal.returns-in_err-back-clause-err
-returns-in_err-back-clause-err g c =
+pub returns-in-Some-2-clause-good : goal.returns-in-Some-2-clause-good
+returns-in-Some-2-clause-good g c =
+    let b = g.C.Catalogue.behaviour in
+    let m = g.M.ModelMarker.answers in
+    let w = world_in (λ b. (g.dyn-1.0.entry b.vtable).1) c.args.self.now.kernel in
+    let u = world_in (λ b. (g.dyn-1.0.entry b.vtable).1) c.go_back-back.new.self in
+    subst (λ ps. AreGood b m u ps) (sym (ap (λ (t : Timeline Position). t.stored) c.cut_after.ensures ∙ left_stored c.args.self.now.positions _))
+    (good_on b m w u _ (grown_beside u w (rw c.in-Some-2.is at c.in_ok-request.ensures.waits)) (good_up_to b m w c.count-start.result c.args.self.now.positions.stored c.requires.good))
+
+pub returns-in_err-request-clause-err : goal.returns-in_err-request-clause-err
+returns-in_err-request-clause-err g c =
     let b = g.C.Catalogue.behaviour in
     let m = g.M.ModelMarker.answers in
     let old = c.args.self.now in
     let start = start_is c.args.limit old.positions.stored ∙ ap (option_map (λ (p : Position). p.count)) (sym c.in-Some.ensures) ∙ ap Some (sym c.count-start.ensures) in
-    let going = can_go_on_last b m c.args.limit (boxes_in (λ b. (g.dyn-1.0.entry b.vtable).1) old.kernel) (world_in (λ b. (g.dyn-1.0.entry b.vtable).1) old.kernel) c.in-Some.position.now old.positions.stored c.requires.good (sym c.in-Some.ensures) in
+    let going = can_go_on_last b m c.args.limit (world_in (λ b. (g.dyn-1.0.entry b.vtable).1) old.kernel) c.in-Some.position.now old.positions.stored c.requires.good (sym c.in-Some.ensures) in
     on_err c.from_residual.result
     (back_stored b m c.args.limit c.count-start.result (counts_in old.positions) (counts_in c.cut_after.new.self) start
     (subst (CanGoOn b m) (sym c.count-start.ensures) going) (ap counts_in c.cut_after.ensures ∙ kept_counts (Some c.count-start.result) old.positions))
 
-pub returns-clause-good : goal.returns-clause-good
-returns-clause-good g c =
-    let old = c.args.self.now.kernel in
-    let new = c.go_back-back.new.self in
-    let ss = boxes_in (λ b. (g.dyn-1.0.entry b.vtable).1) old in
-    let can = can_take_last g.C.Catalogue.behaviour g.C.Catalogue.lawful g.M.ModelMarker.answers c.args.limit ss (world_in (λ b. (g.dyn-1.0.entry b.vtable).1) old) c.in-Some.position.now c.args.self.now.positions.stored c.requires.kinds c.requires.good (sym c.in-Some.ensures) in
-    let kept = all_kept g.C.Catalogue.behaviour c.in-Some.position.now.modules ss (boxes_in (λ b. (g.dyn-1.0.entry b.vtable).1) new) c.held-ids_rise.ensures.rising can.same c.go_back-back.ensures.kept in
-    let none = c.in_ok-back.ensures.wanted ∙ none_wanted (world_in (λ b. (g.dyn-1.0.entry b.vtable).1) old) c.in-Some.position.now.modules ss c.held-ids_rise.ensures.rising can.same in
-    let back = back_at g.C.Catalogue.behaviour g.M.ModelMarker.answers c.args.limit (boxes_in (λ b. (g.dyn-1.0.entry b.vtable).1) old) (boxes_in (λ b. (g.dyn-1.0.entry b.vtable).1) new) (world_in (λ b. (g.dyn-1.0.entry b.vtable).1) old)
-    (world_in (λ b. (g.dyn-1.0.entry b.vtable).1) new) c.in-Some.position.now c.args.self.now.positions.stored c.cut_after.new.self.stored c.requires.good (sym c.in-Some.ensures) kept (c.in_ok-back.ensures.ok none)
+-- it waits for a box
+pub returns-in-Some-2-clause-back : goal.returns-in-Some-2-clause-back
+returns-in-Some-2-clause-back g c =
+    let b = g.C.Catalogue.behaviour in
+    let m = g.M.ModelMarker.answers in
+    let old = c.args.self.now in
+    let w = world_in (λ b. (g.dyn-1.0.entry b.vtable).1) old.kernel in
+    let p = c.in-Some.position.now in
+    let ss = boxes_in (λ b. (g.dyn-1.0.entry b.vtable).1) old.kernel in
+    let ts = boxes_in (λ b. (g.dyn-1.0.entry b.vtable).1) c.go_back-back.new.self in
+    let xs = waiting_in (λ b. (g.dyn-1.0.entry b.vtable).1) old in
+    let found = good_found b m c.args.limit w p old.positions.stored c.requires.good (sym c.in-Some.ensures) in
+    let start = start_is c.args.limit old.positions.stored ∙ ap (option_map (λ (p : Position). p.count)) (sym c.in-Some.ensures) ∙ ap Some (sym c.count-start.ensures) in
+    let none : xs ≡ [] = alone_none xs old.positions p c.args.limit c.requires.alone (sym c.in-Some.ensures) in
+    let empty = ap (seats_held (λ b. (g.dyn-1.0.entry b.vtable).1)) c.clear.ensures in
+    let some = rw c.in-Some-2.is at c.in_ok-request.ensures.wanted in (
+      c.count-start.result,
+      start,
+      record {
+        going = subst (CanGoOn b m) (sym c.count-start.ensures) (can_go_on_last b m c.args.limit w p old.positions.stored c.requires.good (sym c.in-Some.ensures));
+        none = empty;
+        kept = boxes_back b m w p ss ts xs (seats_held (λ b. (g.dyn-1.0.entry b.vtable).1) c.clear.new.self) found c.go_back-back.ensures.kept none empty ∙ ap (λ k. kept_back b m k (standing_in (λ b. (g.dyn-1.0.entry b.vtable).1) old)) (sym c.count-start.ensures);
+        wanted = subst (λ k. needed_by b m (Some k) (kept_back b m k (standing_in (λ b. (g.dyn-1.0.entry b.vtable).1) old)) ≡ Some c.in-Some-2.request) (sym c.count-start.ensures) (sym (some ∙ back_needs b m w p ss xs found none));
+        positions = c.cut_after.ensures;
+        stood = refl;
+      },
+    )
+
+-- or it is where it stood then
+pub returns-in-None-clause-good : goal.returns-in-None-clause-good
+returns-in-None-clause-good g c =
+    let b = g.C.Catalogue.behaviour in
+    let m = g.M.ModelMarker.answers in
+    let back = back_at b m c.args.limit (world_in (λ b. (g.dyn-1.0.entry b.vtable).1) c.args.self.now.kernel) (world_in (λ b. (g.dyn-1.0.entry b.vtable).1) c.go_back-back.new.self) c.in-Some.position.now c.args.self.now.positions.stored c.cut_after.new.self.stored
+    c.requires.good (sym c.in-Some.ensures) (c.in_ok-request.ensures.ok c.in-None.is)
     (ap (λ (t : Timeline Position). t.stored) (rw c.count-start.ensures at c.cut_after.ensures) ∙ left_stored c.args.self.now.positions _) in
     back.good
 
-pub returns-clause-back : goal.returns-clause-back
-returns-clause-back g c =
-    let old = c.args.self.now.kernel in
-    let new = c.go_back-back.new.self in
-    let ss = boxes_in (λ b. (g.dyn-1.0.entry b.vtable).1) old in
-    let can = can_take_last g.C.Catalogue.behaviour g.C.Catalogue.lawful g.M.ModelMarker.answers c.args.limit ss (world_in (λ b. (g.dyn-1.0.entry b.vtable).1) old) c.in-Some.position.now c.args.self.now.positions.stored c.requires.kinds c.requires.good (sym c.in-Some.ensures) in
-    let kept = all_kept g.C.Catalogue.behaviour c.in-Some.position.now.modules ss (boxes_in (λ b. (g.dyn-1.0.entry b.vtable).1) new) c.held-ids_rise.ensures.rising can.same c.go_back-back.ensures.kept in
-    let none = c.in_ok-back.ensures.wanted ∙ none_wanted (world_in (λ b. (g.dyn-1.0.entry b.vtable).1) old) c.in-Some.position.now.modules ss c.held-ids_rise.ensures.rising can.same in
-    let start = start_is c.args.limit c.args.self.now.positions.stored ∙ ap (option_map (λ (p : Position). p.count)) (sym c.in-Some.ensures) ∙ ap Some (sym c.count-start.ensures) in
-    let back = back_at g.C.Catalogue.behaviour g.M.ModelMarker.answers c.args.limit (boxes_in (λ b. (g.dyn-1.0.entry b.vtable).1) old) (boxes_in (λ b. (g.dyn-1.0.entry b.vtable).1) new) (world_in (λ b. (g.dyn-1.0.entry b.vtable).1) old)
-    (world_in (λ b. (g.dyn-1.0.entry b.vtable).1) new) c.in-Some.position.now c.args.self.now.positions.stored c.cut_after.new.self.stored c.requires.good (sym c.in-Some.ensures) kept (c.in_ok-back.ensures.ok none)
-    (ap (λ (t : Timeline Position). t.stored) (rw c.count-start.ensures at c.cut_after.ensures) ∙ left_stored c.args.self.now.positions _) in
-    (sym start, (record { going = back.going; within = back.within; room = back.room; good = back.good; below = back.below; stood = ap stood.After (c.count-start.ensures ∙ sym back.count) }, back.count ∙ sym c.count-start.ensures, c.cut_after.ensures, ap (seats_held (λ b. (g.dyn-1.0.entry b.vtable).1)) c.clear.ensures))
+pub returns-in-None-clause-back : goal.returns-in-None-clause-back
+returns-in-None-clause-back g c =
+    let b = g.C.Catalogue.behaviour in
+    let m = g.M.ModelMarker.answers in
+    let old = c.args.self.now in
+    let w = world_in (λ b. (g.dyn-1.0.entry b.vtable).1) old.kernel in
+    let p = c.in-Some.position.now in
+    let ss = boxes_in (λ b. (g.dyn-1.0.entry b.vtable).1) old.kernel in
+    let xs = waiting_in (λ b. (g.dyn-1.0.entry b.vtable).1) old in
+    let found = good_found b m c.args.limit w p old.positions.stored c.requires.good (sym c.in-Some.ensures) in
+    let start = start_is c.args.limit old.positions.stored ∙ ap (option_map (λ (p : Position). p.count)) (sym c.in-Some.ensures) ∙ ap Some (sym c.count-start.ensures) in
+    let none : xs ≡ [] = alone_none xs old.positions p c.args.limit c.requires.alone (sym c.in-Some.ensures) in
+    let without = rw c.in-None.is at c.in_ok-request.ensures.wanted in
+    let back = back_at b m c.args.limit w (world_in (λ b. (g.dyn-1.0.entry b.vtable).1) c.go_back-back.new.self) p old.positions.stored c.cut_after.new.self.stored
+    c.requires.good (sym c.in-Some.ensures) (c.in_ok-request.ensures.ok c.in-None.is)
+    (ap (λ (t : Timeline Position). t.stored) (rw c.count-start.ensures at c.cut_after.ensures) ∙ left_stored old.positions _) in (
+      start,
+      record {
+        going = record { going = back.going; within = back.within; room = back.room; good = back.good; below = back.below; stood = ap stood.After (c.count-start.ensures ∙ sym back.count) };
+        count = back.count ∙ sym c.count-start.ensures;
+        none = ap (seats_held (λ b. (g.dyn-1.0.entry b.vtable).1)) c.clear.ensures;
+        needs_none = subst (λ k. needed_by b m (Some k) (kept_back b m k (standing_in (λ b. (g.dyn-1.0.entry b.vtable).1) old)) ≡ None) (sym c.count-start.ensures) (sym (without ∙ back_needs b m w p ss xs found none));
+        positions = c.cut_after.ensures;
+      },
+    )

@@ -2,7 +2,7 @@ use Rattle.std.proofs.Common.{◌≡◌, ◌+◌, arith, rules, refl, sym, ap, �
 use Rattle.checkpoints.specs.Stored.{counts_in, is_multiple, AreBelow, Timeline}
 use Rattle.kernel_actions.specs.declared.position.Position.{Position}
 use Rattle.kernel_call_views.specs.Tables.{AreShown}
-use Rattle.kernel.specs.Kernels.{boxes_in, world_in, HasKinds}
+use Rattle.kernel.specs.Kernels.{world_in, HasKinds}
 use Rattle.kernel_actions.specs.Positions.{position_of}
 use Rattle.run_semantics.specs.Run.{Running, after, run_to, stopped}
 use Rattle.run_semantics.specs.World.{HasRoom}
@@ -19,13 +19,13 @@ step-requires-clause-count g c = omega (arith, count_going g.C.Catalogue.behavio
 
 pub returns-in_err-outcome-clause-good : goal.returns-in_err-outcome-clause-good
 returns-in_err-outcome-clause-good g c =
-    good_on g.C.Catalogue.behaviour g.A.Answers.answers (boxes_in (λ b. (g.dyn-1.0.entry b.vtable).1) c.loop-k.self.kernel) (boxes_in (λ b. (g.dyn-1.0.entry b.vtable).1) c.step.new.self)
-    (world_in (λ b. (g.dyn-1.0.entry b.vtable).1) c.loop-k.self.kernel) (world_in (λ b. (g.dyn-1.0.entry b.vtable).1) c.step.new.self) c.loop-k.self.positions.stored c.step.ensures.kept c.step.ensures.grown c.loop-k.invariant.good
+    good_on g.C.Catalogue.behaviour g.A.Answers.answers (world_in (λ b. (g.dyn-1.0.entry b.vtable).1) c.loop-k.self.kernel) (world_in (λ b. (g.dyn-1.0.entry b.vtable).1) c.step.new.self)
+    c.loop-k.self.positions.stored c.step.ensures.grown c.loop-k.invariant.good
 
 pub returns-in-Some-clause-good : goal.returns-in-Some-clause-good
 returns-in-Some-clause-good g c =
-    good_on g.C.Catalogue.behaviour g.A.Answers.answers (boxes_in (λ b. (g.dyn-1.0.entry b.vtable).1) c.loop-k.self.kernel) (boxes_in (λ b. (g.dyn-1.0.entry b.vtable).1) c.step.new.self)
-    (world_in (λ b. (g.dyn-1.0.entry b.vtable).1) c.loop-k.self.kernel) (world_in (λ b. (g.dyn-1.0.entry b.vtable).1) c.step.new.self) c.loop-k.self.positions.stored c.step.ensures.kept c.step.ensures.grown c.loop-k.invariant.good
+    good_on g.C.Catalogue.behaviour g.A.Answers.answers (world_in (λ b. (g.dyn-1.0.entry b.vtable).1) c.loop-k.self.kernel) (world_in (λ b. (g.dyn-1.0.entry b.vtable).1) c.step.new.self)
+    c.loop-k.self.positions.stored c.step.ensures.grown c.loop-k.invariant.good
 
 pub returns-in-Some-clause-ran : goal.returns-in-Some-clause-ran
 returns-in-Some-clause-ran g c =
@@ -73,11 +73,11 @@ returns-in_err-keep_if-clause-begun g c =
 
 pub returns-in_err-keep_if-clause-good : goal.returns-in_err-keep_if-clause-good
 returns-in_err-keep_if-clause-good g c =
-    let good : AreGood g.C.Catalogue.behaviour g.A.Answers.answers (boxes_in (λ b. (g.dyn-1.0.entry b.vtable).1) c.step.new.self) (world_in (λ b. (g.dyn-1.0.entry b.vtable).1) c.step.new.self) c.loop-k.self.positions.stored =
-    good_on g.C.Catalogue.behaviour g.A.Answers.answers (boxes_in (λ b. (g.dyn-1.0.entry b.vtable).1) c.loop-k.self.kernel) (boxes_in (λ b. (g.dyn-1.0.entry b.vtable).1) c.step.new.self)
-    (world_in (λ b. (g.dyn-1.0.entry b.vtable).1) c.loop-k.self.kernel) (world_in (λ b. (g.dyn-1.0.entry b.vtable).1) c.step.new.self) c.loop-k.self.positions.stored c.step.ensures.kept c.step.ensures.grown c.loop-k.invariant.good in
-    subst (λ K. AreGood g.C.Catalogue.behaviour g.A.Answers.answers (boxes_in (λ b. (g.dyn-1.0.entry b.vtable).1) K) (world_in (λ b. (g.dyn-1.0.entry b.vtable).1) K) c.keep_if.new.self.positions.stored) (sym c.in_err-keep_if.ensures.kept)
-    (subst (λ (t : Timeline Position). AreGood g.C.Catalogue.behaviour g.A.Answers.answers (boxes_in (λ b. (g.dyn-1.0.entry b.vtable).1) c.step.new.self) (world_in (λ b. (g.dyn-1.0.entry b.vtable).1) c.step.new.self) t.stored) (sym c.in_err-keep_if.ensures.err) good)
+    let good : AreGood g.C.Catalogue.behaviour g.A.Answers.answers (world_in (λ b. (g.dyn-1.0.entry b.vtable).1) c.step.new.self) c.loop-k.self.positions.stored =
+    good_on g.C.Catalogue.behaviour g.A.Answers.answers (world_in (λ b. (g.dyn-1.0.entry b.vtable).1) c.loop-k.self.kernel) (world_in (λ b. (g.dyn-1.0.entry b.vtable).1) c.step.new.self)
+    c.loop-k.self.positions.stored c.step.ensures.grown c.loop-k.invariant.good in
+    subst (λ K. AreGood g.C.Catalogue.behaviour g.A.Answers.answers (world_in (λ b. (g.dyn-1.0.entry b.vtable).1) K) c.keep_if.new.self.positions.stored) (sym c.in_err-keep_if.ensures.kept)
+    (subst (λ (t : Timeline Position). AreGood g.C.Catalogue.behaviour g.A.Answers.answers (world_in (λ b. (g.dyn-1.0.entry b.vtable).1) c.step.new.self) t.stored) (sym c.in_err-keep_if.ensures.err) good)
 
 pub loop-k-preserved : goal.loop-k-preserved
 loop-k-preserved g c =
@@ -93,9 +93,8 @@ loop-k-preserved g c =
     next_after b m (world_in (λ b. (g.dyn-1.0.entry b.vtable).1) c.loop-k.self.kernel) (Running v) k c.loop-k.invariant.going (rw c.in_default.is at c.in_ok-outcome.ensures.step) in
     let count : v.count ≡ suc k = count_is b m (suc k) v going in
     let same = sym c.in_ok-keep_if.ensures.kept in
-    let good : AreGood b m (boxes_in (λ b. (g.dyn-1.0.entry b.vtable).1) c.step.new.self) v old.stored =
-    good_on b m (boxes_in (λ b. (g.dyn-1.0.entry b.vtable).1) c.loop-k.self.kernel) (boxes_in (λ b. (g.dyn-1.0.entry b.vtable).1) c.step.new.self)
-    (world_in (λ b. (g.dyn-1.0.entry b.vtable).1) c.loop-k.self.kernel) v old.stored c.step.ensures.kept c.step.ensures.grown c.loop-k.invariant.good in
+    let good : AreGood b m v old.stored =
+    good_on b m (world_in (λ b. (g.dyn-1.0.entry b.vtable).1) c.loop-k.self.kernel) v old.stored c.step.ensures.grown c.loop-k.invariant.good in
     let due : c.is_multiple-due.result ≡ is_multiple old.interval (suc k) =
     c.is_multiple-due.ensures ∙ ap (λ x. is_multiple x c.count.result) c.interval.ensures.is ∙ ap (is_multiple old.interval) (c.count.ensures ∙ count) in
     record {
@@ -103,8 +102,8 @@ loop-k-preserved g c =
       from = omega (arith, c.loop-k.invariant.from);
       room = subst (λ K. HasRoom (world_in (λ b. (g.dyn-1.0.entry b.vtable).1) K)) same c.in_ok-outcome.ensures.room;
       kinds = subst (λ K. HasKinds b (λ b. (g.dyn-1.0.entry b.vtable).1) K) same c.step.ensures.kinds;
-      good = subst (λ K. AreGood b m (boxes_in (λ b. (g.dyn-1.0.entry b.vtable).1) K) (world_in (λ b. (g.dyn-1.0.entry b.vtable).1) K) new.stored) same
-          (good_stored b m (boxes_in (λ b. (g.dyn-1.0.entry b.vtable).1) c.step.new.self) v c.is_multiple-due.result old new (λ _. going_at b m (suc k) v going) c.in_ok-outcome.ensures.room refl c.in_ok-keep_if.ensures.ok good);
+      good = subst (λ K. AreGood b m (world_in (λ b. (g.dyn-1.0.entry b.vtable).1) K) new.stored) same
+          (good_stored b m v c.is_multiple-due.result old new (λ _. going_at b m (suc k) v going) c.in_ok-outcome.ensures.room c.in_ok-keep_if.ensures.ok good);
       shown = subst (λ K. AreShown m (world_in (λ b. (g.dyn-1.0.entry b.vtable).1) K).records c.step.new.shown) same c.step.ensures.shown;
       waiting = c.in_ok-keep_if.ensures.waiting ∙ c.loop-k.invariant.waiting;
       stood = c.in_ok-keep_if.ensures.stood ∙ ap stood.After (count ∙ one);

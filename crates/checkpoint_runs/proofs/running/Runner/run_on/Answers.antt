@@ -1,7 +1,7 @@
 use Rattle.std.proofs.Common.{◌≡◌, Bool, refl, sym, ap, ◌∙◌, subst}
 use Rattle.checkpoints.specs.Stored.{counts_of}
 use Rattle.kernel_call_views.specs.Tables.{AreShown}
-use Rattle.kernel.specs.Kernels.{boxes_in, world_in, ran_in}
+use Rattle.kernel.specs.Kernels.{world_in, ran_in}
 use Rattle.kernel_actions.specs.Positions.{position_of}
 use Rattle.run_semantics.specs.Ending.{ending}
 use Rattle.run_semantics.specs.Run.{is_fault}
@@ -37,13 +37,13 @@ returns-clause-good g c =
     let new = c.keep_if.new.self in
     let due : c.is_owed-due.result ≡ is_owed from (is_fault c.in_ok-outcome.outcome) mid.kernel.core.count (counts_of mid.positions.stored) =
     rw (c.count-from.ensures, c.is_fault.ensures, c.ends_at.ensures, c.count-last.ensures) at c.is_owed-due.ensures in
-    let good : AreGood b m (boxes_in (λ b. (g.dyn-1.0.entry b.vtable).1) mid.kernel) w new.positions.stored =
-    good_stored b m (boxes_in (λ b. (g.dyn-1.0.entry b.vtable).1) mid.kernel) w c.is_owed-due.result mid.positions new.positions
+    let good : AreGood b m w new.positions.stored =
+    good_stored b m w c.is_owed-due.result mid.positions new.positions
     (λ owed. owed_lasts b m from c.args.self.now.positions mid.positions w c.in_ok-outcome.outcome c.in_ok-outcome.ensures.stored (sym due ∙ owed))
-    c.in_ok-outcome.ensures.ran.room refl c.in_ok-keep_if.ensures.ok c.run_events.ensures.good in
-    good_on b m (boxes_in (λ b. (g.dyn-1.0.entry b.vtable).1) new.kernel) (boxes_in (λ b. (g.dyn-1.0.entry b.vtable).1) c.finish.new.self) (world_in (λ b. (g.dyn-1.0.entry b.vtable).1) new.kernel) (world_in (λ b. (g.dyn-1.0.entry b.vtable).1) c.finish.new.self)
-    new.positions.stored c.finish.ensures.kept c.finish.ensures.grown
-    (subst (λ K. AreGood b m (boxes_in (λ b. (g.dyn-1.0.entry b.vtable).1) K) (world_in (λ b. (g.dyn-1.0.entry b.vtable).1) K) new.positions.stored) (sym c.in_ok-keep_if.ensures.kept) good)
+    c.in_ok-outcome.ensures.ran.room c.in_ok-keep_if.ensures.ok c.run_events.ensures.good in
+    good_on b m (world_in (λ b. (g.dyn-1.0.entry b.vtable).1) new.kernel) (world_in (λ b. (g.dyn-1.0.entry b.vtable).1) c.finish.new.self)
+    new.positions.stored c.finish.ensures.grown
+    (subst (λ K. AreGood b m (world_in (λ b. (g.dyn-1.0.entry b.vtable).1) K) new.positions.stored) (sym c.in_ok-keep_if.ensures.kept) good)
 
 pub returns-clause-ran : goal.returns-clause-ran
 returns-clause-ran g c =

@@ -2,7 +2,7 @@ use Rattle.std.proofs.Common.{◌≡◌, ◌≤◌, true, zero, suc, refl, sym, 
 use Rattle.checkpoints.specs.Stored.{begun, counts_in, with_count, AreBelow, Timeline}
 use Rattle.kernel_actions.specs.declared.position.Position.{Position}
 use Rattle.kernel_call_views.specs.Tables.{AreShown}
-use Rattle.kernel.specs.Kernels.{boxes_in, world_in, ran_in}
+use Rattle.kernel.specs.Kernels.{world_in, ran_in}
 use Rattle.kernel_actions.specs.Positions.{position_of}
 use Rattle.run_semantics.specs.Ending.{ending}
 use Rattle.run_semantics.specs.Run.{Running, Over, after, run_to}
@@ -24,7 +24,6 @@ run_on-requires-clause-going g c =
     let b = g.C.Catalogue.behaviour in
     let m = g.A.Answers.answers in
     let w = world_in (λ b. (g.dyn-1.0.entry b.vtable).1) c.start.new.self in
-    let seats = boxes_in (λ b. (g.dyn-1.0.entry b.vtable).1) c.start.new.self in
     let new = c.keep_if.new.self in
     let going : Running w ≡ after b m 0 = rw c.in-None.is at c.in_ok-outcome.ensures.step in
     let count : w.count ≡ 0 = count_is b m 0 w going in
@@ -35,8 +34,8 @@ run_on-requires-clause-going g c =
       going = subst (λ K. Running (world_in (λ b. (g.dyn-1.0.entry b.vtable).1) K) ≡ after b m (world_in (λ b. (g.dyn-1.0.entry b.vtable).1) K).count) same (going_at b m 0 w going);
       within = subst (λ K. (world_in (λ b. (g.dyn-1.0.entry b.vtable).1) K).count ≤ c.args.limit) same (omega (arith, count));
       room = subst (λ K. HasRoom (world_in (λ b. (g.dyn-1.0.entry b.vtable).1) K)) same room;
-      good = subst (λ K. AreGood b m (boxes_in (λ b. (g.dyn-1.0.entry b.vtable).1) K) (world_in (λ b. (g.dyn-1.0.entry b.vtable).1) K) new.positions.stored) same
-          (good_stored b m seats w true c.args.self.now.positions new.positions (λ _. going_at b m 0 w going) room refl stored (subst (λ (t : Timeline Position). AreGood b m seats w t.stored) (sym c.requires.none) tt));
+      good = subst (λ K. AreGood b m (world_in (λ b. (g.dyn-1.0.entry b.vtable).1) K) new.positions.stored) same
+          (good_stored b m w true c.args.self.now.positions new.positions (λ _. going_at b m 0 w going) room stored (subst (λ (t : Timeline Position). AreGood b m w t.stored) (sym c.requires.none) tt));
       below = subst (λ K. AreBelow (suc (world_in (λ b. (g.dyn-1.0.entry b.vtable).1) K).count) new.positions.stored) same
           (first_below (suc w.count) c.args.self.now.positions.first new.positions (omega arith) (first_counts w c.args.self.now.positions new.positions c.requires.none stored count));
       stood = c.in_ok-keep_if-in-None.ensures.stood ∙ ap (λ K. stood.After (world_in (λ b. (g.dyn-1.0.entry b.vtable).1) K).count) same;

@@ -18,7 +18,7 @@ returns-clause-sound g c =
     rw c.give_up.ensures (kept_edited g.C.Catalogue.behaviour (boxes_in (λ b. (g.dyn-1.0.entry b.vtable).1) old.runner.kernel) (boxes_in (λ b. (g.dyn-1.0.entry b.vtable).1) new.kernel) (waiting_in (λ b. (g.dyn-1.0.entry b.vtable).1) old.runner) (waiting_in (λ b. (g.dyn-1.0.entry b.vtable).1) new) (world_in (λ b. (g.dyn-1.0.entry b.vtable).1) old.runner.kernel)
     (world_in (λ b. (g.dyn-1.0.entry b.vtable).1) new.kernel) old.model c.args.change.model old.phase (option_map completed_of old.done) old.known c.args.change.edited.valid_to old.runner.positions new.positions c.requires.sound
     (ap (λ K. boxes_in (λ b. (g.dyn-1.0.entry b.vtable).1) K) kernel) (ap (λ K. world_in (λ b. (g.dyn-1.0.entry b.vtable).1) K) kernel) (rw c.give_up.ensures at c.keep_up_to.ensures.positions)
-    c.requires.changed.1.known c.requires.changed.1.good)
+    c.requires.changed.1.known c.requires.changed.1.good (ap (seats_held (λ b. (g.dyn-1.0.entry b.vtable).1)) (rw c.give_up.ensures at c.keep_up_to.ensures.waiting)))
 
 pub returns-clause-left : goal.returns-clause-left
 returns-clause-left g c =

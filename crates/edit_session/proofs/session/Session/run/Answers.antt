@@ -5,6 +5,7 @@ use Rattle.checkpoints.specs.Stored.{counts_in, counts_of, Timeline}
 use Rattle.model_answers.specs.Answering.{answers_of}
 use Rattle.checkpoint_runs.specs.Positions.{last_count, HasStored, is_given_up}
 use Rattle.kernel.specs.Kernels.{boxes_in, world_in}
+use Rattle.kernel_boxes.specs.Saved.{seats_held}
 use Rattle.checkpoint_runs.specs.Kept.{waiting_in}
 use Rattle.edit_session.proofs.GivenUp.{kept_cut}
 use Rattle.edit_session.proofs.session.Session.run.Goals as goal
@@ -16,10 +17,10 @@ returns-in-Err-clause-kept g c =
     let stored =
     is_given_up g.C.Catalogue.behaviour (answers_of c.args.self.now.model) c.args.limit old.stood (counts_in c.args.self.now.runner.positions) (counts_in old.positions) (Fits-lt-pow c.ranges.limit) c.run_through.ensures.stored c.requires.sound.stored in
     record {
-      sound = rw c.give_up.ensures (kept_cut g.C.Catalogue.behaviour c.run_through.new.self.model (boxes_in (λ b. (g.dyn-1.0.entry b.vtable).1) old.kernel) (boxes_in (λ b. (g.dyn-1.0.entry b.vtable).1) new.kernel) (waiting_in (λ b. (g.dyn-1.0.entry b.vtable).1) new) (world_in (λ b. (g.dyn-1.0.entry b.vtable).1) old.kernel) (world_in (λ b. (g.dyn-1.0.entry b.vtable).1) new.kernel)
+      sound = rw c.give_up.ensures (kept_cut g.C.Catalogue.behaviour c.run_through.new.self.model (boxes_in (λ b. (g.dyn-1.0.entry b.vtable).1) old.kernel) (boxes_in (λ b. (g.dyn-1.0.entry b.vtable).1) new.kernel) (waiting_in (λ b. (g.dyn-1.0.entry b.vtable).1) old) (waiting_in (λ b. (g.dyn-1.0.entry b.vtable).1) new) (world_in (λ b. (g.dyn-1.0.entry b.vtable).1) old.kernel) (world_in (λ b. (g.dyn-1.0.entry b.vtable).1) new.kernel)
           old.positions new.positions c.cut_back-self.result
-          (rw c.give_up.ensures at c.cut_back-self.ensures.seats) (rw c.give_up.ensures at c.cut_back-self.ensures.positions) (rw c.give_up.ensures at c.cut_back-self.ensures.last)
-          c.run_through.ensures.kinds c.run_through.ensures.good (rw c.give_up.ensures at c.cut_back-self.ensures.rising) stored (rw c.give_up.ensures at c.cut_back-self.ensures.world));
+          (rw c.give_up.ensures at c.cut_back-self.ensures.seats) (ap (seats_held (λ b. (g.dyn-1.0.entry b.vtable).1)) (rw c.give_up.ensures at c.cut_back-self.ensures.waiting)) (rw c.give_up.ensures at c.cut_back-self.ensures.positions) (rw c.give_up.ensures at c.cut_back-self.ensures.last)
+          c.run_through.ensures.kinds c.run_through.ensures.good c.run_through.ensures.alone (rw c.give_up.ensures at c.cut_back-self.ensures.rising) stored (rw c.give_up.ensures at c.cut_back-self.ensures.world));
       model = rw c.give_up.ensures c.run_through.ensures.model;
     }
 

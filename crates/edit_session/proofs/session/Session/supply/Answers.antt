@@ -1,25 +1,14 @@
-use Rattle.std.proofs.Common.{option_map, sym, ◌∙◌, subst}
-use Rattle.kernel.specs.Kernels.{boxes_in, world_in}
-use Rattle.checkpoint_runs.specs.Kept.{waiting_in}
-use Rattle.edit_session.specs.Editing.{IsKept}
-use Rattle.edit_session.specs.Sessions.{completed_of}
-use Rattle.edit_session.proofs.Boxes.{kept_supplied, supply_above}
+use Rattle.std.proofs.Common.{refl, sym, ◌∙◌}
+use Rattle.edit_session.specs.Editing.{wanted_of}
+use Rattle.edit_session.specs.Sessions.{editing_of}
+use Rattle.edit_session.proofs.Boxes.{none_wanted, some_wanted}
 use Rattle.edit_session.proofs.session.Session.supply.Goals as goal
 
-pub supply-requires : goal.supply-requires
-supply-requires g c =
-    let runner = c.args.self.now.runner in
-    record {
-      above = supply_above g.C.Catalogue.behaviour (boxes_in (λ b. (g.dyn-1.0.entry b.vtable).1) runner.kernel) (waiting_in (λ b. (g.dyn-1.0.entry b.vtable).1) runner) (world_in (λ b. (g.dyn-1.0.entry b.vtable).1) runner.kernel) c.args.self.now.model c.args.self.now.phase (option_map completed_of c.args.self.now.done) c.args.self.now.known c.args.self.now.runner.positions c.in-Some.id
-          c.requires.sound (sym c.wanted_id.ensures ∙ c.in-Some.is);
-    }
+pub returns-in-None-clause-err : goal.returns-in-None-clause-err
+returns-in-None-clause-err g c = (refl, refl, (λ _. none_wanted (wanted_of g.C.Catalogue.behaviour (editing_of (λ b. (g.dyn-1.0.entry b.vtable).1) c.args.self.now)) (sym c.wanted_id.ensures ∙ c.in-None.is), λ _. refl))
 
-pub returns-in-Ok-clause-sound : goal.returns-in-Ok-clause-sound
-returns-in-Ok-clause-sound g c =
-    let runner = c.args.self.now.runner in
-    let supplied = c.supply.new.self in
-    let old = c.args.self.now in
-    subst (λ K. IsKept g.C.Catalogue.behaviour (boxes_in (λ b. (g.dyn-1.0.entry b.vtable).1) K) (waiting_in (λ b. (g.dyn-1.0.entry b.vtable).1) supplied) (world_in (λ b. (g.dyn-1.0.entry b.vtable).1) K) old.model old.phase (option_map completed_of old.done) old.known supplied.positions) (sym c.supply.ensures.kernel)
-    (subst (λ ps. IsKept g.C.Catalogue.behaviour (boxes_in (λ b. (g.dyn-1.0.entry b.vtable).1) runner.kernel) (waiting_in (λ b. (g.dyn-1.0.entry b.vtable).1) supplied) (world_in (λ b. (g.dyn-1.0.entry b.vtable).1) runner.kernel) old.model old.phase (option_map completed_of old.done) old.known ps) (sym c.supply.ensures.kept.0)
-    (kept_supplied g.C.Catalogue.behaviour (boxes_in (λ b. (g.dyn-1.0.entry b.vtable).1) runner.kernel) (waiting_in (λ b. (g.dyn-1.0.entry b.vtable).1) runner) (waiting_in (λ b. (g.dyn-1.0.entry b.vtable).1) supplied) (world_in (λ b. (g.dyn-1.0.entry b.vtable).1) runner.kernel) old.model old.phase (option_map completed_of old.done) old.known runner.positions c.in-Some.id ((g.dyn-1.0.entry c.args.held.vtable).1.meaning c.args.held.value)
-    c.requires.sound (sym c.wanted_id.ensures ∙ c.in-Some.is) c.requires.wanted c.in-Ok.ensures.ok))
+pub place-requires-clause-id : goal.place-requires-clause-id
+place-requires-clause-id g c = sym c.wanted_id.ensures ∙ c.in-Some.is
+
+pub returns-in-Ok-clause-ok : goal.returns-in-Ok-clause-ok
+returns-in-Ok-clause-ok g c = (some_wanted (wanted_of g.C.Catalogue.behaviour (editing_of (λ b. (g.dyn-1.0.entry b.vtable).1) c.args.self.now)) c.in-Some.id (sym c.wanted_id.ensures ∙ c.in-Some.is), c.in-Ok.ensures.ok)

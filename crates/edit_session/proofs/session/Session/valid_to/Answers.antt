@@ -1,5 +1,5 @@
 use Rattle.model_answers.specs.Answering.{answers_of}
-use Rattle.kernel.specs.Kernels.{boxes_in, world_in}
+use Rattle.kernel.specs.Kernels.{world_in}
 use Rattle.edit_session.proofs.Edited.{good_of}
 use Rattle.edit_session.proofs.Valid.{valid_of, known_of}
 use Rattle.edit_session.proofs.session.Session.valid_to.Goals as goal
@@ -17,5 +17,5 @@ returns-clause-known g c =
 pub returns-clause-good : goal.returns-clause-good
 returns-clause-good g c =
     let kernel = c.args.self.now.runner.kernel in
-    good_of g.C.Catalogue.behaviour g.C.Catalogue.lawful (answers_of c.args.self.now.model) (answers_of c.args.model.now) (boxes_in (λ b. (g.dyn-1.0.entry b.vtable).1) kernel) (world_in (λ b. (g.dyn-1.0.entry b.vtable).1) kernel) c.args.self.now.runner.positions
+    good_of g.C.Catalogue.behaviour g.C.Catalogue.lawful (answers_of c.args.self.now.model) (answers_of c.args.model.now) (world_in (λ b. (g.dyn-1.0.entry b.vtable).1) kernel) c.args.self.now.runner.positions
     c.args.self.now.known c.in-Some.last c.agreement.result c.in-Some.is c.requires.sound.asked c.requires.sound.good (rw (c.records.ensures.records, c.questions.ensures) at c.agreement.ensures)
