@@ -1,2 +1,3 @@
 pub mod Clerk
 pub mod Wire
+pub mod Reaper

@@ -310,24 +310,23 @@ fn take_id(events: &mut EventSet) -> Option<u32> {
     }
 }
 
-/// Strikes out what comes first of modules that are gone: of none, of the module 2, and of that
-/// once more after the first event. Answers for which module the first event is each time, and
-/// whether the timer of the module 2 is pending before the last time, and after it.
-fn strike_in_turn(events: &mut EventSet) -> ([Option<u32>; 3], [bool; 2]) {
-    events.strike([false, true, true].as_slice());
+/// Takes out the events of modules that are gone: of one that has none, and of the module 2.
+/// Answers for which module the first event is each time, and whether the timer of the module 2 is
+/// pending before the last time, and after it.
+fn drop_in_turn(events: &mut EventSet) -> ([Option<u32>; 3], [bool; 2]) {
+    events.drop_modules([7].as_slice());
     let none_gone = first_id(events);
-    events.strike([false, true].as_slice());
-    let one_gone = take_id(events);
     let before = events.has_timer(2, 0);
-    events.strike([false, true].as_slice());
+    events.drop_modules([7, 2].as_slice());
     let behind = events.has_timer(2, 0);
+    let one_gone = take_id(events);
     ([none_gone, one_gone, first_id(events)], [before, behind])
 }
 
 #[test]
-fn the_first_events_of_gone_modules_are_struck_out(rt: HostRuntime) -> Result<(), Fail> {
+fn the_events_of_gone_modules_are_taken_out(rt: HostRuntime) -> Result<(), Fail> {
     let mut events = mixed_events(rt.alloc())?;
-    let (firsts, pending) = strike_in_turn(&mut events);
+    let (firsts, pending) = drop_in_turn(&mut events);
     drop(events);
     assert!(rt; firsts == [Some(2), Some(1), None]);
     assert!(rt; pending == [true, false]);

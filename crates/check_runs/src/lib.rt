@@ -1,5 +1,5 @@
-//! Tests of `event_set`, `module_stock`, `result_files`, scalars that modules record, and gates
-//! that modules join and free, apart from the crates that they test.
+//! Tests of `event_set`, `module_stock`, `result_files`, scalars that modules record, gates that
+//! modules join and free, and modules that are deleted, apart from the crates that they test.
 #![tactic(auto)]
 
 #[cfg(test)]
@@ -8,6 +8,9 @@ mod events;
 mod files;
 #[cfg(test)]
 mod modules;
+pub mod reaper;
+#[cfg(test)]
+mod reaping;
 #[cfg(test)]
 mod scalars;
 pub mod wire;

@@ -54,7 +54,7 @@ fn supply(desk: &mut Desk<Office>, kind: &[u8], held: Box<dyn SimpleModule>) -> 
 fn give(desk: &mut Desk<Office>, held: Box<dyn SimpleModule>) -> Result<(), Fail>
     requires wanted { let editing =
         editing_at (λ b. ⟦<dyn SimpleModule as SimpleModule>⟧ b.vtable) desk.old in
-        IsFor office (wanted_of editing) (meaning held) }
+        IsFor office (wanted_of office editing) (meaning held) }
     requires sound { IsSettled office
         (λ b. ⟦<dyn SimpleModule as SimpleModule>⟧ b.vtable) desk.old }
     ensures { IsSettled office (λ b. ⟦<dyn SimpleModule as SimpleModule>⟧ b.vtable) desk.new }

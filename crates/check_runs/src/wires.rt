@@ -122,7 +122,7 @@ fn supply(desk: &mut Desk<Wiring>, kind: &[u8], held: Box<dyn SimpleModule>) -> 
 fn give(desk: &mut Desk<Wiring>, held: Box<dyn SimpleModule>) -> Result<(), Fail>
     requires wanted { let editing =
         editing_at (λ b. ⟦<dyn SimpleModule as SimpleModule>⟧ b.vtable) desk.old in
-        IsFor wired (wanted_of editing) (meaning held) }
+        IsFor wired (wanted_of wired editing) (meaning held) }
     requires sound { IsSettled wired
         (λ b. ⟦<dyn SimpleModule as SimpleModule>⟧ b.vtable) desk.old }
     ensures { IsSettled wired (λ b. ⟦<dyn SimpleModule as SimpleModule>⟧ b.vtable) desk.new }

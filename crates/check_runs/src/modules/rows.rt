@@ -134,6 +134,7 @@ fn add_action(text: &mut String, action: &Action) -> Result<(), AllocError> {
             write!(text, " disconnect")?;
             add_place(text, place)
         }
+        Action::Delete(path, finish) => write!(text, " delete {} {finish}", written(path)),
         Action::End => write!(text, " end"),
         Action::Fail(reason) => write!(text, " fail={}", written(reason)),
     }
