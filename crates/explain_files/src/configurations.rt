@@ -3,6 +3,7 @@
 use crate::reading::read_types;
 use crate::sections::{Sections, sections_of};
 use explain_types::explanation::Explanation;
+use explain_types::names::is_near;
 use explain_types::ned_files::{is_anywhere, type_named};
 use explain_types::sources::Sources;
 use ini_config::error::IniError;
@@ -336,6 +337,75 @@ fn tell_networks(told: &mut Explanation, types: &[TypeDeclaration]) {
     }
 }
 
+/// Says which entry may be meant to name the network, where none does: one with a key that is near,
+/// or those of a section that is written otherwise than General.
+fn tell_misspelt(told: &mut Explanation, lines: &[IniLine]) {
+    for (at, line) in lines.iter().enumerate() {
+        match &line.meaning {
+            LineMeaning::Entry(entry) if is_near(entry.key.as_bytes(), b"network".as_slice()) => {
+                told.say("; line ");
+                told.say_number(at.saturating_add(1));
+                told.say(" has the key ");
+                told.say_name(entry.key.as_bytes());
+                return told.say(": did you mean 'network'?");
+            }
+            LineMeaning::Section(name) if is_written_otherwise(name.as_bytes()) => {
+                told.say("; line ");
+                told.say_number(at.saturating_add(1));
+                told.say(" begins the section [");
+                told.say_front(name.as_bytes());
+                return told.say("]: did you mean [General]?");
+            }
+            _ => {}
+        }
+    }
+}
+
+/// Whether a section has the name General in other letters.
+fn is_written_otherwise(name: &[u8]) -> bool {
+    name != b"General".as_slice() && name.eq_ignore_ascii_case(b"General".as_slice())
+}
+
+/// Whether the type says that it is a network by the property of OMNeT++ 4.
+fn is_marked(told: &Explanation, sources: &Sources<'_>) -> bool {
+    let _alloc = told.alloc();
+    for text in sources.texts.as_slice() {
+        if has_word(text.as_bytes(), b"@isNetwork".as_slice()) {
+            return true;
+        }
+    }
+    false
+}
+
+/// Whether these bytes stand somewhere in a text.
+fn has_word(text: &[u8], word: &[u8]) -> bool {
+    for start in 0..text.len() {
+        if text[start..].starts_with(word) {
+            return true;
+        }
+    }
+    false
+}
+
+/// Says what the type is that the option `network` names, which is no network.
+fn tell_kind(told: &mut Explanation, sources: &Sources<'_>, declared: &TypeDeclaration) {
+    match declared.kind {
+        TypeKind::Simple | TypeKind::Network => told.say(" is a simple module and no network"),
+        TypeKind::Module => {
+            told.say(" is a compound module and no network: declare it by 'network ");
+            told.say_front(declared.name.as_bytes());
+            told.say("'");
+            if is_marked(told, sources) {
+                told.say(" (the property @isNetwork has no effect here)");
+            }
+        }
+        TypeKind::Channel => told.say(" is a channel and no network"),
+        TypeKind::ModuleInterface | TypeKind::ChannelInterface => {
+            told.say(" is an interface and no network");
+        }
+    }
+}
+
 /// Says why the chain in these lines selects no network among these types.
 fn tell_selection(
     told: &mut Explanation,
@@ -349,15 +419,16 @@ fn tell_selection(
         told.say(": there is no entry 'network = NAME' in [");
         told.say_front(sources.config.as_bytes());
         told.say("] or what it extends");
-        return tell_networks(told, types);
+        tell_networks(told, types);
+        return tell_misspelt(told, lines);
     };
     told.say_place(sources.ini_path, line_of_network(lines, name));
     told.say(": ");
     told.say_name(name);
-    told.say(match type_named(types, last_name(name)) {
-        Some(_) => " is a simple module and no network",
-        None => " is declared in no NED file",
-    });
+    match type_named(types, last_name(name)) {
+        Some(declared) => tell_kind(told, sources, declared),
+        None => told.say(" is declared in no NED file"),
+    }
     tell_networks(told, types);
 }
 

@@ -23,19 +23,125 @@ pub fn line_at(bytes: &[u8], number: usize) -> &[u8] {
     b"".as_slice()
 }
 
+/// How many bytes at the end are digits.
+fn digits_at_end(bytes: &[u8]) -> usize {
+    let mut count = 0usize;
+    for byte in bytes.iter().rev() {
+        if !byte.is_ascii_digit() {
+            break;
+        }
+        count = count.saturating_add(1);
+    }
+    count
+}
+
+/// The number that digits make, where it is one of a bound.
+fn bound_of(digits: &[u8]) -> Option<u64> {
+    match shown(digits).parse::<u64>() {
+        Ok(number) => Some(number),
+        Err(_) => None,
+    }
+}
+
+/// The bounds of the range that ends these bytes before its `..` and goes on after it, where it is
+/// reversed.
+fn reversed_at(before: &[u8], after: &[u8]) -> Option<(u64, u64)> {
+    let low = bound_of(last_bytes(before, digits_at_end(before)))?;
+    let high = bound_of(first_bytes(after, digits_at_front(after)))?;
+    if low > high {
+        return Some((low, high));
+    }
+    None
+}
+
+/// How many bytes at the front are digits.
+fn digits_at_front(bytes: &[u8]) -> usize {
+    let mut count = 0usize;
+    for byte in bytes {
+        if !byte.is_ascii_digit() {
+            break;
+        }
+        count = count.saturating_add(1);
+    }
+    count
+}
+
+/// So many bytes at the front.
+fn first_bytes(bytes: &[u8], count: usize) -> &[u8] {
+    match bytes.split_at_checked(count) {
+        Some((first, _)) => first,
+        None => bytes,
+    }
+}
+
+/// So many bytes at the end.
+fn last_bytes(bytes: &[u8], count: usize) -> &[u8] {
+    match bytes.split_at_checked(bytes.len().saturating_sub(count)) {
+        Some((_, last)) => last,
+        None => bytes,
+    }
+}
+
+/// The bounds of the first range of numbers in a key that is reversed.
+fn reversed_range(key: &[u8]) -> Option<(u64, u64)> {
+    for at in 0..key.len() {
+        let (before, rest) = key.split_at(at);
+        if let Some(after) = rest.strip_prefix(b"..".as_slice()) {
+            if let Some(found) = reversed_at(before, after) {
+                return Some(found);
+            }
+        }
+    }
+    None
+}
+
+/// Says why a key is no pattern.
+fn tell_pattern_of(told: &mut Explanation, key: &[u8]) {
+    match reversed_range(key) {
+        Some((low, high)) => {
+            told.say("the range ");
+            told.say_number(low as usize);
+            told.say("..");
+            told.say_number(high as usize);
+            told.say(" is reversed: write the smaller bound first");
+        }
+        None => told.say("a '{' or '[' is not closed, or nothing stands in it"),
+    }
+}
+
 /// Says that the key of a line is no pattern.
 fn tell_key(told: &mut Explanation, line: &[u8]) {
     told.say("the key ");
-    if let Ok((key, _)) = key_and_value(line) {
-        told.say_name(key);
-    }
-    told.say(" is no pattern: a '{' or '[' is not closed, or nothing stands in it");
+    let Ok((key, _)) = key_and_value(line) else {
+        return told.say("is no pattern");
+    };
+    told.say_name(key);
+    told.say(" is no pattern: ");
+    tell_pattern_of(told, key);
 }
 
-/// Says what of the value of a line can't be read, and why: what is OMNeT++'s own, a number, or
-/// that it is nested too deep.
+/// Says which word was meant, where a value is written like one of a truth value, or that a second
+/// `=` stands before it. Answers whether it is so.
+fn tell_meant(told: &mut Explanation, value: &[u8]) -> bool {
+    if value.starts_with(b"=") {
+        told.say("; a second '=' stands before it");
+        return true;
+    }
+    for word in ["true", "false"] {
+        if value.eq_ignore_ascii_case(word.as_bytes()) {
+            told.say("; did you mean ");
+            told.say_name(word.as_bytes());
+            told.say("?");
+            return true;
+        }
+    }
+    false
+}
+
+/// Says what of the value of a line can't be read, and why: that it is written like another, what
+/// is OMNeT++'s own, a number, or that it is nested too deep.
 fn tell_unread(told: &mut Explanation, value: &[u8]) {
-    if !tell_braces(told, value) && !tell_foreign(told, value) {
+    if !tell_meant(told, value) && !tell_braces(told, value) && !tell_foreign(told, value) {
         tell_depth_of_value(told, value);
     }
 }

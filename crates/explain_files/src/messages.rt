@@ -1,17 +1,23 @@
 //! Where messages from outside arrive.
 
-use crate::modules::record_of;
+use crate::modules::module_of;
 use explain_types::explanation::Explanation;
 use explain_types::names::shown;
 use explain_types::sources::Sources;
-use model_answers::evaluated::EvaluatedModel;
-use model_answers::plain::PlainAnswers;
-use model_questions::answer::{Answer, Built, Question};
-use model_questions::record::{MAX_NESTING, Origin, Record, path_of, path_under};
+use inside_keys::found::Found;
+use inside_keys::key::{Key, What};
+use inside_run::scene::ModuleSource;
+use inside_run::values::{empty_table, value_of};
+use model_data::model::Model;
+use model_questions::record::{MAX_NESTING, Origin, Record, path_of};
 use model_reading::begin::model_of;
-use model_settings::standings::name_in;
+use model_settings::setting::ModelSetting;
+use model_settings::standings::{index_in, name_in};
+use ned_trees::declarations::{TypeDeclaration, TypeKind};
 use sim_values::NoMemory;
+use sim_values::model_fault::ModelFault;
 use sim_values::text::Text;
+use sim_values::value::Value;
 use sqlite_items::Items;
 use std::alloc::Global;
 
@@ -25,61 +31,18 @@ enum PathEnd {
     Unknown,
 }
 
-/// A submodule's own name, as `t` or `t[2]`.
-fn own_name(alloc: Global, built: &Built) -> Result<Text, NoMemory> {
+/// Whether this is how a module is called among its siblings: its name, with its index in brackets
+/// where it has one, as `t` or `t[2]`.
+fn is_own_name(alloc: Global, own: &[u8]) -> Result<bool, NoMemory> {
     let mut records = Items::new(alloc);
     records.push(Record {
         parent: 0,
-        name: built.name.copy(alloc)?,
-        index: built.index,
+        name: Text::from_bytes(alloc, name_in(own))?,
+        index: index_in(own),
         class: None,
         origin: Origin::Built,
     })?;
-    Ok(path_of(alloc, records.as_slice(), 1)?)
-}
-
-/// Whether a submodule has that own name.
-fn has_name(alloc: Global, built: &Built, name: &[u8]) -> Result<bool, NoMemory> {
-    if !built.name.is(name_in(name)) {
-        return Ok(false);
-    }
-    Ok(own_name(alloc, built)?.is(name))
-}
-
-/// What stands among these submodules by that own name.
-fn standing_in(alloc: Global, inside: &[Built], name: &[u8]) -> Result<PathEnd, NoMemory> {
-    for built in inside {
-        if has_name(alloc, built, name)? {
-            return Ok(match built.class {
-                Some(_) => PathEnd::Simple,
-                None => PathEnd::Compound,
-            });
-        }
-    }
-    Ok(PathEnd::Nothing)
-}
-
-/// What stands by that own name in the compound module of that path.
-fn standing_under(
-    alloc: Global,
-    answers: &PlainAnswers<'_>,
-    above: &[u8],
-    name: &[u8],
-) -> Result<PathEnd, NoMemory> {
-    let records = record_of(alloc, above)?;
-    match answers.answer(alloc, records.as_slice(), &Question::Build(1))? {
-        Answer::Inside(inside) => standing_in(alloc, inside.as_slice(), name),
-        Answer::Fault(_, _) => Ok(PathEnd::Unknown),
-        _ => Ok(PathEnd::Nothing),
-    }
-}
-
-/// Whether the network has that name.
-fn is_network(alloc: Global, answers: &PlainAnswers<'_>, name: &[u8]) -> Result<bool, NoMemory> {
-    match answers.answer(alloc, &[], &Question::Root)? {
-        Answer::Root(network) => Ok(network.is(name)),
-        _ => Ok(false),
-    }
+    Ok(path_of(alloc, records.as_slice(), 1)?.is(own))
 }
 
 /// The first name of a path, and what is after the dot that ends it, where one does.
@@ -90,30 +53,115 @@ fn split_name(path: &str) -> (&str, Option<&str>) {
     }
 }
 
-/// What stands at a path.
-fn standing_at(alloc: Global, answers: &PlainAnswers<'_>, path: &str) -> Result<PathEnd, NoMemory> {
-    let (network, mut rest) = split_name(path);
-    if !is_network(alloc, answers, network.as_bytes())? {
-        return Ok(PathEnd::Nothing);
-    }
-    let mut above = Text::from_str(alloc, network)?;
-    let mut standing = PathEnd::Compound;
+/// Whether a path is one that a module can have.
+fn is_path(alloc: Global, path: &str) -> Result<bool, NoMemory> {
+    let mut left = Some(path);
     for _level in 0..MAX_NESTING {
-        let Some(names) = rest else {
+        let Some(names) = left else {
             break;
         };
-        if standing != PathEnd::Compound {
-            break;
+        let (own, rest) = split_name(names);
+        if !is_own_name(alloc, own.as_bytes())? {
+            return Ok(false);
         }
-        let (name, others) = split_name(names);
-        standing = standing_under(alloc, answers, above.as_bytes(), name.as_bytes())?;
-        above = path_under(alloc, above.as_bytes(), name.as_bytes())?;
-        rest = others;
+        left = rest;
     }
-    if standing != PathEnd::Unknown && rest.is_some() {
+    Ok(left.is_none())
+}
+
+/// Whether a path begins with the network's name.
+fn is_in_network(model: &Model, path: &str) -> bool {
+    let (first, _rest) = split_name(path);
+    match model.network() {
+        Some(network) => network.name.is(first.as_bytes()),
+        None => false,
+    }
+}
+
+/// What a module of that type is.
+fn standing_of(types: &[TypeDeclaration], number: i64) -> PathEnd {
+    match usize::try_from(number) {
+        Ok(number) => match types.get(number) {
+            Some(declared) => match declared.kind {
+                TypeKind::Simple => PathEnd::Simple,
+                TypeKind::Module | TypeKind::Network => PathEnd::Compound,
+                _ => PathEnd::Nothing,
+            },
+            None => PathEnd::Nothing,
+        },
+        Err(_) => PathEnd::Nothing,
+    }
+}
+
+/// Whether the inside of the module of that path has a fault; none where there is no such module.
+fn has_faulty_inside(
+    alloc: Global,
+    setting: &ModelSetting<'_>,
+    path: &[u8],
+) -> Result<Option<bool>, NoMemory> {
+    let mut table = empty_table(alloc, setting);
+    let site = module_of(alloc, path)?;
+    let key = Key {
+        site,
+        what: What::Inside,
+    };
+    Ok(match value_of(alloc, setting, &mut table, key)? {
+        Ok(_) => Some(false),
+        Err(ModelFault::UnknownType) => None,
+        Err(_) => Some(true),
+    })
+}
+
+/// What is known of a path at which no module is found: where the inside of a module around it has
+/// a fault it is not known who is there.
+fn standing_around(
+    alloc: Global,
+    setting: &ModelSetting<'_>,
+    path: &[u8],
+) -> Result<PathEnd, NoMemory> {
+    for (at, byte) in path.iter().enumerate() {
+        if *byte == b'.' {
+            match has_faulty_inside(alloc, setting, &path[..at])? {
+                Some(true) => return Ok(PathEnd::Unknown),
+                Some(false) => {}
+                None => break,
+            }
+        }
+    }
+    Ok(PathEnd::Nothing)
+}
+
+/// What stands at a path.
+fn standing_at(alloc: Global, setting: &ModelSetting<'_>, path: &str) -> Result<PathEnd, NoMemory> {
+    if !is_in_network(setting.model(), path) {
         return Ok(PathEnd::Nothing);
     }
-    Ok(standing)
+    match typed_at(alloc, setting, path)? {
+        PathEnd::Nothing => standing_around(alloc, setting, path.as_bytes()),
+        standing => Ok(standing),
+    }
+}
+
+/// What the type of the module of a path says that stands there. No more of the model is looked at
+/// than that rests on.
+fn typed_at(alloc: Global, setting: &ModelSetting<'_>, path: &str) -> Result<PathEnd, NoMemory> {
+    if !is_path(alloc, path)? {
+        return Ok(PathEnd::Nothing);
+    }
+    let mut table = empty_table(alloc, setting);
+    let site = module_of(alloc, path.as_bytes())?;
+    let key = Key {
+        site,
+        what: What::Type,
+    };
+    match value_of(alloc, setting, &mut table, key)? {
+        Ok(place) => match table.value(place) {
+            Some(Found::Value(Value::Whole(number))) => Ok(standing_of(setting.types(), *number)),
+            _ => Ok(PathEnd::Nothing),
+        },
+        Err(ModelFault::UnknownType) => Ok(PathEnd::Nothing),
+        Err(_) => Ok(PathEnd::Unknown),
+    }
 }
 
 /// Says that a message to a path is discarded, where it is.
@@ -132,11 +180,10 @@ fn tell_standing(told: &mut Explanation, path: &[u8], standing: PathEnd) {
     told.say(": as the model is now, the message is discarded");
 }
 
-/// The model in which messages arrive, with its values, which take the longest to find. Files that
-/// make no model have none.
+/// The model in which messages arrive. Files that make no model have none.
 #[derive(Drop)]
 pub struct MessageModel {
-    model: Option<EvaluatedModel>,
+    model: Option<Model>,
 }
 
 impl MessageModel {
@@ -144,7 +191,7 @@ impl MessageModel {
     pub fn new(alloc: Global, sources: &Sources<'_>) -> Result<MessageModel, NoMemory> {
         let config = sources.config.as_bytes();
         let model = match model_of(alloc, sources.texts, sources.ini, config) {
-            Ok(model) => Some(EvaluatedModel::new(alloc, model)?),
+            Ok(model) => Some(model),
             Err(_) => None,
         };
         Ok(MessageModel { model })
@@ -155,8 +202,8 @@ impl MessageModel {
     pub fn discarded_line(&self, alloc: Global, path: &[u8]) -> Result<Text, NoMemory> {
         let mut told = Explanation::new(alloc);
         if let Some(model) = &self.model {
-            let answers = PlainAnswers::new(alloc, model)?;
-            let standing = standing_at(alloc, &answers, shown(path))?;
+            let setting = ModelSetting::new(alloc, model)?;
+            let standing = standing_at(alloc, &setting, shown(path))?;
             tell_standing(&mut told, path, standing);
         }
         told.said()

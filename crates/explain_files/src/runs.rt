@@ -396,6 +396,80 @@ fn tell_parameter(
     Ok(true)
 }
 
+/// The parameter of that name that a type declares.
+fn parameter_named<'a>(of: &'a TypeDeclaration, name: &[u8]) -> Option<&'a Declaration> {
+    for line in of.lines.as_slice() {
+        if let SectionLine::Declaration(declaration) = line {
+            if declaration.name.is(name) {
+                return Some(declaration);
+            }
+        }
+    }
+    None
+}
+
+/// Says that a module can't take the value of its parameter of that name, which was written so,
+/// where that is known.
+fn say_not_taken(told: &mut Explanation, path: &str, name: &[u8], written: Option<&[u8]>) {
+    told.say_front(path.as_bytes());
+    told.say(": the module can't take the value ");
+    if let Some(value) = written {
+        told.say_name(value);
+        told.say(" ");
+    }
+    told.say("of its parameter ");
+    told.say_name(name);
+}
+
+/// Says that a module can't take the value of its parameter of that name, which an entry of the ini
+/// text gives, with its line.
+fn tell_not_taken_in_ini(
+    told: &mut Explanation,
+    sources: &Sources<'_>,
+    it: &Found<'_>,
+    path: &str,
+    name: &[u8],
+) -> Result<(), NoMemory> {
+    let alloc = told.alloc();
+    let whole = path_under(alloc, it.path, name)?;
+    let model = it.answers.model();
+    let (lines, chain) = (model.ini.lines(), model.chain.as_slice());
+    match entry_giving(alloc, lines, chain, shown(whole.as_bytes()))? {
+        Some(found) => {
+            told.say_place(sources.ini_path, found.line);
+            told.say(": ");
+            say_not_taken(told, path, name, Some(found.entry.value.as_bytes()));
+        }
+        None => say_not_taken(told, path, name, None),
+    }
+    Ok(())
+}
+
+/// Says that a module can't take the value of the parameter that its message names, and where that
+/// is given. Answers whether the message names one.
+fn tell_not_taken(
+    told: &mut Explanation,
+    sources: &Sources<'_>,
+    it: &Found<'_>,
+    fault: ToldFault<'_>,
+) -> Result<bool, NoMemory> {
+    let RunFault::ModuleFailed(text) = fault.fault else {
+        return Ok(false);
+    };
+    let name = text.as_bytes();
+    if parameter_named(it.of, name).is_none() {
+        return Ok(false);
+    }
+    match given_in_ned(told.alloc(), it, name)? {
+        Some(_) => {
+            tell_place(told, sources, it, name);
+            say_not_taken(told, fault.path, name, None);
+        }
+        None => tell_not_taken_in_ini(told, sources, it, fault.path, name)?,
+    }
+    Ok(true)
+}
+
 /// Says which parameters a type declares.
 fn tell_parameters(told: &mut Explanation, of: &TypeDeclaration) {
     let mut before = "";
@@ -518,6 +592,9 @@ fn tell_own(
     fault: ToldFault<'_>,
     classes: &[&[u8]],
 ) -> Result<bool, NoMemory> {
+    if tell_not_taken(told, sources, it, fault)? {
+        return Ok(true);
+    }
     match parameter_fault(fault.fault) {
         None => Ok(tell_of_call(told, fault, it.of, classes)),
         Some(found) => tell_parameter(told, sources, fault.path, it, found),

@@ -7,7 +7,7 @@ use explain_types::foreign::{has_mark, tell_mark};
 use explain_types::tokens::{tell_token, token_of};
 use ned_syntax::parse::tokens_left;
 use ned_tokens::lines::tokenize;
-use ned_tokens::token::{Mark, Token};
+use ned_tokens::token::{Keyword, Mark, Token};
 use sim_values::NoMemory;
 use sqlite_items::Items;
 use std::alloc::Global;
@@ -187,6 +187,8 @@ fn wants_own(
         Ok(Own::Double | Own::Pattern) => wants(told, tokens, "@"),
         Ok(Own::Path) => wants(told, tokens, "="),
         Ok(Own::Braces) => wants(told, tokens, "1"),
+        Ok(Own::Comparison) => wants(told, tokens, ">"),
+        Ok(Own::Default) => wants(told, tokens, "("),
         _ => true,
     }
 }
@@ -328,6 +330,30 @@ pub fn tell_depth_of_value(told: &mut Explanation, value: &[u8]) {
     }
 }
 
+/// The line of the first import that goes on over the beginning of a block, as no `;` ends it
+/// before.
+fn unended_import(tokens: &[Token], lines: &[usize]) -> Option<usize> {
+    let mut import = None;
+    for (token, line) in tokens.iter().zip(lines.iter()) {
+        match token {
+            Token::Word(Keyword::Import) if import.is_none() => import = Some(*line),
+            Token::Mark(Mark::Semi) => import = None,
+            Token::Mark(Mark::Open) if import.is_some() => return import,
+            _ => {}
+        }
+    }
+    None
+}
+
+/// Says in which line an import stands that has no end of its own.
+fn tell_import(told: &mut Explanation, import: Option<usize>) {
+    if let Some(line) = import {
+        told.say("; the import in line ");
+        told.say_number(line);
+        told.say(" goes on to the next ';', as it has none of its own");
+    }
+}
+
 /// Says what is wrong with a text that is no NED, and what could stand there. It can't go on at the
 /// line of that number.
 pub fn tell_syntax(told: &mut Explanation, text: &[u8], number: usize) {
@@ -337,7 +363,9 @@ pub fn tell_syntax(told: &mut Explanation, text: &[u8], number: usize) {
     match tokenize(told.alloc(), text) {
         Ok(list) => {
             let mut list = list;
+            let import = unended_import(list.tokens.as_slice(), list.lines.as_slice());
             tell_list(told, &mut list.tokens, line_at(text, number));
+            tell_import(told, import);
         }
         Err(error) => told.refuse(NoMemory::from(error)),
     }
