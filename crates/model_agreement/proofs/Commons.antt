@@ -1,5 +1,5 @@
 -- Questions about what two models have in common.
-use Rattle.std.proofs.Common.{◌≡◌, Bool, true, false, ◌&&◌, List, [], ◌∷◌, ap}
+use Rattle.std.proofs.Common.{◌≡◌, Bool, true, false, ◌&&◌, List, [], ◌∷◌, ap, refl}
 use Rattle.model_questions.specs.declared.answer.Answer.TheVariants as answer
 use Rattle.model_questions.specs.declared.answer.AskedQuestion.{AskedQuestion}
 use Rattle.model_questions.specs.declared.answer.Question.{Question}
@@ -14,12 +14,12 @@ use Rattle.model_agreement.specs.Common.{is_about, are_about, IsCommon}
 
 -- both give them the same answers
 pub alike : (m n : Answers) (c : Common) (rs : List Record) (q : Question) → IsCommon m n c → is_about c q ≡ true → answer_of m rs q ≡ answer_of n rs q
-alike m n c rs Root h e = cc
-alike m n c rs (Build id) h e = cc
-alike m n c rs (Param id name) h e = cc
-alike m n c rs (GateSize id name) h e = cc
-alike m n c rs (Hop id name index) h e = cc
-alike m n c rs (HopBack id name index) h e = cc
+alike m n c rs Root h e = h.modules_are e rs Root refl
+alike m n c rs (Build id) h e = h.modules_are e rs (Build id) refl
+alike m n c rs (Param id name) h e = h.modules_are e rs (Param id name) refl
+alike m n c rs (GateSize id name) h e = h.modules_are e rs (GateSize id name) refl
+alike m n c rs (Hop id name index) h e = h.modules_are e rs (Hop id name index) refl
+alike m n c rs (HopBack id name index) h e = h.modules_are e rs (HopBack id name index) refl
 alike m n c rs (BeyondLimit time) h e = ap (λ limit. answer.Beyond (is_beyond limit time)) (h.limit_is e)
 alike m n c rs (InjectionBefore due last) h e = ap (λ (is : List Injection). answer.Injection (injection_before due last is)) (h.injections_are e)
 

@@ -22,7 +22,7 @@ use Rattle.model_questions.specs.declared.answer.Neighbour.{Neighbour}
 use Rattle.model_questions.specs.declared.answer.Neighbour.TheVariants as neighbour
 use Rattle.model_questions.specs.declared.answer.NextGate.{NextGate}
 use Rattle.model_injections.specs.declared.injection.Injection.{Injection}
-use Rattle.model_agreement.specs.Same.{same_value, same_class, same_index, same_built, same_inside, same_due, same_message, same_injection, same_injections, same_next, same_gate, same_neighbour, same_channel, same_hop, same_end, same_fault, same_answer}
+use Rattle.model_agreement.specs.Same.{same_value, same_class, same_index, same_built, same_inside, same_due, same_message, same_injection, same_injections, same_next, same_gate, same_neighbour, same_channel, same_hop, same_end, same_fault, same_answer, same_names}
 
 both : (a b : Bool) → (a && b) ≡ true → (a ≡ true) × (b ≡ true)
 both true b e = (refl, e)
@@ -161,6 +161,14 @@ answer_is (answer.Beyond a) (answer.Beyond b) e = ap answer.Beyond ((booleans_De
 answer_is (answer.Injection a) (answer.Injection b) e = ap answer.Injection (next_is a b e)
 answer_is answer.Absent answer.Absent e = refl
 answer_is _ _ e = cc
+
+pub names_are : (xs ys : List (List ℕ)) → same_names xs ys ≡ true → xs ≡ ys
+names_are [] [] e = refl
+names_are [] (b ∷ ys) e = cc
+names_are (a ∷ xs) [] e = cc
+names_are (a ∷ xs) (b ∷ ys) e =
+    let h = both (bytes_eq a b) (same_names xs ys) e in
+    ap (λ (c : List ℕ). c ∷ xs) ((bytes_eq-Decides a b).0 h.0) ∙ ap (λ (cs : List (List ℕ)). b ∷ cs) (names_are xs ys h.1)
 
 pub injections_are : (a b : List Injection) → same_injections a b ≡ true → a ≡ b
 injections_are [] [] e = refl

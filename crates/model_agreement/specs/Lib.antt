@@ -1,3 +1,4 @@
 pub mod Common
+pub mod Models
 pub mod Narrowing
 pub mod Same

@@ -77,6 +77,12 @@ same_injections [] (b ∷ ys) = false
 same_injections (a ∷ xs) [] = false
 same_injections (a ∷ xs) (b ∷ ys) = same_injection a b && same_injections xs ys
 
+abbrev pub same_names : List (List ℕ) → List (List ℕ) → Bool
+same_names [] [] = true
+same_names [] (b ∷ ys) = false
+same_names (a ∷ xs) [] = false
+same_names (a ∷ xs) (b ∷ ys) = bytes_eq a b && same_names xs ys
+
 abbrev pub same_gate : Gate → Gate → Bool
 same_gate a b = bytes_eq a.name b.name
     && (sameb direction_kind.the_type a.direction b.direction && (a.size == b.size))

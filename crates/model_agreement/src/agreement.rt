@@ -1,6 +1,6 @@
 //! Up to which event of a run two models agree.
 
-ghost use Rattle.std.specs.Prelude.{◌≡◌, IfOk, Some, None};
+ghost use Rattle.std.specs.Prelude.{◌≡◌, true, IfOk, Some, None};
 ghost use Rattle.std.specs.Bool.{Decides};
 ghost use Rattle.model_answers.specs.Answering.{answers_of};
 ghost use Rattle.model_questions.specs.Answers.{answer_of};
@@ -10,6 +10,7 @@ ghost use Rattle.run_question_log.specs.Entries.{asked_in, noted_in};
 ghost use Rattle.run_semantics.specs.Agreement.{Agrees, IsAgreement};
 ghost use Rattle.model_agreement.specs.Common.{IsCommon};
 ghost use Rattle.model_agreement.specs.Narrowing.{Narrows};
+ghost use Rattle.model_agreement.specs.Models.{RestOnSame};
 
 use crate::common::{Common, common_of};
 use crate::same::same_answer;
@@ -143,14 +144,16 @@ fn agreed_up_to(
     alloc: Global,
     one: &PlainAnswers<'_>,
     other: &PlainAnswers<'_>,
+    same: bool,
     records: &[Record],
     asked: &[LogEntry],
     last: u64,
 ) -> Result<Option<u64>, NoMemory>
+    requires { same ≡ true → RestOnSame one.now other.now }
     ensures { IfOk result (λ valid. IsAgreement (answers_of one.now) (answers_of other.now)
         records.now last (noted_in asked.now) valid) }
 {
-    let common = common_of(one, other);
+    let common = common_of(one, other, same);
     let mut valid = last;
     for entry in asked {
         match narrowed(alloc, common, one, other, records, entry, valid)? {
@@ -163,19 +166,22 @@ fn agreed_up_to(
 
 /// The greatest event, up to the last one, such that both models give all questions up to it the
 /// same answers, with the modules of these records. None where they differ on a question of event
-/// zero.
+/// zero. Where it is known that the values of both rest on the same no question about modules is
+/// asked.
 pub fn agreement(
     alloc: Global,
     one: &EvaluatedModel,
     other: &EvaluatedModel,
+    same: bool,
     records: &[Record],
     asked: &[LogEntry],
     last: u64,
 ) -> Result<Option<u64>, NoMemory>
+    requires { same ≡ true → RestOnSame one.now other.now }
     ensures { IfOk result (λ valid. IsAgreement (answers_of one.now) (answers_of other.now)
         records.now last (noted_in asked.now) valid) }
 {
     let first = PlainAnswers::new(alloc, one)?;
     let second = PlainAnswers::new(alloc, other)?;
-    agreed_up_to(alloc, &first, &second, records, asked, last)
+    agreed_up_to(alloc, &first, &second, same, records, asked, last)
 }

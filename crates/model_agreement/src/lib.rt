@@ -3,4 +3,5 @@
 
 pub mod agreement;
 pub mod common;
+pub mod models;
 pub mod same;

@@ -6,7 +6,7 @@ ghost use Rattle.model_agreement.specs.Same.{same_value, same_class, same_index,
 ghost use Rattle.model_agreement.specs.Same.{same_inside, same_due, same_message, same_injection};
 ghost use Rattle.model_agreement.specs.Same.{same_injections, same_next, same_gate, same_neighbour};
 ghost use Rattle.model_agreement.specs.Same.{same_channel, same_hop, same_end, same_fault};
-ghost use Rattle.model_agreement.specs.Same.{same_answer};
+ghost use Rattle.model_agreement.specs.Same.{same_answer, same_names};
 
 use model_injections::injection::Injection;
 use model_questions::answer::{Answer, Built, Channel, Neighbour, NextGate};
@@ -135,6 +135,32 @@ pub fn same_injections(one: &[Injection], other: &[Injection]) -> bool
         return false;
     }
     same_listed(one, other)
+}
+
+/// Whether two lists of as many names are the same.
+fn same_names_listed(one: &[Text], other: &[Text]) -> bool
+    requires { length one.now ≡ length other.now }
+    ensures { result ≡ same_names one.now other.now }
+{
+    for (index, name) in one.iter().enumerate() {
+        let Some(second) = other.get(index) else {
+            return false;
+        };
+        if !name.is(second.as_bytes()) {
+            return false;
+        }
+    }
+    true
+}
+
+/// Whether two lists of names are the same.
+pub(crate) fn same_names(one: &[Text], other: &[Text]) -> bool
+    ensures { result ≡ true → one.now ≡ other.now }
+{
+    if one.len() != other.len() {
+        return false;
+    }
+    same_names_listed(one, other)
 }
 
 fn same_gate(one: &Gate, other: &Gate) -> bool

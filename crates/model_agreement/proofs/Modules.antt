@@ -1,0 +1,57 @@
+-- Models whose values rest on the same give the same answers about modules.
+use Rattle.std.proofs.Common.{◌≡◌, ◌∙◌, ℕ, true, List, Option, Some, None, ap, refl, sym}
+use Rattle.inside_keys.specs.Settings.{ModuleRules}
+use Rattle.model_answers.specs.Answering.{answers_of}
+use Rattle.model_answers.specs.Insides.{gates_answer, hop_answer, inside_answer}
+use Rattle.model_answers.specs.Keyed.{lines_of, names_in, param_answer, root_answer, type_in}
+use Rattle.model_data.specs.declared.model.Model.{Model}
+use Rattle.model_data.specs.Models.{network_of, time_limit_of}
+use Rattle.model_injections.specs.declared.injection.Injection.{Injection}
+use Rattle.model_inside.specs.declared.hops.Way.TheVariants.{Onwards, Back}
+use Rattle.model_questions.specs.declared.answer.Question.{Question}
+use Rattle.model_questions.specs.declared.answer.Question.TheVariants.{Root, Build, Param, GateSize, Hop, HopBack, BeyondLimit, InjectionBefore}
+use Rattle.model_questions.specs.declared.record.Record.{Record}
+use Rattle.model_questions.specs.Answers.{Answers, answer_of}
+use Rattle.model_questions.specs.Questions.{is_of_modules}
+use Rattle.model_questions.specs.Records.{path_along}
+use Rattle.model_settings.specs.Standings.{setting_of}
+use Rattle.ned_trees.specs.declared.declarations.TypeDeclaration.{TypeDeclaration}
+use Rattle.model_agreement.specs.Models.{RestOnSame}
+
+-- the answers by what they rest on
+abbrev answers_by : ModuleRules → Option TypeDeclaration → Option ℕ → List Injection → Answers
+answers_by s network limit is = record {
+  root = root_answer s network;
+  inside = λ p. inside_answer s (path_along p) (type_in s p);
+  names = λ p. names_in (lines_of (type_in s p));
+  value = λ p. param_answer s (path_along p) (type_in s p);
+  gates = λ p. gates_answer s (path_along p) (type_in s p);
+  hop = λ p. hop_answer s Onwards (path_along p) (type_in s p);
+  hop_back = λ p. hop_answer s Back (path_along p) (type_in s p);
+  time_limit = limit;
+  injections = is;
+}
+
+by_what : (m : Model) → answers_of m ≡ answers_by (setting_of m) (network_of m) (time_limit_of m) m.injections
+unfolding answers_of
+by_what m = refl
+
+-- what is answered of modules rests on neither the time limit nor the messages
+of_modules : (s : ModuleRules) (network : Option TypeDeclaration) (limit other : Option ℕ) (is js : List Injection) (rs : List Record) (q : Question) → is_of_modules q ≡ true
+    → answer_of (answers_by s network limit is) rs q ≡ answer_of (answers_by s network other js) rs q
+of_modules s network limit other is js rs Root e = refl
+of_modules s network limit other is js rs (Build id) e = refl
+of_modules s network limit other is js rs (Param id name) e = refl
+of_modules s network limit other is js rs (GateSize id name) e = refl
+of_modules s network limit other is js rs (Hop id name index) e = refl
+of_modules s network limit other is js rs (HopBack id name index) e = refl
+of_modules s network limit other is js rs (BeyondLimit time) e = cc
+of_modules s network limit other is js rs (InjectionBefore due last) e = cc
+
+pub same_answers : (m n : Model) → RestOnSame m n → (rs : List Record) (q : Question) → is_of_modules q ≡ true → answer_of (answers_of m) rs q ≡ answer_of (answers_of n) rs q
+same_answers m n h rs q e =
+    ap (λ (a : Answers). answer_of a rs q) (by_what m)
+    ∙ of_modules (setting_of m) (network_of m) (time_limit_of m) (time_limit_of n) m.injections n.injections rs q e
+    ∙ ap (λ (s : ModuleRules). answer_of (answers_by s (network_of m) (time_limit_of n) n.injections) rs q) h.setting
+    ∙ ap (λ (t : Option TypeDeclaration). answer_of (answers_by (setting_of n) t (time_limit_of n) n.injections) rs q) h.network
+    ∙ sym (ap (λ (a : Answers). answer_of a rs q) (by_what n))
