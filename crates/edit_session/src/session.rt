@@ -5,7 +5,7 @@ ghost use Rattle.std.specs.Prelude.{IfErr, length, option_map, option_copied};
 ghost use Rattle.sim_values.specs.Memory.{no_memory};
 ghost use Rattle.model_data.specs.declared.model.Model.{Model};
 ghost use Rattle.model_answers.specs.Answering.{answers_of};
-ghost use Rattle.model_settings.specs.Standings.{setting_of};
+ghost use Rattle.model_agreement.specs.Models.{RestOnSame};
 ghost use Rattle.result_lines.specs.ScalarText.{scalar_text};
 ghost use Rattle.result_lines.specs.VectorText.{vector_text};
 ghost use Rattle.model_reading.specs.Models.{IsModelOf, IsRuledOut, Refuses};
@@ -20,6 +20,7 @@ ghost use Rattle.checkpoint_runs.specs.Kept.{kept_up_to, AreGood, HasGood, HasNo
 ghost use Rattle.checkpoint_runs.specs.Positions.{events_behind, starts_within, HasStored};
 ghost use Rattle.checkpoint_runs.specs.Running.{is_back, waiting_at};
 ghost use Rattle.kernel.specs.declared.request.Request.{Request};
+ghost use Rattle.edit_session.specs.Lasting.{IsTouched};
 ghost use Rattle.edit_session.specs.Reuse.{IsKnown, IsValidTo};
 ghost use Rattle.edit_session.specs.Sessions.{editing_of, stood_in, IsChangeOf, IsSound};
 ghost use Rattle.edit_session.specs.Sessions.{KeepsModel};
@@ -27,7 +28,7 @@ ghost use Rattle.kernel.specs.Kernels.{world_in, HasKinds};
 ghost use Rattle.checkpoints.specs.Stored.{counts_in, most_stored};
 ghost use Rattle.model_edits.specs.declared.edit.Edit.{Edit};
 
-use crate::values::{evaluated, keeps_values};
+use crate::values::{Following, SessionModel, Touched, touched_by};
 use checkpoint_runs::observer::Observer;
 use checkpoint_runs::running::{Ended, Phase, Point, RunStatus, Runner, Stood};
 use checkpoints::positions::Positions;
@@ -84,7 +85,7 @@ pub struct Edited {
 /// What an edit changes: the model, and what is told of it.
 #[derive(Drop)]
 pub struct Change {
-    pub model: EvaluatedModel,
+    pub model: SessionModel,
     pub edited: Edited,
 }
 
@@ -126,7 +127,7 @@ pub struct SupplyFault {
 pub struct Session<C: Catalogue> {
     alloc: Global,
     runner: Runner<C>,
-    model: EvaluatedModel,
+    model: SessionModel,
     phase: Phase,
     done: Option<Done>,
     /// The last event of a run of the model whose questions the kernel has, where there is one.
@@ -173,13 +174,22 @@ impl<C: Catalogue> Session<C> {
     {
         let model = model_of(alloc, texts, ini, config)?;
         match EvaluatedModel::new(alloc, model) {
-            Ok(model) => Ok(Session::of_model(alloc, model, interval)),
+            Ok(model) => Ok(Session::begun(alloc, SessionModel::of_text(model), interval)),
             Err(error) => Err(BeginFault::NoMemory(error)),
         }
     }
 
     /// A session of this model, which no call but an accepted edit changes.
     pub fn of_model(alloc: Global, model: EvaluatedModel, interval: u64) -> Session<C>
+        requires { 1 ≤ interval }
+        ensures sound { IsSound C.behaviour SimpleModule-box result }
+        ensures editing { editing_of SimpleModule-box result ≡ fresh_editing model interval }
+    {
+        Session::begun(alloc, SessionModel::of_lines(model), interval)
+    }
+
+    /// A session of this model.
+    fn begun(alloc: Global, model: SessionModel, interval: u64) -> Session<C>
         requires { 1 ≤ interval }
         ensures sound { IsSound C.behaviour SimpleModule-box result }
         ensures editing { editing_of SimpleModule-box result ≡ fresh_editing model interval }
@@ -246,19 +256,25 @@ impl<C: Catalogue> Session<C> {
             IfErr result (λ r. IsEditRuledOut before.model edit r) }
     {
         let given = self.number_given(&edit);
-        let stay = keeps_values(&edit);
+        let touched = touched_by(&edit);
         let model = edited(self.alloc, self.model.model(), edit)?;
-        match self.change_to(model, stay, given) {
+        match self.change_to(model, touched, given) {
             Ok(change) => Ok(change),
             Err(error) => Err(Refusal::NoMemory(error)),
         }
     }
 
-    /// The change to this model, in which the injection of that number was added, if one was. Where
-    /// the values of the session's model stay, none is found anew.
-    fn change_to(&self, model: Model, stay: bool, given: Option<u64>) -> Result<Change, NoMemory>
+    /// The change to this model, of which the edit changed so much, and in which the injection of
+    /// that number was added, if one was. Where the values of the session's model stay, none is found
+    /// anew, and no answer that rests on them alone is compared.
+    fn change_to(
+        &self,
+        model: Model,
+        touched: Touched,
+        given: Option<u64>,
+    ) -> Result<Change, NoMemory>
         requires sound { IsSound C.behaviour SimpleModule-box self.now }
-        requires stay { stay ≡ true → setting_of model ≡ setting_of self.now.model }
+        requires touched { IsTouched touched self.now.model model }
         ensures model { IfOk result (λ change. change.model ≡ model) }
         ensures injection { IfOk result
             (λ change. change.edited.injection ≡ last_used model.last_injection given) }
@@ -275,8 +291,8 @@ impl<C: Catalogue> Session<C> {
             (kept_up_to change.edited.valid_to self.now.runner.positions).stored) }
     {
         let injection = last_used(model.last_injection, given);
-        let model = evaluated(self.alloc, &self.model, model, stay)?;
-        let valid_to = self.valid_to(&model)?;
+        let Following { model, same } = self.model.followed_by(self.alloc, model, touched)?;
+        let valid_to = self.valid_to(model.evaluated(), same)?;
         Ok(Change {
             model,
             edited: Edited {
@@ -286,9 +302,11 @@ impl<C: Catalogue> Session<C> {
         })
     }
 
-    /// Up to which event the last run is that of this model too.
-    fn valid_to(&self, model: &EvaluatedModel) -> Result<Option<u64>, NoMemory>
+    /// Up to which event the last run is that of this model too. It may be known that the values of
+    /// its modules rest on the same as those of the session's.
+    fn valid_to(&self, model: &EvaluatedModel, same: bool) -> Result<Option<u64>, NoMemory>
         requires sound { IsSound C.behaviour SimpleModule-box self.now }
+        requires same { same ≡ true → RestOnSame self.now.model model.now }
         ensures valid { let before = editing_of SimpleModule-box self.now in
             IfOk result (λ valid. IsValidTo C.behaviour (answers_of before.model)
             (answers_of model.now) before.known valid) }
@@ -306,8 +324,9 @@ impl<C: Catalogue> Session<C> {
         let kernel = &self.runner.kernel;
         agreement(
             self.alloc,
-            &self.model,
+            self.model.evaluated(),
             model,
+            same,
             kernel.records(),
             kernel.questions(),
             last,
@@ -431,7 +450,7 @@ impl<C: Catalogue> Session<C> {
         self.give_up();
         match self
             .runner
-            .advance(self.alloc, &self.model, phase, limit, observer)?
+            .advance(self.alloc, self.model.evaluated(), phase, limit, observer)?
         {
             RunStatus::Waits(request) => {
                 // What was asked after the event where it begins is given up.
@@ -445,7 +464,7 @@ impl<C: Catalogue> Session<C> {
                 let report = report_of(self.alloc, &outcome, start, count)?;
                 let files = prepare(
                     self.alloc,
-                    &self.model,
+                    self.model.evaluated(),
                     self.runner.kernel.records(),
                     self.runner.kernel.finished(),
                     self.runner.kernel.scalars(),

@@ -1,15 +1,17 @@
-use Rattle.std.proofs.Common.{sym, subst, ◌∙◌}
+use Rattle.std.proofs.Common.{sym, subst}
 use Rattle.model_data.specs.declared.model.Model.{Model}
 use Rattle.model_edits.specs.Edited.{IsEditOf}
 use Rattle.edit_session.specs.Sessions.{editing_of}
 use Rattle.edit_session.proofs.Changes.{changed_by}
-use Rattle.edit_session.proofs.Lasting.{values_stay}
+use Rattle.edit_session.proofs.Lasting.{touches}
+use Rattle.edit_session.specs.Lasting.{IsTouched}
+use Rattle.edit_session.specs.declared.values.Touched.{Touched}
 use Rattle.edit_session.proofs.session.Session.change.Goals as goal
 
-pub change_to-requires-clause-stay : goal.change_to-requires-clause-stay
-change_to-requires-clause-stay g c = λ t.
-    values_stay c.args.self.now.model c.in_ok-model.model c.args.edit (subst (λ (m : Model). IsEditOf m c.args.edit c.in_ok-model.model) c.model.ensures c.in_ok-model.ensures.accepted)
-    (sym c.keeps_values-stay.ensures ∙ t)
+pub change_to-requires-clause-touched : goal.change_to-requires-clause-touched
+change_to-requires-clause-touched g c =
+    let is = subst (λ (m : Model). IsEditOf m c.args.edit c.in_ok-model.model) c.model.ensures c.in_ok-model.ensures.accepted in
+    subst (λ (t : Touched). IsTouched t c.args.self.now.model c.in_ok-model.model) (sym c.touched_by-touched.ensures) (touches c.args.self.now.model c.in_ok-model.model c.args.edit is)
 
 pub returns-in-Ok-clause-changed : goal.returns-in-Ok-clause-changed
 returns-in-Ok-clause-changed g c = record {

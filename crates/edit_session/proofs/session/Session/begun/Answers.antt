@@ -2,7 +2,7 @@ use Rattle.kernel.specs.Kernels.{boxes_in, world_in}
 use Rattle.kernel_boxes.specs.Saved.{seats_held}
 use Rattle.edit_session.proofs.Beginning.{begins_fresh}
 use Rattle.edit_session.proofs.Valid.{kept_begun}
-use Rattle.edit_session.proofs.session.Session.of_model.Goals as goal
+use Rattle.edit_session.proofs.session.Session.begun.Goals as goal
 
 pub returns-clause-sound : goal.returns-clause-sound
 returns-clause-sound g c =
