@@ -2,6 +2,7 @@ pub mod Counting
 pub mod Filling
 pub mod Going
 pub mod Good
+pub mod Shown
 pub mod Whole
 pub mod Standing
 pub mod Back

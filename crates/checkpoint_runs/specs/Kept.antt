@@ -12,6 +12,7 @@ use Rattle.module_api.specs.Behaviour.{Behaviour}
 use Rattle.model_questions.specs.Answers.{Answers}
 use Rattle.run_semantics.specs.declared.outcome.Outcome.{Outcome}
 use Rattle.run_semantics.specs.Run.{Running, Part, Ran, after, run_to, standing, is_fault}
+use Rattle.run_semantics.specs.Laws.{GoesOn}
 use Rattle.run_semantics.specs.World.{World, HasRoom}
 use Rattle.kernel_boxes.specs.Saved.{seats_held}
 use Rattle.kernel_boxes.specs.Staying.{first_without}
@@ -157,6 +158,8 @@ module _ {C X : Type 0} {Y : X → Type 0} where
       (before after : Runner C X Y) : Type 0 where
     pub going : IsGoing b m members limit after
     pub count : (world_in members after.kernel).count ≡ event
+    pub records : GoesOn (world_in members after.kernel).records
+        (world_in members before.kernel).records
     pub none : waiting_in members after ≡ []
     pub needs_none : needed_by b m (Some event) (kept_back b m event (standing_in members before))
         ≡ None

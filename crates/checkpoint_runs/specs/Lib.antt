@@ -1,3 +1,4 @@
 pub mod Positions
 pub mod Kept
+pub mod Shown
 pub mod Running

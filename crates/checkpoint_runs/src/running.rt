@@ -1,11 +1,14 @@
 //! A run, from setup or from a position, and the positions that it leaves.
 
 ghost use Rattle.std.specs.Prelude.{◌≡◌, ◌≤◌, ◌&&◌, ◌++◌, ◌∷◌, [], nat_lt, not, true, None, OnOk};
-ghost use Rattle.std.specs.Prelude.{OnErr, IfOk, IfErr, length};
+ghost use Rattle.std.specs.Prelude.{OnErr, IfOk, IfErr, List, length};
 ghost use Rattle.model_answers.specs.Answering.{answers_of};
 ghost use Rattle.run_semantics.specs.Run.{prepared, run_to, settled, stage_of, standing};
 ghost use Rattle.kernel_actions.specs.Positions.{position_of};
 ghost use Rattle.kernel_call_views.specs.Tables.{AreShown};
+ghost use Rattle.model_questions.specs.Answers.{Answers as Answered};
+ghost use Rattle.model_questions.specs.declared.record.Record.{Record};
+ghost use Rattle.run_semantics.specs.Laws.{GoesOn};
 ghost use Rattle.kernel.specs.Kernels.{boxes_in, world_in, ran_in, HasKinds};
 ghost use Rattle.checkpoints.specs.Stored.{counts_in, counts_of, is_multiple, last_of, AreBelow};
 ghost use Rattle.checkpoints.specs.Stored.{AreRising, IsBegun};
@@ -17,6 +20,7 @@ ghost use Rattle.checkpoint_runs.specs.Kept.{taken_if};
 ghost use Rattle.checkpoint_runs.specs.Kept.{waiting_in, HasBegun, HasGood, HasGoneOn, HasLeft};
 ghost use Rattle.checkpoint_runs.specs.Kept.{HasNoneAlone, IsBack, IsBesideKernel, IsGoing};
 ghost use Rattle.checkpoint_runs.specs.Positions.{last_count, positions_after, start_of, HasStored};
+ghost use Rattle.checkpoint_runs.specs.Shown.{IsShownAfter};
 ghost use Rattle.kernel_boxes.specs.Seats.{BoxAt, AreBelow as AreOfSmallerIds};
 ghost use Rattle.kernel_boxes.specs.Saved.{instances_held};
 ghost use Rattle.checkpoint_runs.specs.declared.running.Phase.{Phase};
@@ -463,6 +467,8 @@ impl<C: Catalogue> Runner<C> {
         ensures stopped { let from = (world_in SimpleModule-box self.old.kernel).count in
             HasBegun C.behaviour A.answers limit from self.new.stood self.old.positions
             self.new.positions }
+        ensures shown { let left = world_in SimpleModule-box self.new.kernel in
+            OnOk result (AreShown A.answers left.records shown.new) }
     {
         let from = self.kernel.count();
         observer.begin(from, limit);
@@ -500,6 +506,8 @@ impl<C: Catalogue> Runner<C> {
             ≡ positions_after C.behaviour A.answers limit (counts_in self.old.positions)) }
         ensures stopped { HasStored C.behaviour A.answers limit (counts_in self.old.positions)
             self.new.stood (counts_in self.new.positions) }
+        ensures shown { let left = world_in SimpleModule-box self.new.kernel in
+            OnOk result (AreShown A.answers left.records shown.new) }
     {
         match self.kernel.start(alloc, model, shown, &mut self.waiting)? {
             Some(outcome) => self.kernel.finish(alloc, model, shown, outcome),
@@ -511,13 +519,14 @@ impl<C: Catalogue> Runner<C> {
     }
 
     /// Runs from setup, or finds the box that is needed first. There is no position after which it
-    /// could begin.
+    /// could begin. What calls show is found anew.
     fn run_from_setup<M: ModelMarker, W: Observer>(
         &mut self,
         alloc: Global,
         model: &EvaluatedModel,
         phase: Phase,
         limit: u64,
+        shown: &mut CallViews,
         observer: &mut W,
     ) -> Result<RunStatus<Ended>, NoMemory>
         requires asked { answers_of model.now ≡ M.answers }
@@ -539,7 +548,10 @@ impl<C: Catalogue> Runner<C> {
             (counts_in self.new.positions) advance) }
         ensures stopped { HasStored C.behaviour M.answers limit (counts_in self.old.positions)
             self.new.stood (counts_in self.new.positions) }
+        ensures shown { let left = world_in SimpleModule-box self.new.kernel in
+            IfOk result (λ advance. IsShownAfter M.answers left.records shown.new advance) }
     {
+        *shown = CallViews::new(alloc);
         match self.stand::<M>(alloc, model, phase)? {
             RunStatus::Done(Some(outcome)) => Ok(RunStatus::Done(Ended {
                 start: None,
@@ -548,8 +560,7 @@ impl<C: Catalogue> Runner<C> {
             RunStatus::Waits(request) => Ok(RunStatus::Waits(request)),
             RunStatus::Done(None) => {
                 let mut answers = AskedModel::<M>::new(alloc, model)?;
-                let mut shown = CallViews::new(alloc);
-                let outcome = self.run_to_end(alloc, &mut answers, &mut shown, limit, observer)?;
+                let outcome = self.run_to_end(alloc, &mut answers, shown, limit, observer)?;
                 Ok(RunStatus::Done(Ended {
                     start: None,
                     outcome,
@@ -560,12 +571,14 @@ impl<C: Catalogue> Runner<C> {
 
     /// Runs the model for at most so many events, from the last position up to there or from setup,
     /// or finds the box that is needed first. The observer is told of each event that is executed.
+    /// What calls show of modules is taken from the table, and what is not there is put there.
     pub fn advance<W: Observer>(
         &mut self,
         alloc: Global,
         model: &EvaluatedModel,
         phase: Phase,
         limit: u64,
+        shown: &mut CallViews,
         observer: &mut W,
     ) -> Result<RunStatus<Ended>, NoMemory>
         requires live { let world = world_in SimpleModule-box self.old.kernel in
@@ -574,6 +587,8 @@ impl<C: Catalogue> Runner<C> {
         requires kinds { HasKinds C.behaviour SimpleModule-box self.old.kernel }
         requires good { HasGood C.behaviour (answers_of model.now) SimpleModule-box self.old }
         requires alone { HasNoneAlone SimpleModule-box self.old }
+        requires shown { let before = world_in SimpleModule-box self.old.kernel in
+            AreShown (answers_of model.now) before.records shown.old }
         ensures kinds { HasKinds C.behaviour SimpleModule-box self.new.kernel }
         ensures good { HasGood C.behaviour (answers_of model.now) SimpleModule-box self.new }
         ensures alone { HasNoneAlone SimpleModule-box self.new }
@@ -587,8 +602,11 @@ impl<C: Catalogue> Runner<C> {
         ensures stopped { HasStored C.behaviour (answers_of model.now) limit
             (counts_in self.old.positions)
             self.new.stood (counts_in self.new.positions) }
+        ensures shown { let left = world_in SimpleModule-box self.new.kernel in
+            IfOk result (λ advance.
+            IsShownAfter (answers_of model.now) left.records shown.new advance) }
     {
-        self.advance_as::<Brand, W>(alloc, model, phase, limit, observer)
+        self.advance_as::<Brand, W>(alloc, model, phase, limit, shown, observer)
     }
 
     /// Runs the model M for at most so many events, from the last position up to there or from
@@ -600,6 +618,7 @@ impl<C: Catalogue> Runner<C> {
         model: &EvaluatedModel,
         phase: Phase,
         limit: u64,
+        shown: &mut CallViews,
         observer: &mut W,
     ) -> Result<RunStatus<Ended>, NoMemory>
         requires asked { answers_of model.now ≡ M.answers }
@@ -609,6 +628,8 @@ impl<C: Catalogue> Runner<C> {
         requires kinds { HasKinds C.behaviour SimpleModule-box self.old.kernel }
         requires good { HasGood C.behaviour M.answers SimpleModule-box self.old }
         requires alone { HasNoneAlone SimpleModule-box self.old }
+        requires shown { let before = world_in SimpleModule-box self.old.kernel in
+            AreShown M.answers before.records shown.old }
         ensures kinds { HasKinds C.behaviour SimpleModule-box self.new.kernel }
         ensures good { HasGood C.behaviour M.answers SimpleModule-box self.new }
         ensures alone { HasNoneAlone SimpleModule-box self.new }
@@ -621,13 +642,16 @@ impl<C: Catalogue> Runner<C> {
             (counts_in self.new.positions) advance) }
         ensures stopped { HasStored C.behaviour M.answers limit (counts_in self.old.positions)
             self.new.stood (counts_in self.new.positions) }
+        ensures shown { let left = world_in SimpleModule-box self.new.kernel in
+            IfOk result (λ advance. IsShownAfter M.answers left.records shown.new advance) }
     {
+        let modules = self.kernel.records().len();
         match self.go_back::<M>(alloc, limit)? {
             RunStatus::Waits(request) => Ok(RunStatus::Waits(request)),
             RunStatus::Done(Some(start)) => {
                 let mut answers = AskedModel::<M>::new(alloc, model)?;
-                let mut shown = CallViews::new(alloc);
-                let outcome = self.run_on(alloc, &mut answers, &mut shown, limit, observer)?;
+                keep_shown(alloc, shown, modules, self.kernel.records().len());
+                let outcome = self.run_on(alloc, &mut answers, shown, limit, observer)?;
                 Ok(RunStatus::Done(Ended {
                     start: Some(start),
                     outcome,
@@ -636,9 +660,20 @@ impl<C: Catalogue> Runner<C> {
             RunStatus::Done(None) => {
                 self.positions.clear();
                 self.stood = Stood::Before;
-                self.run_from_setup::<M, W>(alloc, model, phase, limit, observer)
+                self.run_from_setup::<M, W>(alloc, model, phase, limit, shown, observer)
             }
         }
+    }
+}
+
+/// What calls show of so many modules stays where there are as many as before; else none of it.
+#[tactic(auto, using(crate::proofs::Shown::as_many_shown))]
+fn keep_shown(alloc: Global, shown: &mut CallViews, before: usize, now: usize)
+    ensures { (m : Answered) (old new : List Record) → length old ≡ before → length new ≡ now
+        → GoesOn new old → AreShown m old shown.old → AreShown m new shown.new }
+{
+    if before != now {
+        *shown = CallViews::new(alloc);
     }
 }
 

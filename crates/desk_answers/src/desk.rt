@@ -3,7 +3,8 @@
 ghost use Rattle.std.specs.Prelude.{◌≡◌, ◌↔◌, None, IsSome, length, OnOk, OnErr, IfOk, IfErr};
 ghost use Rattle.std.specs.Prelude.{codes, option_map, option_copied};
 ghost use Rattle.edit_session.specs.Editing.{Completed, IsFor, IsUnknown, wanted_of, with_box};
-ghost use Rattle.edit_session.specs.Files.{scalars_of_run, vectors_of_run, FileWritten};
+ghost use Rattle.edit_session.specs.Files.{files_of_last, scalars_of_run, vectors_of_run};
+ghost use Rattle.edit_session.specs.Files.{AreFilesOf, FileWritten, IsFileWritten};
 ghost use Rattle.edit_session.specs.Sessions.{editing_of, IsSound};
 ghost use Rattle.checkpoint_runs.specs.declared.running.Phase.{Phase};
 ghost use Rattle.edit_session.specs.declared.session.SupplyReason.{SupplyReason};
@@ -25,7 +26,8 @@ use model_edits::edit::Edit;
 use module_api::catalogue::Catalogue;
 use module_api::name::Name;
 use module_api::simple_module::SimpleModule;
-use result_lines::writer::Out;
+use result_files::files::ResultFiles;
+use result_lines::writer::{Device, Out};
 use run_semantics::outcome::Outcome;
 use sim_values::NoMemory;
 use sim_values::text::Text;
@@ -281,6 +283,43 @@ impl<C: Catalogue> Desk<C> {
             text: held_text(self.alloc, self.session.held())?,
             told: AnswerContent::Held,
         })
+    }
+
+    /// What the files of the last run need, so that `put_scalars` and `put_vectors` write them
+    /// without memory. None: no run is done.
+    pub fn files(&self) -> Result<Option<ResultFiles>, NoMemory>
+        requires sound { IsSettled C.behaviour SimpleModule-box self.now }
+        ensures files { let editing = editing_at SimpleModule-box self.now in
+            IfOk result (λ files.
+            files ≡ files_of_last C.behaviour editing.model editing.done) }
+        ensures done { let editing = editing_at SimpleModule-box self.now in
+            OnErr result (IsSome editing.done) }
+    {
+        self.session.files()
+    }
+
+    /// Writes the scalar file of the last run, by what `files` answered of it. It takes no memory.
+    pub fn put_scalars<O: Out>(&self, files: &ResultFiles, out: &mut O) -> Result<(), Device>
+        requires sound { IsSettled C.behaviour SimpleModule-box self.now }
+        requires files { let editing = editing_at SimpleModule-box self.now in
+            AreFilesOf C.behaviour editing.model editing.done files.now }
+        ensures written { let editing = editing_at SimpleModule-box self.now in
+            let text = scalars_of_run C.behaviour editing.model in
+            IsFileWritten text editing.done (O.taken out.old) (O.taken out.new) result }
+    {
+        self.session.put_scalars(files, out)
+    }
+
+    /// Writes the vector file of the last run, by what `files` answered of it. It takes no memory.
+    pub fn put_vectors<O: Out>(&self, files: &ResultFiles, out: &mut O) -> Result<(), Device>
+        requires sound { IsSettled C.behaviour SimpleModule-box self.now }
+        requires files { let editing = editing_at SimpleModule-box self.now in
+            AreFilesOf C.behaviour editing.model editing.done files.now }
+        ensures written { let editing = editing_at SimpleModule-box self.now in
+            let text = vectors_of_run C.behaviour editing.model in
+            IsFileWritten text editing.done (O.taken out.old) (O.taken out.new) result }
+    {
+        self.session.put_vectors(files, out)
     }
 
     /// Writes the scalar file of the last run.

@@ -1,5 +1,5 @@
 -- What a client hears of one command.
-use Rattle.std.proofs.Common.{◌≡◌, ℕ, Bor, true, false, List, [], ◌∷◌, ◌++◌, Option, Some, None, IsSome, is_some, length, option_copied, option_map, codes, inl, inr, refl, sym, ap, ◌∙◌, subst}
+use Rattle.std.proofs.Common.{◌≡◌, ℕ, List, [], ◌∷◌, ◌++◌, Option, Some, None, IsSome, length, option_map, codes, inl, inr, refl, sym, ap, ◌∙◌, subst}
 use Rattle.module_api.specs.Behaviour.{Behaviour}
 use Rattle.model_data.specs.declared.model.Model.{Model}
 use Rattle.model_answers.specs.Answering.{answers_of}
@@ -9,7 +9,8 @@ use Rattle.edit_session.specs.Editing.{Completed, Editing, completed}
 use Rattle.checkpoint_runs.specs.declared.running.Stood.{Stood}
 use Rattle.checkpoints.specs.Stored.{Timeline}
 use Rattle.checkpoint_runs.specs.Positions.{cut, last_count, HasStored}
-use Rattle.edit_session.specs.Files.{scalars_of_run, vectors_of_run}
+use Rattle.edit_session.specs.Files.{files_of_last, scalars_of_run, vectors_of_run, AreFilesOf}
+use Rattle.result_files.specs.declared.files.ResultFiles.{ResultFiles}
 use Rattle.desk_client.specs.Answers.{held_text, positions_text}
 use Rattle.desk_answers.specs.declared.answers.Answer.{Answer as Reply}
 use Rattle.desk_answers.specs.declared.desk.DeskTurn.TheVariants as turns
@@ -314,20 +315,6 @@ tells_forgone b command.TooLarge before after n plain asked may running is heard
 
 -- ---- files
 
--- no outcome is told: no run is done
-pub none_done : (told : Option (Bor Outcome)) (last : Option Completed) → is_some told ≡ false → option_copied told ≡ option_map (λ (d : Completed). d.outcome) last
-    → last ≡ None
-none_done None None is same = refl
-none_done None (Some d) is same = cc
-none_done (Some o) last is same = cc
-
--- one is told: a run is done
-pub some_done : (told : Option (Bor Outcome)) (last : Option Completed) → is_some told ≡ true → option_copied told ≡ option_map (λ (d : Completed). d.outcome) last
-    → IsSome last
-some_done (Some o) (Some d) is same = refl
-some_done (Some o) None is same = cc
-some_done None last is same = cc
-
 no_files : (b : Behaviour) (m : Model) (of : Option Completed) (last : Option ℕ) → of ≡ option_map (completed b m) last → of ≡ None
     → HearsFiles b m last (Answer (codes "refused NotDone") ∷ [])
 no_files b m of None at none = refl
@@ -342,6 +329,28 @@ tells_not_done b before after n asked may running same none heard = tells b comm
   subst (λ x. IsAt b x s) (sym same) at,
 ))
 
+-- the files of the last run say whether one is done
+pub no_last : (b : Behaviour) (m : Model) (last : Option Completed) → None ≡ files_of_last b m last → last ≡ None
+no_last b m None e = refl
+no_last b m (Some d) e = cc
+
+pub some_last : (b : Behaviour) (m : Model) (last : Option Completed) (files : ResultFiles) → AreFilesOf b m last files → IsSome last
+some_last b m None files e = cc
+some_last b m (Some d) files e = refl
+
+-- memory ran out before the files of the last run, and that is told
+memory_files : (b : Behaviour) (m : Model) (of : Option Completed) (last : Option ℕ) → of ≡ option_map (completed b m) last → IsSome of → HearsFiles b m last (OutOfMemory ∷ [])
+memory_files b m of None at is = cc
+memory_files b m of (Some limit) at is = inr refl
+
+pub tells_no_files : (b : Behaviour) (before after : Seen) (n : Next) → after.asked ≡ before.asked → after.may ≡ before.may → after.running ≡ None
+    → after.editing ≡ before.editing → IsSome before.editing.done → HearsOne OutOfMemory before.heard after.heard n → HearsNext b command.Write before after n
+tells_no_files b before after n asked may running same is heard = tells b command.Write before after OutOfMemory n asked may running heard (λ s at. (
+  s,
+  (memory_files b s.model before.editing.done s.last at.done is, refl),
+  subst (λ x. IsAt b x s) (sym same) at,
+))
+
 -- the files of the last run, and the answer after them
 abbrev files_heard : List ℕ → List ℕ → List ℕ → List Heard
 files_heard config scalars vectors = Files config scalars vectors ∷ Answer (codes "written") ∷ []
@@ -349,7 +358,7 @@ files_heard config scalars vectors = Files config scalars vectors ∷ Answer (co
 some_files : (b : Behaviour) (m : Model) (of : Option Completed) (last : Option ℕ) → of ≡ option_map (completed b m) last → IsSome of
     → (scalars vectors : List ℕ) × HearsFiles b m last (files_heard m.config scalars vectors)
 some_files b m of None at is = cc
-some_files b m of (Some limit) at is = (scalars_of_run b m limit, vectors_of_run b m limit, refl)
+some_files b m of (Some limit) at is = (scalars_of_run b m limit, vectors_of_run b m limit, inl refl)
 
 -- the device of one failed, or the client is gone: nothing is heard
 pub misses_files : (b : Behaviour) (before after : Seen) → after.asked ≡ before.asked → after.heard ≡ before.heard → IsSome before.editing.done
@@ -370,7 +379,7 @@ filled_by b m limit of config scalars vectors at named filled =
 whole_files : (b : Behaviour) (m : Model) (of : Option Completed) (last : Option ℕ) (config scalars vectors : List ℕ) → of ≡ option_map (completed b m) last
     → config ≡ m.config → AreFilled b m of scalars vectors → HearsFiles b m last (files_heard config scalars vectors)
 whole_files b m of None config scalars vectors at named filled = absurd (subst (λ d. AreFilled b m d scalars vectors) at filled)
-whole_files b m of (Some limit) config scalars vectors at named filled = filled_by b m limit of config scalars vectors at named filled
+whole_files b m of (Some limit) config scalars vectors at named filled = inl (filled_by b m limit of config scalars vectors at named filled)
 
 files_of_machine : (b : Behaviour) (e : Editing) (config scalars vectors : List ℕ) → config ≡ e.model.config → AreFilled b e.model e.done scalars vectors
     → (s : Machine) → IsAt b e s → HearsFiles b s.model s.last (files_heard config scalars vectors)

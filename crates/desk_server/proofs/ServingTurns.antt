@@ -187,7 +187,7 @@ GoesOnLast b e ps = (k : ℕ) → last_count (counts_of ps.stored) ≡ Some k �
 
 -- which a session keeps
 pub goes_on_last : {C X : Type 0} {Y : X → Type 0} (b : Behaviour) (members : Members X Y) (s : Session C X Y) → IsSound b members s → GoesOnLast b (editing_of members s) s.runner.positions
-goes_on_last b members s sound = λ k e. last_goes_on b (answers_of s.model) (world_in members s.runner.kernel) s.runner.positions.stored k sound.good e
+goes_on_last b members s sound = λ k e. last_goes_on b (answers_of s.model) (world_in members s.runner.kernel) s.runner.positions.stored k sound.kept.good e
 
 waits_for_none : (b : Behaviour) (limit : ℕ) (e : Editing) (ps : Timeline Position) (start : Option ℕ) → start_of limit e.positions.stored ≡ start → IsUndone (waiting_at start) e.done e.known ps → GoesOnLast b e ps
     → e.positions ≡ counts_in ps → LeavesNone b e limit e

@@ -94,12 +94,14 @@ abbrev pub HearsHeld : ℕ → List Heard → Type 0
 HearsHeld held heard = (heard ≡ Answer (held_text held) ∷ []) ⊎ (heard ≡ OutOfMemory ∷ [])
 
 -- THE FILES of the last run are those of a fresh run of the model to its limit, and of the
--- configuration that the model selects. Where no run is done there are none.
+-- configuration that the model selects; or memory ran out before. Where no run is done there are
+-- none.
 abbrev pub HearsFiles : Behaviour → Model → Option ℕ → List Heard → Type 0
 HearsFiles b m None heard = heard ≡ Answer (codes "refused NotDone") ∷ []
-HearsFiles b m (Some limit) heard = heard
+HearsFiles b m (Some limit) heard = (heard
     ≡ Files m.config (scalars_of_run b m limit) (vectors_of_run b m limit)
-    ∷ Answer (codes "written") ∷ []
+    ∷ Answer (codes "written") ∷ [])
+    ⊎ (heard ≡ OutOfMemory ∷ [])
 
 -- WHAT IS HEARD OF A COMMAND, and what the machine holds after it
 abbrev pub Hears : Behaviour → Machine → Command → List Heard → Machine → Type 0

@@ -7,6 +7,7 @@ ghost use Rattle.model_data.specs.declared.model.Model.{Model};
 ghost use Rattle.model_reading.specs.Models.{IsModelOf, IsRuledOut, Refuses};
 ghost use Rattle.module_network.specs.Library.{library};
 ghost use Rattle.edit_session.specs.Editing.{wanted_of, IsFor};
+ghost use Rattle.edit_session.specs.Files.{AreFilesOf};
 ghost use Rattle.desk_answers.specs.Turns.{editing_at, IsOfDesk};
 ghost use Rattle.desk_server.specs.Served.{fresh_machine};
 ghost use Rattle.desk_commands.specs.declared.commands.Command.TheVariants as commands;
@@ -25,13 +26,14 @@ use desk_answers::desk::{Desk, DeskTurn};
 use desk_client::clients::{Client, Gone, Page, Pages, ServeEnd};
 use desk_client::told::AnswerContent;
 use desk_commands::commands::{Command, command_of};
-use edit_session::session::{FileFault, Session, SupplyReason};
+use edit_session::session::{Session, SupplyReason};
 use kernel::request::Request;
 use model_edits::edit::Edit;
 use model_reading::begin::BeginFault;
 use module_api::simple_module::SimpleModule;
 use module_network::library::{Library, LibraryModule};
 use ned_trees::texts::NedTexts;
+use result_files::files::ResultFiles;
 use result_lines::writer::Out;
 use sim_values::NoMemory;
 use sim_values::text::Text;
@@ -167,19 +169,33 @@ impl<O: Out + Drop, K: Client<O> + Drop> Server<O, K> {
         ensures { Serves library SimpleModule-box K.asked K.heard K.left K.keeps K.label K.stops
             MayStopAt (HearsNext library commands.Write) self.old self.new result }
     {
-        if self.desk.outcome().is_none() {
-            return self.hear(b"refused NotDone".as_slice(), &AnswerContent::NotDone);
+        match self.desk.files() {
+            Ok(None) => self.hear(b"refused NotDone".as_slice(), &AnswerContent::NotDone),
+            Ok(Some(files)) => self.write_files(&files),
+            Err(error) => self.out_of_memory(error),
         }
+    }
+
+    /// Writes the files of the last run, which need this, to devices that the client opens.
+    fn write_files(&mut self, files: &ResultFiles) -> Next
+        requires ready { IsReady library SimpleModule-box K.keeps self.old }
+        requires files { let editing = editing_at SimpleModule-box self.old.desk in
+            AreFilesOf library editing.model editing.done files.now }
+        ensures { Serves library SimpleModule-box K.asked K.heard K.left K.keeps K.label K.stops
+            MayStopAt (HearsNext library commands.Write) self.old self.new result }
+    {
         match self.client.open(self.desk.config()) {
-            Ok(pages) => self.fill(pages),
+            Ok(pages) => self.fill(files, pages),
             Err(Gone) => Next::Stop(ServeEnd::Gone),
         }
     }
 
-    /// Writes the files of the last run to these devices, which the client then keeps.
-    fn fill(&mut self, pages: Pages<O>) -> Next
+    /// Writes the files of the last run, which need this, to these devices, which the client then
+    /// keeps.
+    fn fill(&mut self, files: &ResultFiles, pages: Pages<O>) -> Next
         requires ready { IsReady library SimpleModule-box K.keeps self.old }
-        requires done { IsSome (editing_at SimpleModule-box self.old.desk).done }
+        requires files { let editing = editing_at SimpleModule-box self.old.desk in
+            AreFilesOf library editing.model editing.done files.now }
         requires config { pages.config.bytes
             ≡ (editing_at SimpleModule-box self.old.desk).model.config }
         requires scalars { O.taken pages.scalars ≡ untouched }
@@ -188,7 +204,7 @@ impl<O: Out + Drop, K: Client<O> + Drop> Server<O, K> {
             MayStopAt (HearsNext library commands.Write) self.old self.new result }
     {
         let mut pages = pages;
-        match self.write_both(&mut pages) {
+        match self.write_both(files, &mut pages) {
             Ok(()) => match self.client.keep(pages) {
                 Ok(()) => self.hear(b"written".as_slice(), &AnswerContent::Written),
                 Err(Gone) => Next::Stop(ServeEnd::Gone),
@@ -200,10 +216,12 @@ impl<O: Out + Drop, K: Client<O> + Drop> Server<O, K> {
         }
     }
 
-    /// Writes both files of the last run. Answers which device failed, and after how many bytes.
-    fn write_both(&self, pages: &mut Pages<O>) -> Result<(), (Page, u128)>
+    /// Writes both files of the last run, which need this. Answers which device failed, and after
+    /// how many bytes.
+    fn write_both(&self, files: &ResultFiles, pages: &mut Pages<O>) -> Result<(), (Page, u128)>
         requires sound { IsServer library SimpleModule-box self.now }
-        requires done { IsSome (editing_at SimpleModule-box self.now.desk).done }
+        requires files { let editing = editing_at SimpleModule-box self.now.desk in
+            AreFilesOf library editing.model editing.done files.now }
         requires scalars { O.taken pages.old.scalars ≡ untouched }
         requires vectors { O.taken pages.old.vectors ≡ untouched }
         ensures config { pages.new.config ≡ pages.old.config }
@@ -213,14 +231,12 @@ impl<O: Out + Drop, K: Client<O> + Drop> Server<O, K> {
         ensures failed { IfErr result (λ fault.
             HasFailed fault.0 fault.1 (O.taken pages.new.scalars) (O.taken pages.new.vectors)) }
     {
-        match self.desk.scalars(&mut pages.scalars) {
-            Ok(()) => match self.desk.vectors(&mut pages.vectors) {
+        match self.desk.put_scalars(files, &mut pages.scalars) {
+            Ok(()) => match self.desk.put_vectors(files, &mut pages.vectors) {
                 Ok(()) => Ok(()),
-                Err(FileFault::Device(written)) => Err((Page::Vectors, written)),
-                Err(FileFault::NotDone) => unreachable!(),
+                Err(device) => Err((Page::Vectors, device.written)),
             },
-            Err(FileFault::Device(written)) => Err((Page::Scalars, written)),
-            Err(FileFault::NotDone) => unreachable!(),
+            Err(device) => Err((Page::Scalars, device.written)),
         }
     }
 

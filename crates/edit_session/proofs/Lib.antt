@@ -6,3 +6,4 @@ pub mod GivenUp
 pub mod Giving
 pub mod Valid
 pub mod Lasting
+pub mod Showing

@@ -17,7 +17,6 @@ use Rattle.run_semantics.proofs.Agreeing.{shorter_agrees, longer_agrees}
 use Rattle.run_semantics.proofs.Closing.{ending_closed}
 use Rattle.run_semantics.proofs.Reached.{stands, reached_before}
 use Rattle.run_semantics.proofs.Reuse.{reached_same_up_to}
-use Rattle.result_files.specs.declared.files.ResultFiles.{ResultFiles}
 use Rattle.kernel_actions.specs.declared.position.Position.{Position}
 use Rattle.kernel_boxes.specs.Seats.{BoxAt, AreOfKinds}
 use Rattle.checkpoint_runs.specs.Kept.{kept_up_to, AreGood, IsAlone}
@@ -26,7 +25,7 @@ use Rattle.checkpoint_runs.specs.declared.running.Phase.TheVariants.{Idle}
 use Rattle.edit_session.specs.declared.session.Change.{Change}
 use Rattle.checkpoints.specs.Stored.{begun, counts_in, up_to, Timeline}
 use Rattle.checkpoint_runs.specs.Positions.{cut, events_behind, CanBeStored, begins, is_cut}
-use Rattle.edit_session.specs.Editing.{Completed, Editing, edited_by, files_in, start_in, IsFreshRun, IsKept}
+use Rattle.edit_session.specs.Editing.{Completed, Editing, edited_by, start_in, IsFreshRun, IsKept}
 use Rattle.edit_session.specs.declared.session.Report.{Report}
 use Rattle.checkpoint_runs.specs.Running.{fresh_run, parts_in, whole_run, IsEnded}
 use Rattle.checkpoint_runs.proofs.Whole.{stopped_world}
@@ -35,8 +34,8 @@ use Rattle.edit_session.specs.Reuse.{IsValidTo, IsAskedUpTo, IsKnown}
 
 -- ---- a run that is done
 
-abbrev completed_with : ℕ → Outcome → ResultFiles → Completed
-completed_with limit outcome files = record { limit = limit; outcome = outcome; files = files }
+abbrev completed_with : ℕ → Outcome → Completed
+completed_with limit outcome = record { limit = limit; outcome = outcome }
 
 -- each model agrees with itself
 pub agrees_itself : (v : ℕ) (m : Answers) (rs : List Record) (qs : List AskedQuestion) → AgreesUpTo v m m rs qs
@@ -134,12 +133,12 @@ known_of b m n w known last (Err error) e h a = tt
 known_of b m n w known last (Ok found) e h a = known_edited b m n w last found (subst (IsKnown b m w) e h) a
 
 -- what is kept of a run that is done
-pub kept_done : (b : Behaviour) (ss xs : List BoxAt) (w : World) (m : Model) (limit : ℕ) (outcome : Outcome) (files : ResultFiles) (known : ℕ) (ps : Timeline Position) → AreOfKinds b ss → whole_run b (answers_of m) limit w outcome
-    → files ≡ files_in m w → known ≡ w.count → AreGood b (answers_of m) w ps.stored → IsAlone xs ps → CanBeStored (counts_in ps) → IsKept b ss xs w m Idle (Some (record { limit = limit; outcome = outcome; files = files })) (Some known) ps
-kept_done b ss xs w m limit outcome files known ps kinds whole e n good alone stored = record {
+pub kept_done : (b : Behaviour) (ss xs : List BoxAt) (w : World) (m : Model) (limit : ℕ) (outcome : Outcome) (known : ℕ) (ps : Timeline Position) → AreOfKinds b ss → whole_run b (answers_of m) limit w outcome
+    → known ≡ w.count → AreGood b (answers_of m) w ps.stored → IsAlone xs ps → CanBeStored (counts_in ps) → IsKept b ss xs w m Idle (Some (record { limit = limit; outcome = outcome })) (Some known) ps
+kept_done b ss xs w m limit outcome known ps kinds whole n good alone stored = record {
   kinds = kinds;
   live = tt;
-  left = (whole, e);
+  left = whole;
   undone = tt;
   asked = subst (IsAskedUpTo b (answers_of m) w) (sym n) (known_done b (answers_of m) limit w outcome whole);
   good = good;
@@ -148,12 +147,12 @@ kept_done b ss xs w m limit outcome files known ps kinds whole e n good alone st
 }
 
 -- what it tells, and what callers see of it
-pub fresh_done : (b : Behaviour) (before after : Editing) (limit : ℕ) (report : Report) (w : World) (waiting : List BoxAt) (new : Timeline ℕ) (start : Option ℕ) (outcome : Outcome) (files : ResultFiles) (count : ℕ)
+pub fresh_done : (b : Behaviour) (before after : Editing) (limit : ℕ) (report : Report) (w : World) (waiting : List BoxAt) (new : Timeline ℕ) (start : Option ℕ) (outcome : Outcome) (count : ℕ)
     → IsEnded b (answers_of before.model) limit (start_in before limit) before.phase before.boxes before.positions w waiting new start outcome
-    → report ≡ record { outcome = outcome; started_from = start; executed = events_behind start count } → files ≡ files_in before.model w → count ≡ w.count
-    → after.done ≡ Some (record { limit = limit; outcome = outcome; files = files }) → after.boxes ≡ standing w.modules ++ parts_in waiting → after.known ≡ Some count → after.positions ≡ new
+    → report ≡ record { outcome = outcome; started_from = start; executed = events_behind start count } → count ≡ w.count
+    → after.done ≡ Some (record { limit = limit; outcome = outcome }) → after.boxes ≡ standing w.modules ++ parts_in waiting → after.known ≡ Some count → after.positions ≡ new
     → IsFreshRun b before limit report after
-fresh_done b before after limit report w waiting new start outcome files count h told written n d boxes known positions =
+fresh_done b before after limit report w waiting new start outcome count h told n d boxes known positions =
     let m : Answers = answers_of before.model in
     let world : w ≡ (fresh_run b m limit).world = sym (ap (λ (r : Ran). r.world) h.whole) in
     let ended : outcome ≡ (fresh_run b m limit).outcome = sym (ap (λ (r : Ran). r.outcome) h.whole) in
@@ -162,15 +161,12 @@ fresh_done b before after limit report w waiting new start outcome files count h
       outcome = ap (λ (r : Report). r.outcome) told ∙ ended;
       started_from = ap (λ (r : Report). r.started_from) told ∙ h.start_is;
       executed = ap (λ (r : Report). r.executed) told ∙ ap (λ s. events_behind s count) h.start_is ∙ ap (events_behind (start_in before limit)) counted;
-      done = d ∙ ap Some (completed_is limit outcome (fresh_run b m limit).outcome files (files_in before.model (fresh_run b m limit).world) ended (written ∙ ap (files_in before.model) world));
+      done = d ∙ ap (λ (o : Outcome). Some (completed_with limit o)) ended;
       boxes = boxes ∙ h.boxes_are;
       known = known ∙ ap Some counted;
       positions = positions ∙ h.positions;
       needs_none = h.needs_none;
     }
-  where
-    completed_is : (limit : ℕ) (o p : Outcome) (f g : ResultFiles) → o ≡ p → f ≡ g → completed_with limit o f ≡ completed_with limit p g
-    completed_is limit o p f g e d = ap (λ x. completed_with limit x f) e ∙ ap (completed_with limit p) d
 
 -- what is kept without a run
 pub kept_begun : (b : Behaviour) (ss xs : List BoxAt) (w : World) (m : Model) (interval : ℕ) (ps : Timeline Position) → 1 ≤ interval → AreOfKinds b ss → ps ≡ begun interval → IsKept b ss xs w m Idle None None ps

@@ -10,8 +10,6 @@ use Rattle.run_semantics.specs.World.{World}
 use Rattle.run_semantics.specs.Run.{Part}
 use Rattle.model_edits.specs.declared.edit.Edit.{Edit}
 use Rattle.model_edits.specs.Edited.{number_given, IsEditOf, IsOnlyEditOf}
-use Rattle.result_files.specs.declared.files.ResultFiles.{ResultFiles}
-use Rattle.result_files.specs.Files.{files_of}
 use Rattle.kernel_actions.specs.declared.position.Position.{Position}
 use Rattle.checkpoints.specs.Stored.{begun, counts_in, IsBegun, Timeline}
 use Rattle.kernel.specs.declared.request.Request.{Request}
@@ -32,22 +30,15 @@ use Rattle.checkpoint_runs.specs.Running.{boxes_left, fresh_run, kept_at, needed
 use Rattle.checkpoint_runs.specs.Running.{wanted_by, whole_run, with_part, IsLive, IsUndeclined}
 use Rattle.edit_session.specs.Reuse.{IsKnown, IsValidTo}
 
--- a run that is done: its limit, its outcome, and what is known of its result files before they are
--- written
+-- a run that is done: its limit and its outcome
 pub record Completed : Type 0 where
   pub limit : ℕ
   pub outcome : Outcome
-  pub files : ResultFiles
-
--- what is known of the result files of a run of the model that left this world
-abbrev pub files_in : Model → World → ResultFiles
-files_in m w = files_of m w.records w.finished w.scalars w.emissions
 
 -- what is kept of it
 abbrev pub completed : Behaviour → Model → ℕ → Completed
 completed b m limit =
-    let ran = fresh_run b (answers_of m) limit in
-    record { limit = limit; outcome = ran.outcome; files = files_in m ran.world }
+    record { limit = limit; outcome = (fresh_run b (answers_of m) limit).outcome }
 
 -- what callers see of a session: the model; the last run, where it is done; where a run stands that
 -- isn't; the modules whose boxes it holds, by their ids and kinds; the last event of a run of the
@@ -109,8 +100,7 @@ waits_from b e start = record {
 -- the world is what the run that is done left
 abbrev pub IsLeft : Behaviour → Model → World → Option Completed → Type 0
 IsLeft b m w None = Unit {0}
-IsLeft b m w (Some done) =
-    whole_run b (answers_of m) done.limit w done.outcome × (done.files ≡ files_in m w)
+IsLeft b m w (Some done) = whole_run b (answers_of m) done.limit w done.outcome
 
 -- WHERE A RUN WAITS that goes back to a position: none is done, it is the last position, and what
 -- is known is what was asked up to there.

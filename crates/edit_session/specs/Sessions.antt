@@ -1,9 +1,11 @@
 -- A session, by what its boxes mean.
-use Rattle.std.specs.Prelude.{◌≡◌, option_map}
+use Rattle.std.specs.Prelude.{◌≡◌, true, option_map}
 use Rattle.module_api.specs.Behaviour.{Behaviour}
 use Rattle.model_answers.specs.Answering.{answers_of}
 use Rattle.model_edits.specs.declared.edit.Edit.{Edit}
+use Rattle.model_agreement.specs.Models.{RestOnSame}
 use Rattle.kernel_boxes.specs.Seats.{Members}
+use Rattle.kernel_call_views.specs.Tables.{AreShown}
 use Rattle.kernel.specs.Kernels.{boxes_in, world_in}
 use Rattle.edit_session.specs.Editing.{Completed, Editing, IsChangeBy, IsKept}
 use Rattle.checkpoints.specs.Stored.{counts_in}
@@ -15,7 +17,7 @@ use Rattle.edit_session.specs.declared.session.Done.{Done}
 use Rattle.edit_session.specs.declared.session.Session.{Session}
 
 abbrev pub completed_of : Done → Completed
-completed_of d = record { limit = d.limit; outcome = d.outcome; files = d.files }
+completed_of d = record { limit = d.limit; outcome = d.outcome }
 
 module _ {C X : Type 0} {Y : X → Type 0} where
   -- what callers see of it
@@ -34,11 +36,12 @@ module _ {C X : Type 0} {Y : X → Type 0} where
   stood_in s = s.runner.stood
 
   -- what it keeps
-  abbrev pub IsSound : Behaviour → Members X Y → Session C X Y → Type 0
-  IsSound b members s =
-      IsKept b (boxes_in members s.runner.kernel) (waiting_in members s.runner)
-      (world_in members s.runner.kernel) s.model s.phase (option_map completed_of s.done)
-      s.known s.runner.positions
+  pub record IsSound (b : Behaviour) (members : Members X Y) (s : Session C X Y) : Type 0 where
+    pub kept : IsKept b (boxes_in members s.runner.kernel) (waiting_in members s.runner)
+        (world_in members s.runner.kernel) s.model s.phase (option_map completed_of s.done)
+        s.known s.runner.positions
+    -- what is kept of what calls show of modules
+    pub shown : AreShown (answers_of s.model) (world_in members s.runner.kernel).records s.shown
 
   -- It is sound, and of the same model as before.
   pub record KeepsModel (b : Behaviour) (members : Members X Y)
@@ -47,7 +50,7 @@ module _ {C X : Type 0} {Y : X → Type 0} where
     pub model : (editing_of members after).model ≡ (editing_of members before).model
 
   -- The change is what the edit makes of this session. Up to where it says the questions stay known
-  -- and the positions good.
+  -- and the positions good; where it says so, the values of the modules rest on what they rested on.
   pub record IsChangeOf (b : Behaviour) (members : Members X Y) (s : Session C X Y) (e : Edit)
       (change : Change) : Type 0 where
     pub by : IsChangeBy b (editing_of members s) e change
@@ -55,3 +58,4 @@ module _ {C X : Type 0} {Y : X → Type 0} where
         change.edited.valid_to
     pub good : AreGood b (answers_of change.model) (world_in members s.runner.kernel)
         (kept_up_to change.edited.valid_to s.runner.positions).stored
+    pub same : change.same ≡ true → RestOnSame s.model change.model

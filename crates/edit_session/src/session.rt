@@ -1,18 +1,17 @@
 //! A session.
 
 ghost use Rattle.std.specs.Prelude.{◌≡◌, ◌↔◌, ◌≤◌, true, Some, None, IsSome, OnOk, OnErr, IfOk};
-ghost use Rattle.std.specs.Prelude.{IfErr, length, option_map, option_copied};
+ghost use Rattle.std.specs.Prelude.{IfErr, List, length, option_map, option_copied};
 ghost use Rattle.sim_values.specs.Memory.{no_memory};
 ghost use Rattle.model_data.specs.declared.model.Model.{Model};
 ghost use Rattle.model_answers.specs.Answering.{answers_of};
 ghost use Rattle.model_agreement.specs.Models.{RestOnSame};
-ghost use Rattle.result_lines.specs.ScalarText.{scalar_text};
-ghost use Rattle.result_lines.specs.VectorText.{vector_text};
 ghost use Rattle.model_reading.specs.Models.{IsModelOf, IsRuledOut, Refuses};
 ghost use Rattle.model_edits.specs.Edited.{number_given, IsRuledOut as IsEditRuledOut};
 ghost use Rattle.model_edits.specs.Edited.{Refuses as RefusesEdit};
-ghost use Rattle.edit_session.specs.Files.{scalars_of_run, vectors_of_run, FileWritten};
-ghost use Rattle.edit_session.specs.Files.{TextWritten};
+ghost use Rattle.edit_session.specs.Files.{files_in, files_of_last, scalars_of_run};
+ghost use Rattle.edit_session.specs.Files.{vectors_of_run, written_as, AreFilesOf, FileWritten};
+ghost use Rattle.edit_session.specs.Files.{IsFileWritten};
 ghost use Rattle.edit_session.specs.Editing.{Completed, edited_by, fresh_editing, last_used};
 ghost use Rattle.edit_session.specs.Editing.{wanted_of, with_box, IfDone, IfWaiting, IsAccepted};
 ghost use Rattle.edit_session.specs.Editing.{IsFor, IsFreshRun, IsGivenUp, IsUnknown, WaitsFor};
@@ -25,6 +24,8 @@ ghost use Rattle.edit_session.specs.Reuse.{IsKnown, IsValidTo};
 ghost use Rattle.edit_session.specs.Sessions.{editing_of, stood_in, IsChangeOf, IsSound};
 ghost use Rattle.edit_session.specs.Sessions.{KeepsModel};
 ghost use Rattle.kernel.specs.Kernels.{world_in, HasKinds};
+ghost use Rattle.kernel_call_views.specs.Tables.{AreShown};
+ghost use Rattle.model_questions.specs.declared.record.Record.{Record};
 ghost use Rattle.checkpoints.specs.Stored.{counts_in, most_stored};
 ghost use Rattle.model_edits.specs.declared.edit.Edit.{Edit};
 
@@ -34,23 +35,23 @@ use checkpoint_runs::running::{Ended, Phase, Point, RunStatus, Runner, Stood};
 use checkpoints::positions::Positions;
 use kernel::kernel::Kernel;
 use kernel::request::Request;
+use kernel_call_views::CallViews;
 use model_agreement::agreement::agreement;
 use model_answers::evaluated::EvaluatedModel;
 use model_data::model::Model;
 use model_edits::edit::{Edit, Refusal, edited, number_given};
-use model_questions::record::Record;
 use model_reading::begin::{BeginFault, model_of};
 use module_api::catalogue::Catalogue;
 use module_api::simple_module::SimpleModule;
 use module_tree::Tree;
 use ned_trees::texts::NedTexts;
 use result_files::files::{ResultFiles, prepare, write_scalars, write_vectors};
-use result_lines::writer::Out;
+use result_lines::writer::{Device, Out};
 use run_semantics::outcome::Outcome;
-use run_semantics::traces::Emission;
 use sim_values::NoMemory;
 use std::alloc::{AllocFailed, Global};
 use std::marker::PhantomData;
+use std::mem::replace;
 use thiserror::Error;
 
 /// A run that is done.
@@ -58,8 +59,6 @@ use thiserror::Error;
 pub struct Done {
     pub limit: u64,
     pub outcome: Outcome,
-    /// What is known of its result files before they are written.
-    pub files: ResultFiles,
 }
 
 /// What a run that is done tells.
@@ -87,6 +86,8 @@ pub struct Edited {
 pub struct Change {
     pub model: SessionModel,
     pub edited: Edited,
+    /// Whether it is known that the values of the modules rest on what they rested on.
+    pub same: bool,
 }
 
 /// No box is waited for.
@@ -111,6 +112,9 @@ pub enum FileFault {
     /// No run is done.
     #[error("NotDone")]
     NotDone,
+    /// Memory ran out before anything was written.
+    #[error("NoMemory")]
+    NoMemory(NoMemory),
     /// The device failed or took nothing, after so many bytes of the text.
     #[error("Device({0})")]
     Device(u128),
@@ -132,6 +136,8 @@ pub struct Session<C: Catalogue> {
     done: Option<Done>,
     /// The last event of a run of the model whose questions the kernel has, where there is one.
     known: Option<u64>,
+    /// What calls show of the modules of the last run, as far as it was found, for the next one.
+    shown: CallViews,
     /// What the kernel holds, so that contracts can name what boxes say of themselves.
     holds: PhantomData<Box<dyn SimpleModule>>,
 }
@@ -146,6 +152,7 @@ impl<C: Catalogue> Drop for Session<C> {
             phase: _,
             done: _,
             known: _,
+            shown: _,
             holds: _,
         } = self;
     }
@@ -209,6 +216,7 @@ impl<C: Catalogue> Session<C> {
             phase: Phase::Idle,
             done: None,
             known: None,
+            shown: CallViews::new(alloc),
             holds: PhantomData,
         }
     }
@@ -289,6 +297,8 @@ impl<C: Catalogue> Session<C> {
             IfOk result (λ change.
             AreGood C.behaviour (answers_of change.model) (world_in SimpleModule-box kernel)
             (kept_up_to change.edited.valid_to self.now.runner.positions).stored) }
+        ensures same { IfOk result
+            (λ change. change.same ≡ true → RestOnSame self.now.model model) }
     {
         let injection = last_used(model.last_injection, given);
         let Following { model, same } = self.model.followed_by(self.alloc, model, touched)?;
@@ -299,6 +309,7 @@ impl<C: Catalogue> Session<C> {
                 valid_to,
                 injection,
             },
+            same,
         })
     }
 
@@ -334,7 +345,8 @@ impl<C: Catalogue> Session<C> {
     }
 
     /// Makes a change, which takes no memory. A run that waits is given up, and no run is done
-    /// until the next one. Of the stored positions those stay up to which the last run stays valid.
+    /// until the next one. Of the stored positions those stay up to which the last run stays valid,
+    /// and what calls show of modules stays where their values rest on what they rested on.
     pub fn accept(&mut self, change: Change) -> Edited
         requires sound { IsSound C.behaviour SimpleModule-box self.old }
         requires changed { (edit : Edit)
@@ -344,7 +356,12 @@ impl<C: Catalogue> Session<C> {
         ensures left { editing_of SimpleModule-box self.new
             ≡ edited_by (editing_of SimpleModule-box self.old) change }
     {
-        let Change { model, edited } = change;
+        let Change {
+            model,
+            edited,
+            same,
+        } = change;
+        keep_shown(self.alloc, &mut self.shown, same);
         self.model = model;
         self.give_up();
         self.known = edited.valid_to;
@@ -416,6 +433,7 @@ impl<C: Catalogue> Session<C> {
             Err(error) => {
                 self.give_up();
                 self.known = self.runner.cut_back();
+                self.shown = CallViews::new(self.alloc);
                 Err(error)
             }
         }
@@ -448,10 +466,16 @@ impl<C: Catalogue> Session<C> {
     {
         let phase = self.phase;
         self.give_up();
-        match self
-            .runner
-            .advance(self.alloc, self.model.evaluated(), phase, limit, observer)?
-        {
+        // What calls show is put back where the run is done: else there is nothing of it.
+        let mut shown = replace(&mut self.shown, CallViews::new(self.alloc));
+        match self.runner.advance(
+            self.alloc,
+            self.model.evaluated(),
+            phase,
+            limit,
+            &mut shown,
+            observer,
+        )? {
             RunStatus::Waits(request) => {
                 // What was asked after the event where it begins is given up.
                 self.known = self.runner.cut_back();
@@ -462,20 +486,9 @@ impl<C: Catalogue> Session<C> {
                 let Ended { start, outcome } = ended;
                 let count = self.runner.kernel.count();
                 let report = report_of(self.alloc, &outcome, start, count)?;
-                let files = prepare(
-                    self.alloc,
-                    self.model.evaluated(),
-                    self.runner.kernel.records(),
-                    self.runner.kernel.finished(),
-                    self.runner.kernel.scalars(),
-                    self.runner.kernel.emissions(),
-                )?;
+                self.shown = shown;
                 self.known = Some(count);
-                self.done = Some(Done {
-                    limit,
-                    outcome,
-                    files,
-                });
+                self.done = Some(Done { limit, outcome });
                 Ok(RunStatus::Done(report))
             }
         }
@@ -581,34 +594,91 @@ impl<C: Catalogue> Session<C> {
         }
     }
 
-    /// Writes the scalar file of the last run, which takes no memory.
+    /// What the files of a run need that left the kernel's world.
+    fn files_now(&self) -> Result<ResultFiles, NoMemory>
+        ensures { let world = world_in SimpleModule-box self.now.runner.kernel in
+            IfOk result (λ files. files ≡ files_in self.now.model world) }
+    {
+        let kernel = &self.runner.kernel;
+        prepare(
+            self.alloc,
+            self.model.evaluated(),
+            kernel.records(),
+            kernel.finished(),
+            kernel.scalars(),
+            kernel.emissions(),
+        )
+    }
+
+    /// What the files of the last run need, so that `put_scalars` and `put_vectors` write them
+    /// without memory. None: no run is done.
+    pub fn files(&self) -> Result<Option<ResultFiles>, NoMemory>
+        requires sound { IsSound C.behaviour SimpleModule-box self.now }
+        ensures files { let editing = editing_of SimpleModule-box self.now in
+            IfOk result (λ files.
+            files ≡ files_of_last C.behaviour editing.model editing.done) }
+        ensures done { let editing = editing_of SimpleModule-box self.now in
+            OnErr result (IsSome editing.done) }
+    {
+        match &self.done {
+            None => Ok(None),
+            Some(_done) => {
+                let files = self.files_now()?;
+                Ok(Some(files))
+            }
+        }
+    }
+
+    /// Writes the scalar file of the last run, by what `files` answered of it. It takes no memory.
+    pub fn put_scalars<O: Out>(&self, files: &ResultFiles, out: &mut O) -> Result<(), Device>
+        requires sound { IsSound C.behaviour SimpleModule-box self.now }
+        requires files { let editing = editing_of SimpleModule-box self.now in
+            AreFilesOf C.behaviour editing.model editing.done files.now }
+        ensures written { let editing = editing_of SimpleModule-box self.now in
+            let text = scalars_of_run C.behaviour editing.model in
+            IsFileWritten text editing.done (O.taken out.old) (O.taken out.new) result }
+    {
+        write_scalars(out, files)
+    }
+
+    /// Writes the vector file of the last run, by what `files` answered of it. It takes no memory.
+    pub fn put_vectors<O: Out>(&self, files: &ResultFiles, out: &mut O) -> Result<(), Device>
+        requires sound { IsSound C.behaviour SimpleModule-box self.now }
+        requires files { let editing = editing_of SimpleModule-box self.now in
+            AreFilesOf C.behaviour editing.model editing.done files.now }
+        ensures written { let editing = editing_of SimpleModule-box self.now in
+            let text = vectors_of_run C.behaviour editing.model in
+            IsFileWritten text editing.done (O.taken out.old) (O.taken out.new) result }
+    {
+        let kernel = &self.runner.kernel;
+        write_vectors(out, files, kernel.records(), kernel.emissions())
+    }
+
+    /// Writes the scalar file of the last run.
     pub fn scalars<O: Out>(&self, out: &mut O) -> Result<(), FileFault>
         requires sound { IsSound C.behaviour SimpleModule-box self.now }
         ensures written { let editing = editing_of SimpleModule-box self.now in
             let text = scalars_of_run C.behaviour editing.model in
             FileWritten text editing.done (O.taken out.old) (O.taken out.new) result }
     {
-        match &self.done {
-            None => Err(FileFault::NotDone),
-            Some(done) => write_done_scalars(out, &done.files),
+        match self.files() {
+            Ok(None) => Err(FileFault::NotDone),
+            Ok(Some(files)) => written(self.put_scalars(&files, out)),
+            Err(error) => Err(FileFault::NoMemory(error)),
         }
     }
 
-    /// Writes the vector file of the last run, which takes no memory.
+    /// Writes the vector file of the last run.
     pub fn vectors<O: Out>(&self, out: &mut O) -> Result<(), FileFault>
         requires sound { IsSound C.behaviour SimpleModule-box self.now }
         ensures written { let editing = editing_of SimpleModule-box self.now in
             let text = vectors_of_run C.behaviour editing.model in
             FileWritten text editing.done (O.taken out.old) (O.taken out.new) result }
     {
-        match &self.done {
-            None => Err(FileFault::NotDone),
-            Some(done) => write_done_vectors(
-                out,
-                &done.files,
-                self.runner.kernel.records(),
-                self.runner.kernel.emissions(),
-            ),
+        match self.files() {
+            Ok(None) => Err(FileFault::NotDone),
+            Ok(Some(files)) => written(self.put_vectors(&files, out)),
+            Err(error) => Err(FileFault::NoMemory(error)),
         }
     }
 
@@ -693,28 +763,23 @@ fn no_room_for(failed: AllocFailed<Box<dyn SimpleModule>>) -> SupplyFault
     }
 }
 
-/// Writes the scalar file of a run that is done.
-fn write_done_scalars<O: Out>(out: &mut O, files: &ResultFiles) -> Result<(), FileFault>
-    ensures { let text = scalar_text files.now.header files.now.scalars in
-        TextWritten (O.taken out.old) (O.taken out.new) text result }
+/// What calls show of modules stays where it is known that their values rest on what they rested on;
+/// else none of it.
+fn keep_shown(alloc: Global, shown: &mut CallViews, same: bool)
+    ensures { (m n : Model) (records : List Record) → (same ≡ true → RestOnSame m n)
+        → AreShown (answers_of m) records shown.old → AreShown (answers_of n) records shown.new }
 {
-    match write_scalars(out, files) {
-        Ok(()) => Ok(()),
-        Err(device) => Err(FileFault::Device(device.written)),
+    if same {
+        return;
     }
+    *shown = CallViews::new(alloc);
 }
 
-/// Writes the vector file of a run that is done.
-fn write_done_vectors<O: Out>(
-    out: &mut O,
-    files: &ResultFiles,
-    records: &[Record],
-    emissions: &[Emission],
-) -> Result<(), FileFault>
-    ensures { let text = vector_text files.now.header files.now.vectors records.now emissions.now in
-        TextWritten (O.taken out.old) (O.taken out.new) text result }
+/// What came of writing a file.
+fn written(answer: Result<(), Device>) -> Result<(), FileFault>
+    ensures { result ≡ written_as answer }
 {
-    match write_vectors(out, files, records, emissions) {
+    match answer {
         Ok(()) => Ok(()),
         Err(device) => Err(FileFault::Device(device.written)),
     }

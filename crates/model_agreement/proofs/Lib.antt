@@ -1,5 +1,5 @@
 pub mod Agreed
 pub mod Commons
 pub mod Sameness
-mod Modules
+pub mod Modules
 mod Settings

@@ -1,5 +1,5 @@
 -- Models whose values rest on the same give the same answers about modules.
-use Rattle.std.proofs.Common.{◌≡◌, ◌∙◌, ℕ, true, List, Option, Some, None, ap, refl, sym}
+use Rattle.std.proofs.Common.{◌≡◌, ◌∙◌, ℕ, true, List, [], Option, Some, None, ap, refl, sym}
 use Rattle.inside_keys.specs.Settings.{ModuleRules}
 use Rattle.model_answers.specs.Answering.{answers_of}
 use Rattle.model_answers.specs.Insides.{gates_answer, hop_answer, inside_answer}
@@ -36,22 +36,27 @@ by_what : (m : Model) → answers_of m ≡ answers_by (setting_of m) (network_of
 unfolding answers_of
 by_what m = refl
 
--- what is answered of modules rests on neither the time limit nor the messages
-of_modules : (s : ModuleRules) (network : Option TypeDeclaration) (limit other : Option ℕ) (is js : List Injection) (rs : List Record) (q : Question) → is_of_modules q ≡ true
-    → answer_of (answers_by s network limit is) rs q ≡ answer_of (answers_by s network other js) rs q
-of_modules s network limit other is js rs Root e = refl
-of_modules s network limit other is js rs (Build id) e = refl
-of_modules s network limit other is js rs (Param id name) e = refl
-of_modules s network limit other is js rs (GateSize id name) e = refl
-of_modules s network limit other is js rs (Hop id name index) e = refl
-of_modules s network limit other is js rs (HopBack id name index) e = refl
-of_modules s network limit other is js rs (BeyondLimit time) e = cc
-of_modules s network limit other is js rs (InjectionBefore due last) e = cc
+-- WHAT IS ANSWERED OF MODULES is the same, whatever the time limit is and the messages from outside
+pub same_modules : (m n : Model) (limit : Option ℕ) (is : List Injection) → RestOnSame m n → record (answers_of m) { time_limit = limit; injections = is } ≡ record (answers_of n) { time_limit = limit; injections = is }
+same_modules m n limit is h =
+    ap (λ (a : Answers). record a { time_limit = limit; injections = is }) (by_what m)
+    ∙ ap (λ (s : ModuleRules). answers_by s (network_of m) limit is) h.setting
+    ∙ ap (λ (t : Option TypeDeclaration). answers_by (setting_of n) t limit is) h.network
+    ∙ sym (ap (λ (a : Answers). record a { time_limit = limit; injections = is }) (by_what n))
+
+-- an answer about modules rests on neither of both
+of_modules : (a : Answers) (limit : Option ℕ) (is : List Injection) (rs : List Record) (q : Question) → is_of_modules q ≡ true → answer_of a rs q ≡ answer_of (record a { time_limit = limit; injections = is }) rs q
+of_modules a limit is rs Root e = refl
+of_modules a limit is rs (Build id) e = refl
+of_modules a limit is rs (Param id name) e = refl
+of_modules a limit is rs (GateSize id name) e = refl
+of_modules a limit is rs (Hop id name index) e = refl
+of_modules a limit is rs (HopBack id name index) e = refl
+of_modules a limit is rs (BeyondLimit time) e = cc
+of_modules a limit is rs (InjectionBefore due last) e = cc
 
 pub same_answers : (m n : Model) → RestOnSame m n → (rs : List Record) (q : Question) → is_of_modules q ≡ true → answer_of (answers_of m) rs q ≡ answer_of (answers_of n) rs q
 same_answers m n h rs q e =
-    ap (λ (a : Answers). answer_of a rs q) (by_what m)
-    ∙ of_modules (setting_of m) (network_of m) (time_limit_of m) (time_limit_of n) m.injections n.injections rs q e
-    ∙ ap (λ (s : ModuleRules). answer_of (answers_by s (network_of m) (time_limit_of n) n.injections) rs q) h.setting
-    ∙ ap (λ (t : Option TypeDeclaration). answer_of (answers_by (setting_of n) t (time_limit_of n) n.injections) rs q) h.network
-    ∙ sym (ap (λ (a : Answers). answer_of a rs q) (by_what n))
+    of_modules (answers_of m) None [] rs q e
+    ∙ ap (λ (a : Answers). answer_of a rs q) (same_modules m n None [] h)
+    ∙ sym (of_modules (answers_of n) None [] rs q e)

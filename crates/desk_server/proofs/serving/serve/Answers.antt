@@ -40,7 +40,7 @@ turns-smaller g c =
     let went : IsNextServing library (seen_in (λ b. (own-1.entry b.vtable).1) g.K.Client.asked g.K.Client.heard g.K.Client.left c.turns.server) (seen_in (λ b. (own-1.entry b.vtable).1) g.K.Client.asked g.K.Client.heard g.K.Client.left c.match-turn.server) c.match-turn.next = elim c.match-turn.branch [
       | in-Need+in-Ok w ↦ rw (w.server-is, w.next-is) (went_serving library (seen_in (λ b. (own-1.entry b.vtable).1) g.K.Client.asked g.K.Client.heard g.K.Client.left c.turns.server) (seen_in (λ b. (own-1.entry b.vtable).1) g.K.Client.asked g.K.Client.heard g.K.Client.left c.turn.new.self) (seen_in (λ b. (own-1.entry b.vtable).1) g.K.Client.asked g.K.Client.heard g.K.Client.left w.supply.new.self) w.in-Need.made w.supply.result w.in-Need.ensures.comes w.supply.ensures.comes)
       | in-Need+in-Err w ↦ rw (w.server-is, w.next-is) (went_serving library (seen_in (λ b. (own-1.entry b.vtable).1) g.K.Client.asked g.K.Client.heard g.K.Client.left c.turns.server) (seen_in (λ b. (own-1.entry b.vtable).1) g.K.Client.asked g.K.Client.heard g.K.Client.left c.turn.new.self) (seen_in (λ b. (own-1.entry b.vtable).1) g.K.Client.asked g.K.Client.heard g.K.Client.left w.out_of_memory.new.self) w.in-Need.made w.out_of_memory.result w.in-Need.ensures.comes
-          (memory_turn library (seen_in (λ b. (own-1.entry b.vtable).1) g.K.Client.asked g.K.Client.heard g.K.Client.left c.turn.new.self) (seen_in (λ b. (own-1.entry b.vtable).1) g.K.Client.asked g.K.Client.heard g.K.Client.left w.out_of_memory.new.self) w.out_of_memory.result c.turn.new.self.desk.session.runner.positions w.in-Need.ensures.comes.going c.turn.ensures.sound.undone (goes_on_last library (λ b. (own-1.entry b.vtable).1) c.turn.new.self.desk.session c.turn.ensures.sound) refl
+          (memory_turn library (seen_in (λ b. (own-1.entry b.vtable).1) g.K.Client.asked g.K.Client.heard g.K.Client.left c.turn.new.self) (seen_in (λ b. (own-1.entry b.vtable).1) g.K.Client.asked g.K.Client.heard g.K.Client.left w.out_of_memory.new.self) w.out_of_memory.result c.turn.new.self.desk.session.runner.positions w.in-Need.ensures.comes.going c.turn.ensures.sound.kept.undone (goes_on_last library (λ b. (own-1.entry b.vtable).1) c.turn.new.self.desk.session c.turn.ensures.sound) refl
           (ap (editing_at (λ b. (own-1.entry b.vtable).1)) w.out_of_memory.ensures.desk) w.out_of_memory.ensures.asked w.out_of_memory.ensures.left w.out_of_memory.ensures.running w.out_of_memory.ensures.heard))
       | in-Over w ↦ rw (w.server-is, w.next-is) w.in-Over.ensures.comes
     ] in
@@ -52,7 +52,7 @@ turns-preserved g c =
     let went : IsNextServing library (seen_in (λ b. (own-1.entry b.vtable).1) g.K.Client.asked g.K.Client.heard g.K.Client.left c.turns.server) (seen_in (λ b. (own-1.entry b.vtable).1) g.K.Client.asked g.K.Client.heard g.K.Client.left c.match-turn.server) c.match-turn.next = elim c.match-turn.branch [
       | in-Need+in-Ok w ↦ rw (w.server-is, w.next-is) (went_serving library (seen_in (λ b. (own-1.entry b.vtable).1) g.K.Client.asked g.K.Client.heard g.K.Client.left c.turns.server) (seen_in (λ b. (own-1.entry b.vtable).1) g.K.Client.asked g.K.Client.heard g.K.Client.left c.turn.new.self) (seen_in (λ b. (own-1.entry b.vtable).1) g.K.Client.asked g.K.Client.heard g.K.Client.left w.supply.new.self) w.in-Need.made w.supply.result w.in-Need.ensures.comes w.supply.ensures.comes)
       | in-Need+in-Err w ↦ rw (w.server-is, w.next-is) (went_serving library (seen_in (λ b. (own-1.entry b.vtable).1) g.K.Client.asked g.K.Client.heard g.K.Client.left c.turns.server) (seen_in (λ b. (own-1.entry b.vtable).1) g.K.Client.asked g.K.Client.heard g.K.Client.left c.turn.new.self) (seen_in (λ b. (own-1.entry b.vtable).1) g.K.Client.asked g.K.Client.heard g.K.Client.left w.out_of_memory.new.self) w.in-Need.made w.out_of_memory.result w.in-Need.ensures.comes
-          (memory_turn library (seen_in (λ b. (own-1.entry b.vtable).1) g.K.Client.asked g.K.Client.heard g.K.Client.left c.turn.new.self) (seen_in (λ b. (own-1.entry b.vtable).1) g.K.Client.asked g.K.Client.heard g.K.Client.left w.out_of_memory.new.self) w.out_of_memory.result c.turn.new.self.desk.session.runner.positions w.in-Need.ensures.comes.going c.turn.ensures.sound.undone (goes_on_last library (λ b. (own-1.entry b.vtable).1) c.turn.new.self.desk.session c.turn.ensures.sound) refl
+          (memory_turn library (seen_in (λ b. (own-1.entry b.vtable).1) g.K.Client.asked g.K.Client.heard g.K.Client.left c.turn.new.self) (seen_in (λ b. (own-1.entry b.vtable).1) g.K.Client.asked g.K.Client.heard g.K.Client.left w.out_of_memory.new.self) w.out_of_memory.result c.turn.new.self.desk.session.runner.positions w.in-Need.ensures.comes.going c.turn.ensures.sound.kept.undone (goes_on_last library (λ b. (own-1.entry b.vtable).1) c.turn.new.self.desk.session c.turn.ensures.sound) refl
           (ap (editing_at (λ b. (own-1.entry b.vtable).1)) w.out_of_memory.ensures.desk) w.out_of_memory.ensures.asked w.out_of_memory.ensures.left w.out_of_memory.ensures.running w.out_of_memory.ensures.heard))
       | in-Over w ↦ rw (w.server-is, w.next-is) w.in-Over.ensures.comes
     ] in
@@ -80,7 +80,7 @@ returns-in-Stop-clause-served g c =
     let went : IsNextServing library (seen_in (λ b. (own-1.entry b.vtable).1) g.K.Client.asked g.K.Client.heard g.K.Client.left c.turns.server) (seen_in (λ b. (own-1.entry b.vtable).1) g.K.Client.asked g.K.Client.heard g.K.Client.left c.match-turn.server) c.match-turn.next = elim c.match-turn.branch [
       | in-Need+in-Ok w ↦ rw (w.server-is, w.next-is) (went_serving library (seen_in (λ b. (own-1.entry b.vtable).1) g.K.Client.asked g.K.Client.heard g.K.Client.left c.turns.server) (seen_in (λ b. (own-1.entry b.vtable).1) g.K.Client.asked g.K.Client.heard g.K.Client.left c.turn.new.self) (seen_in (λ b. (own-1.entry b.vtable).1) g.K.Client.asked g.K.Client.heard g.K.Client.left w.supply.new.self) w.in-Need.made w.supply.result w.in-Need.ensures.comes w.supply.ensures.comes)
       | in-Need+in-Err w ↦ rw (w.server-is, w.next-is) (went_serving library (seen_in (λ b. (own-1.entry b.vtable).1) g.K.Client.asked g.K.Client.heard g.K.Client.left c.turns.server) (seen_in (λ b. (own-1.entry b.vtable).1) g.K.Client.asked g.K.Client.heard g.K.Client.left c.turn.new.self) (seen_in (λ b. (own-1.entry b.vtable).1) g.K.Client.asked g.K.Client.heard g.K.Client.left w.out_of_memory.new.self) w.in-Need.made w.out_of_memory.result w.in-Need.ensures.comes
-          (memory_turn library (seen_in (λ b. (own-1.entry b.vtable).1) g.K.Client.asked g.K.Client.heard g.K.Client.left c.turn.new.self) (seen_in (λ b. (own-1.entry b.vtable).1) g.K.Client.asked g.K.Client.heard g.K.Client.left w.out_of_memory.new.self) w.out_of_memory.result c.turn.new.self.desk.session.runner.positions w.in-Need.ensures.comes.going c.turn.ensures.sound.undone (goes_on_last library (λ b. (own-1.entry b.vtable).1) c.turn.new.self.desk.session c.turn.ensures.sound) refl
+          (memory_turn library (seen_in (λ b. (own-1.entry b.vtable).1) g.K.Client.asked g.K.Client.heard g.K.Client.left c.turn.new.self) (seen_in (λ b. (own-1.entry b.vtable).1) g.K.Client.asked g.K.Client.heard g.K.Client.left w.out_of_memory.new.self) w.out_of_memory.result c.turn.new.self.desk.session.runner.positions w.in-Need.ensures.comes.going c.turn.ensures.sound.kept.undone (goes_on_last library (λ b. (own-1.entry b.vtable).1) c.turn.new.self.desk.session c.turn.ensures.sound) refl
           (ap (editing_at (λ b. (own-1.entry b.vtable).1)) w.out_of_memory.ensures.desk) w.out_of_memory.ensures.asked w.out_of_memory.ensures.left w.out_of_memory.ensures.running w.out_of_memory.ensures.heard))
       | in-Over w ↦ rw (w.server-is, w.next-is) w.in-Over.ensures.comes
     ] in

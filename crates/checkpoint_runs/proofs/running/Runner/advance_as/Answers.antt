@@ -1,4 +1,4 @@
-use Rattle.std.proofs.Common.{◌≡◌, Some, None, inl, inr, refl, sym, ap, ◌∙◌, arith, subst}
+use Rattle.std.proofs.Common.{◌≡◌, Some, None, length, inl, inr, refl, sym, ap, ◌∙◌, arith, subst}
 use Rattle.checkpoints.specs.Stored.{counts_in}
 use Rattle.kernel.specs.Kernels.{world_in}
 use Rattle.run_semantics.specs.Run.{run_to}
@@ -137,3 +137,11 @@ returns-in-Done-None-clause-advances g c =
     ok_step c.run_from_setup.result c.run_from_setup.ensures.advances (λ advance h.
     setup_advances b m c.args.limit c.args.phase (standing_in (λ b. (g.dyn-1.0.entry b.vtable).1) c.args.self.now) old cleared w xs new advance back.0 (rw back.1 at (ap counts_in c.clear.ensures))
     (subst (λ r. Advances b m c.args.limit c.args.phase (standing_in (λ b. (g.dyn-1.0.entry b.vtable).1) r) cleared w xs new advance) back.1 h))
+
+-- what calls show of the modules that are there still
+pub run_on-requires-clause-shown : goal.run_on-requires-clause-shown
+run_on-requires-clause-shown g c =
+    let back = rw (c.in-Done-Some.is, c.in-Done-Some.field-0-is) at c.in_ok-request.ensures.back in
+    let before = (world_in (λ b. (g.dyn-1.0.entry b.vtable).1) c.args.self.now.kernel).records in
+    let now = (world_in (λ b. (g.dyn-1.0.entry b.vtable).1) c.go_back.new.self.kernel).records in
+    c.keep_shown.ensures g.M.ModelMarker.answers before now (ap length (sym c.records-modules.ensures.records)) (ap length (sym c.records.ensures.records)) back.1.records c.requires.shown

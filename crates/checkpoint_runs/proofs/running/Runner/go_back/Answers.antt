@@ -1,6 +1,8 @@
 use Rattle.std.proofs.Common.{◌≡◌, [], Some, None, option_map, refl, sym, ap, ◌∙◌, subst}
 use Rattle.kernel_actions.specs.declared.position.Position.{Position}
 use Rattle.kernel.specs.Kernels.{boxes_in, world_in}
+use Rattle.run_semantics.specs.Laws.{GoesOn}
+use Rattle.run_semantics.specs.World.{World}
 use Rattle.checkpoints.specs.Stored.{counts_in, Timeline}
 use Rattle.kernel_boxes.specs.Saved.{seats_held}
 use Rattle.checkpoint_runs.specs.Kept.{standing_in, waiting_in, AreGood}
@@ -9,7 +11,7 @@ use Rattle.checkpoint_runs.specs.Positions.{CanGoOn}
 use Rattle.checkpoint_runs.specs.declared.running.Stood.TheVariants as stood
 use Rattle.checkpoint_runs.proofs.Back.{alone_none, back_needs, boxes_back}
 use Rattle.checkpoint_runs.proofs.Counting.{back_stored, kept_counts, left_stored, on_err, start_is}
-use Rattle.checkpoint_runs.proofs.Good.{back_at, can_go_on_last, good_found, good_on, good_rises, good_states, good_up_to, grown_beside}
+use Rattle.checkpoint_runs.proofs.Good.{back_at, can_go_on_last, good_back, good_found, good_on, good_rises, good_states, good_up_to, grown_beside}
 use Rattle.checkpoint_runs.proofs.running.Runner.go_back.Goals as goal
 
 pub returns-in_default-clause-back : goal.returns-in_default-clause-back
@@ -116,6 +118,7 @@ returns-in-None-clause-back g c =
       record {
         going = record { going = back.going; within = back.within; room = back.room; good = back.good; below = back.below; stood = ap stood.After (c.count-start.ensures ∙ sym back.count) };
         count = back.count ∙ sym c.count-start.ensures;
+        records = subst (λ (v : World). GoesOn v.records w.records) (sym (c.in_ok-request.ensures.ok c.in-None.is ∙ good_back b m w p found)) found.grown.records;
         none = ap (seats_held (λ b. (g.dyn-1.0.entry b.vtable).1)) c.clear.ensures;
         needs_none = subst (λ k. needed_by b m (Some k) (kept_back b m k (standing_in (λ b. (g.dyn-1.0.entry b.vtable).1) old)) ≡ None) (sym c.count-start.ensures) (sym (without ∙ back_needs b m w p ss xs found none));
         positions = c.cut_after.ensures;

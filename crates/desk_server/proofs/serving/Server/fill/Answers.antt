@@ -3,7 +3,7 @@ use Rattle.desk_answers.specs.Turns.{editing_at}
 use Rattle.text_writer.specs.declared.noted.GhostBytes.{GhostBytes}
 use Rattle.module_network.specs.Library.{library}
 use Rattle.desk_server.specs.Serving.{seen_in}
-use Rattle.desk_server.proofs.Hearing.{misses_files, tells_written}
+use Rattle.desk_server.proofs.Hearing.{misses_files, some_last, tells_written}
 use Rattle.desk_server.proofs.serving.Server.fill.Goals as goal
 
 pub returns-in-Ok-keep : goal.returns-in-Ok-keep
@@ -25,7 +25,7 @@ returns-in-Err-keep g c = record {
   label = search rules;
   stops = search rules;
   sound = search rules;
-  comes = misses_files library (seen_in (λ b. (g.dyn-1.0.entry b.vtable).1) g.K.Client.asked g.K.Client.heard g.K.Client.left c.args.self.now) _ c.in-Err-keep.ensures.asked c.in-Err-keep.ensures.gone c.requires.done;
+  comes = misses_files library (seen_in (λ b. (g.dyn-1.0.entry b.vtable).1) g.K.Client.asked g.K.Client.heard g.K.Client.left c.args.self.now) _ c.in-Err-keep.ensures.asked c.in-Err-keep.ensures.gone (some_last library (editing_at (λ b. (g.dyn-1.0.entry b.vtable).1) c.args.self.now.desk).model (editing_at (λ b. (g.dyn-1.0.entry b.vtable).1) c.args.self.now.desk).done c.args.files.now c.requires.files);
 }
 
 pub returns-in-Err : goal.returns-in-Err
@@ -34,5 +34,5 @@ returns-in-Err g c = record {
   label = search rules;
   stops = search rules;
   sound = search rules;
-  comes = misses_files library (seen_in (λ b. (g.dyn-1.0.entry b.vtable).1) g.K.Client.asked g.K.Client.heard g.K.Client.left c.args.self.now) _ c.lose.ensures.asked c.lose.ensures.heard c.requires.done;
+  comes = misses_files library (seen_in (λ b. (g.dyn-1.0.entry b.vtable).1) g.K.Client.asked g.K.Client.heard g.K.Client.left c.args.self.now) _ c.lose.ensures.asked c.lose.ensures.heard (some_last library (editing_at (λ b. (g.dyn-1.0.entry b.vtable).1) c.args.self.now.desk).model (editing_at (λ b. (g.dyn-1.0.entry b.vtable).1) c.args.self.now.desk).done c.args.files.now c.requires.files);
 }

@@ -10,7 +10,7 @@ pub returns-in-NoMemory : goal.returns-in-NoMemory
 returns-in-NoMemory g c = serves_told c.out_of_memory.ensures c.out_of_memory.ensures.stops c.supply.ensures.sound (search rules)
     (memory_turn library (seen_in (λ b. (g.dyn-1.0.entry b.vtable).1) g.K.Client.asked g.K.Client.heard g.K.Client.left c.args.self.now)
     (seen_in (λ b. (g.dyn-1.0.entry b.vtable).1) g.K.Client.asked g.K.Client.heard g.K.Client.left c.out_of_memory.new.self) c.out_of_memory.result c.args.self.now.desk.session.runner.positions
-    c.requires.going c.requires.sound.undone (goes_on_last library (λ b. (g.dyn-1.0.entry b.vtable).1) c.args.self.now.desk.session c.requires.sound) refl (ap (editing_at (λ b. (g.dyn-1.0.entry b.vtable).1)) c.out_of_memory.ensures.desk ∙ c.in-Err.ensures.err.1) c.out_of_memory.ensures.asked c.out_of_memory.ensures.left c.out_of_memory.ensures.running c.out_of_memory.ensures.heard)
+    c.requires.going c.requires.sound.kept.undone (goes_on_last library (λ b. (g.dyn-1.0.entry b.vtable).1) c.args.self.now.desk.session c.requires.sound) refl (ap (editing_at (λ b. (g.dyn-1.0.entry b.vtable).1)) c.out_of_memory.ensures.desk ∙ c.in-Err.ensures.err.1) c.out_of_memory.ensures.asked c.out_of_memory.ensures.left c.out_of_memory.ensures.running c.out_of_memory.ensures.heard)
 
 pub returns-in-Ok : goal.returns-in-Ok
 returns-in-Ok g c = record {

@@ -1,4 +1,6 @@
-use Rattle.std.proofs.Common.{◌++◌, option_map, ap, ◌∙◌}
+use Rattle.std.proofs.Common.{◌++◌, option_map, sym, ap, ◌∙◌, subst}
+use Rattle.model_answers.specs.Answering.{answers_of}
+use Rattle.kernel_call_views.specs.Tables.{AreShown}
 use Rattle.run_semantics.specs.Run.{standing}
 use Rattle.kernel_boxes.specs.Saved.{seats_held}
 use Rattle.checkpoint_runs.specs.Kept.{standing_in, waiting_in}
@@ -15,10 +17,14 @@ returns-clause-sound g c =
     let old = c.args.self.now in
     let new = c.keep_up_to.new.self in
     let kernel = rw c.give_up.ensures at c.keep_up_to.ensures.kernel in
-    rw c.give_up.ensures (kept_edited g.C.Catalogue.behaviour (boxes_in (λ b. (g.dyn-1.0.entry b.vtable).1) old.runner.kernel) (boxes_in (λ b. (g.dyn-1.0.entry b.vtable).1) new.kernel) (waiting_in (λ b. (g.dyn-1.0.entry b.vtable).1) old.runner) (waiting_in (λ b. (g.dyn-1.0.entry b.vtable).1) new) (world_in (λ b. (g.dyn-1.0.entry b.vtable).1) old.runner.kernel)
-    (world_in (λ b. (g.dyn-1.0.entry b.vtable).1) new.kernel) old.model c.args.change.model old.phase (option_map completed_of old.done) old.known c.args.change.edited.valid_to old.runner.positions new.positions c.requires.sound
-    (ap (λ K. boxes_in (λ b. (g.dyn-1.0.entry b.vtable).1) K) kernel) (ap (λ K. world_in (λ b. (g.dyn-1.0.entry b.vtable).1) K) kernel) (rw c.give_up.ensures at c.keep_up_to.ensures.positions)
-    c.requires.changed.1.known c.requires.changed.1.good (ap (seats_held (λ b. (g.dyn-1.0.entry b.vtable).1)) (rw c.give_up.ensures at c.keep_up_to.ensures.waiting)))
+    let shown = c.keep_shown.ensures old.model c.args.change.model (world_in (λ b. (g.dyn-1.0.entry b.vtable).1) old.runner.kernel).records c.requires.changed.1.same c.requires.sound.shown in
+    record {
+      kept = rw c.give_up.ensures (kept_edited g.C.Catalogue.behaviour (boxes_in (λ b. (g.dyn-1.0.entry b.vtable).1) old.runner.kernel) (boxes_in (λ b. (g.dyn-1.0.entry b.vtable).1) new.kernel) (waiting_in (λ b. (g.dyn-1.0.entry b.vtable).1) old.runner) (waiting_in (λ b. (g.dyn-1.0.entry b.vtable).1) new) (world_in (λ b. (g.dyn-1.0.entry b.vtable).1) old.runner.kernel)
+          (world_in (λ b. (g.dyn-1.0.entry b.vtable).1) new.kernel) old.model c.args.change.model old.phase (option_map completed_of old.done) old.known c.args.change.edited.valid_to old.runner.positions new.positions c.requires.sound.kept
+          (ap (λ K. boxes_in (λ b. (g.dyn-1.0.entry b.vtable).1) K) kernel) (ap (λ K. world_in (λ b. (g.dyn-1.0.entry b.vtable).1) K) kernel) (rw c.give_up.ensures at c.keep_up_to.ensures.positions)
+          c.requires.changed.1.known c.requires.changed.1.good (ap (seats_held (λ b. (g.dyn-1.0.entry b.vtable).1)) (rw c.give_up.ensures at c.keep_up_to.ensures.waiting)));
+      shown = rw c.give_up.ensures (subst (λ K. AreShown (answers_of c.args.change.model) (world_in (λ b. (g.dyn-1.0.entry b.vtable).1) K).records c.keep_shown.new.shown) (sym kernel) shown);
+    }
 
 pub returns-clause-left : goal.returns-clause-left
 returns-clause-left g c =

@@ -1,5 +1,6 @@
 use Rattle.std.proofs.Common.{sym, subst}
 use Rattle.model_data.specs.declared.model.Model.{Model}
+use Rattle.model_agreement.specs.Models.{RestOnSame}
 use Rattle.model_edits.specs.Edited.{IsEditOf}
 use Rattle.edit_session.specs.Sessions.{editing_of}
 use Rattle.edit_session.proofs.Changes.{changed_by}
@@ -19,4 +20,5 @@ returns-in-Ok-clause-changed g c = record {
       c.model.ensures c.in_ok-model.ensures.accepted c.in_ok-model.ensures.only c.in-Ok.ensures.model c.number_given-given.ensures c.in-Ok.ensures.injection c.in-Ok.ensures.valid;
   known = c.in-Ok.ensures.known;
   good = c.in-Ok.ensures.good;
+  same = λ e. subst (λ (m : Model). RestOnSame c.args.self.now.model m) (sym c.in-Ok.ensures.model) (c.in-Ok.ensures.same e);
 }

@@ -15,12 +15,15 @@ returns-in-Err-clause-kept g c =
     let old = c.run_through.new.self.runner in
     let new = c.cut_back-self.new.self in
     let stored =
-    is_given_up g.C.Catalogue.behaviour (answers_of c.args.self.now.model) c.args.limit old.stood (counts_in c.args.self.now.runner.positions) (counts_in old.positions) (Fits-lt-pow c.ranges.limit) c.run_through.ensures.stored c.requires.sound.stored in
+    is_given_up g.C.Catalogue.behaviour (answers_of c.args.self.now.model) c.args.limit old.stood (counts_in c.args.self.now.runner.positions) (counts_in old.positions) (Fits-lt-pow c.ranges.limit) c.run_through.ensures.stored c.requires.sound.kept.stored in
     record {
-      sound = rw c.give_up.ensures (kept_cut g.C.Catalogue.behaviour c.run_through.new.self.model (boxes_in (λ b. (g.dyn-1.0.entry b.vtable).1) old.kernel) (boxes_in (λ b. (g.dyn-1.0.entry b.vtable).1) new.kernel) (waiting_in (λ b. (g.dyn-1.0.entry b.vtable).1) old) (waiting_in (λ b. (g.dyn-1.0.entry b.vtable).1) new) (world_in (λ b. (g.dyn-1.0.entry b.vtable).1) old.kernel) (world_in (λ b. (g.dyn-1.0.entry b.vtable).1) new.kernel)
-          old.positions new.positions c.cut_back-self.result
-          (rw c.give_up.ensures at c.cut_back-self.ensures.seats) (ap (seats_held (λ b. (g.dyn-1.0.entry b.vtable).1)) (rw c.give_up.ensures at c.cut_back-self.ensures.waiting)) (rw c.give_up.ensures at c.cut_back-self.ensures.positions) (rw c.give_up.ensures at c.cut_back-self.ensures.last)
-          c.run_through.ensures.kinds c.run_through.ensures.good c.run_through.ensures.alone (rw c.give_up.ensures at c.cut_back-self.ensures.rising) stored (rw c.give_up.ensures at c.cut_back-self.ensures.world));
+      sound = record {
+        kept = rw c.give_up.ensures (kept_cut g.C.Catalogue.behaviour c.run_through.new.self.model (boxes_in (λ b. (g.dyn-1.0.entry b.vtable).1) old.kernel) (boxes_in (λ b. (g.dyn-1.0.entry b.vtable).1) new.kernel) (waiting_in (λ b. (g.dyn-1.0.entry b.vtable).1) old) (waiting_in (λ b. (g.dyn-1.0.entry b.vtable).1) new) (world_in (λ b. (g.dyn-1.0.entry b.vtable).1) old.kernel) (world_in (λ b. (g.dyn-1.0.entry b.vtable).1) new.kernel)
+            old.positions new.positions c.cut_back-self.result
+            (rw c.give_up.ensures at c.cut_back-self.ensures.seats) (ap (seats_held (λ b. (g.dyn-1.0.entry b.vtable).1)) (rw c.give_up.ensures at c.cut_back-self.ensures.waiting)) (rw c.give_up.ensures at c.cut_back-self.ensures.positions) (rw c.give_up.ensures at c.cut_back-self.ensures.last)
+            c.run_through.ensures.kinds c.run_through.ensures.good c.run_through.ensures.alone (rw c.give_up.ensures at c.cut_back-self.ensures.rising) stored (rw c.give_up.ensures at c.cut_back-self.ensures.world));
+        shown = c.new.ensures.shown (answers_of c.give_up.new.self.model) (world_in (λ b. (g.dyn-1.0.entry b.vtable).1) new.kernel).records;
+      };
       model = rw c.give_up.ensures c.run_through.ensures.model;
     }
 
