@@ -10,7 +10,7 @@ use Rattle.std.specs.Map.{keys_of, lookup}
 use Rattle.std.specs.Option.{option_and_then}
 use Rattle.event_set.specs.declared.entry.EventEntry.{EventEntry}
 use Rattle.event_set.specs.declared.pending.Happening.{Happening}
-use Rattle.event_set.specs.declared.pending.Happening.TheVariants.{Timer, Arrival, Delivery}
+use Rattle.event_set.specs.declared.pending.Happening.TheVariants.{Timer, Arrival, Delivery, Start}
 use Rattle.event_set.specs.declared.pending.Pending.{Pending}
 use Rattle.event_set.specs.declared.places.Key.{Key}
 use Rattle.event_set.specs.declared.places.TimerKey.{TimerKey}
@@ -93,6 +93,7 @@ timer_id : (id : ℕ) (what : Happening) (t : TimerKey) → timer_in id what ≡
 timer_id id (Timer timer kind) t h = ap (λ (o : Option TimerKey). id_in id o) h
 timer_id id (Arrival kind bits payload) t h = absurd (none_some h)
 timer_id id (Delivery delivery) t h = absurd (none_some h)
+timer_id id (Start last) t h = absurd (none_some h)
 
 left_is : (ids : List ℕ) (f : Where) (t : TimerKey) → not (among t.id ids) ≡ true → left_without ids f t ≡ f t
 left_is ids f t h = by (among t.id ids) h

@@ -1,5 +1,6 @@
 pub mod Order
 pub mod Keys
 pub mod Sets
+pub mod Firsts
 pub mod Slots
 pub mod Dropping

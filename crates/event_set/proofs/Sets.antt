@@ -9,7 +9,7 @@ use Rattle.std.specs.List.Sorted.{IsStrictlySortedBy}
 use Rattle.std.specs.Map.{keys_of, remove_entry}
 use Rattle.std.specs.Option.{option_and_then}
 use Rattle.event_set.specs.declared.pending.Happening.{Happening}
-use Rattle.event_set.specs.declared.pending.Happening.TheVariants.{Timer, Arrival, Delivery}
+use Rattle.event_set.specs.declared.pending.Happening.TheVariants.{Timer, Arrival, Delivery, Start}
 use Rattle.event_set.specs.declared.pending.Pending.{Pending}
 use Rattle.event_set.specs.declared.entry.EventEntry.{EventEntry}
 use Rattle.event_set.specs.declared.places.Key.{Key}
@@ -85,6 +85,7 @@ number_is id timer other (Timer number kind) h =
     λ i. Some (record { id = one i; timer = two i })
 number_is id timer other (Arrival kind bits payload) h = absurd (no_and (other == id) h)
 number_is id timer other (Delivery delivery) h = absurd (no_and (other == id) h)
+number_is id timer other (Start last) h = absurd (no_and (other == id) h)
 
 abbrev pub id_in : ℕ → Option TimerKey → ℕ
 id_in d None = d
@@ -101,6 +102,7 @@ is_number t other (Timer number kind) h =
     rw (eq-eqb other t.id one) (eq-eqb number t.timer two)
 is_number t other (Arrival kind bits payload) h = cc
 is_number t other (Delivery delivery) h = cc
+is_number t other (Start last) h = cc
 
 -- what stands where the place is known
 timer_there : (es : Held) (k : Key) (e : EventEntry) (t : TimerKey) → at_key es k ≡ Some e → option_and_then timer_of (at_key es k) ≡ Some t → timer_of e ≡ Some t
@@ -336,6 +338,7 @@ pub free_if : (es : Held) (ts : Where) (n : ℕ) (id : ℕ) (what : Happening) �
 free_if es ts n id (Timer timer kind) s h = none_if (ts (record { id = id; timer = timer })) (has es ts n (record { id = id; timer = timer }) s ∙ h)
 free_if es ts n id (Arrival kind bits payload) s h = tt
 free_if es ts n id (Delivery delivery) s h = tt
+free_if es ts n id (Start last) s h = tt
 
 undone_by : (b : Bool) (u t : TimerKey) (k : Key) (ts mid : Where) → is_at (timer_order u) t ≡ b → ts u ≡ None → mid t ≡ cond b (Some k) (ts t) → cond b None (mid t) ≡ ts t
 undone_by true u t k ts mid h free is = sym free ∙ ap ts (timer_at u t h)

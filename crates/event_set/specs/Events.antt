@@ -1,7 +1,8 @@
 -- The events to come, as callers see them.
-use Rattle.std.specs.Prelude.{ℕ, ℤ, ◌+◌, ◌==◌, Bool, not, List, []}
+use Rattle.std.specs.Prelude.{ℕ, ℤ, ◌+◌, ◌==◌, Bool, not, List, [], Option, Some, None}
 use Rattle.std.specs.List.{filter, list_any}
 use Rattle.event_set.specs.declared.pending.Happening.{Happening}
+use Rattle.event_set.specs.declared.pending.Happening.TheVariants.{Arrival, Delivery, Start, Timer}
 use Rattle.event_set.specs.declared.pending.Pending.{Pending}
 use Rattle.event_set.specs.declared.set.Coming.{Coming}
 use Rattle.event_set.specs.Order.{inserted}
@@ -32,9 +33,21 @@ scheduled time priority id what e = record {
 abbrev pub cancelled : ℕ → ℕ → Events → Events
 cancelled id timer e = record { list = without_timer id timer e.list; next = e.next }
 
--- when an event comes, its priority and its module
+-- the last id of the modules that are started, where that is what happens
+abbrev pub last_started : Happening → Option ℕ
+last_started (Timer timer kind) = None
+last_started (Arrival kind bits payload) = None
+last_started (Delivery d) = None
+last_started (Start last) = Some last
+
+-- when an event comes, its priority, its module, and which it starts
 abbrev pub coming_of : Pending → Coming
-coming_of p = record { time = p.time; priority = p.priority; id = p.id }
+coming_of p = record {
+  time = p.time;
+  priority = p.priority;
+  id = p.id;
+  last_started = last_started p.what;
+}
 
 -- these events in place of the others
 abbrev pub with_list : List Pending → Events → Events

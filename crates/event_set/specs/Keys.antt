@@ -8,7 +8,7 @@ use Rattle.std.specs.List.Sorted.{IsStrictlySortedBy}
 use Rattle.std.specs.Map.{lookup, keys_of}
 use Rattle.std.specs.Option.{option_and_then, option_or}
 use Rattle.event_set.specs.declared.pending.Happening.{Happening}
-use Rattle.event_set.specs.declared.pending.Happening.TheVariants.{Timer, Arrival, Delivery}
+use Rattle.event_set.specs.declared.pending.Happening.TheVariants.{Timer, Arrival, Delivery, Start}
 use Rattle.event_set.specs.declared.pending.Pending.{Pending}
 use Rattle.event_set.specs.declared.entry.EventEntry.{EventEntry}
 use Rattle.event_set.specs.declared.entry.EventEntry.TheVariants as entry
@@ -31,11 +31,13 @@ abbrev pub id_of : EventEntry → ℕ
 id_of (entry.Timer kind id timer) = id
 id_of (entry.Arrival kind id bits payload alloc) = id
 id_of (entry.Delivery id delivery alloc) = id
+id_of (entry.Start id last) = id
 
 abbrev pub what_of : EventEntry → Happening
 what_of (entry.Timer kind id timer) = Timer timer kind
 what_of (entry.Arrival kind id bits payload alloc) = Arrival kind bits payload
 what_of (entry.Delivery id delivery alloc) = Delivery delivery
+what_of (entry.Start id last) = Start last
 
 -- an entry as the event that it is
 abbrev pub pending_of : Key × EventEntry → Pending
@@ -55,6 +57,7 @@ abbrev pub timer_in : ℕ → Happening → Option TimerKey
 timer_in id (Timer timer kind) = Some (record { id = id; timer = timer })
 timer_in id (Arrival kind bits payload) = None
 timer_in id (Delivery delivery) = None
+timer_in id (Start last) = None
 
 abbrev pub timer_of : EventEntry → Option TimerKey
 timer_of e = timer_in (id_of e) (what_of e)

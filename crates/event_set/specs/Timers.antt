@@ -2,13 +2,14 @@
 use Rattle.std.specs.Prelude.{ℕ, ◌==◌, ◌&&◌, Bool, false, List, [], ◌∷◌, if◌then◌else◌}
 use Rattle.std.specs.List.{list_any}
 use Rattle.event_set.specs.declared.pending.Happening.{Happening}
-use Rattle.event_set.specs.declared.pending.Happening.TheVariants.{Timer, Arrival, Delivery}
+use Rattle.event_set.specs.declared.pending.Happening.TheVariants.{Timer, Arrival, Delivery, Start}
 use Rattle.event_set.specs.declared.pending.Pending.{Pending}
 
 abbrev pub is_timer_number : ℕ → Happening → Bool
 is_timer_number timer (Timer number kind) = number == timer
 is_timer_number timer (Arrival kind bits payload) = false
 is_timer_number timer (Delivery delivery) = false
+is_timer_number timer (Start last) = false
 
 -- whether it is that timer of that module
 abbrev pub is_timer : ℕ → ℕ → Pending → Bool
@@ -28,3 +29,4 @@ abbrev pub is_pending : ℕ → Happening → List Pending → Bool
 is_pending id (Timer timer kind) ps = has_timer id timer ps
 is_pending id (Arrival kind bits payload) ps = false
 is_pending id (Delivery delivery) ps = false
+is_pending id (Start last) ps = false

@@ -1,6 +1,7 @@
 //! Events as the tree has them: all but their place.
 
 ghost use Rattle.std.specs.Prelude.{◌≡◌, IfOk};
+ghost use Rattle.event_set.specs.Events.{last_started};
 ghost use Rattle.event_set.specs.Keys.{id_of, what_of};
 
 use crate::pending::{Delivery, Happening};
@@ -32,6 +33,11 @@ pub(crate) enum EventEntry {
         id: u32,
         delivery: Boxed<Delivery>,
         alloc: Global,
+    },
+    /// The start of the modules with these ids, and all between.
+    Start {
+        id: u32,
+        last: u32,
     },
 }
 
@@ -71,6 +77,10 @@ impl Clone for EventEntry {
                 delivery: Boxed::new(*alloc, delivery.get().copy(*alloc)?)?,
                 alloc: *alloc,
             },
+            EventEntry::Start { id, last } => EventEntry::Start {
+                id: *id,
+                last: *last,
+            },
         })
     }
 }
@@ -95,6 +105,7 @@ impl EventEntry {
                 delivery: Boxed::new(alloc, delivery)?,
                 alloc,
             },
+            Happening::Start(last) => EventEntry::Start { id, last },
         })
     }
 
@@ -105,7 +116,19 @@ impl EventEntry {
         match self {
             EventEntry::Timer { id, .. }
             | EventEntry::Arrival { id, .. }
-            | EventEntry::Delivery { id, .. } => *id,
+            | EventEntry::Delivery { id, .. }
+            | EventEntry::Start { id, .. } => *id,
+        }
+    }
+
+    /// The last id of the modules that it starts, if it is a start.
+    pub(crate) fn last_started(&self) -> Option<u32>
+        ensures { result ≡ last_started (what_of self.now) }
+    {
+        match self {
+            EventEntry::Start { last, .. } => Some(*last),
+            EventEntry::Timer { .. } | EventEntry::Arrival { .. } | EventEntry::Delivery { .. } =>
+                None,
         }
     }
 
@@ -122,6 +145,7 @@ impl EventEntry {
                 ..
             } => Happening::Arrival(kind, bits, payload.into_inner()),
             EventEntry::Delivery { delivery, .. } => Happening::Delivery(delivery.into_inner()),
+            EventEntry::Start { last, .. } => Happening::Start(last),
         }
     }
 }

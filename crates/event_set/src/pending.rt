@@ -28,6 +28,9 @@ pub enum Happening {
     Arrival(i16, u64, Text),
     /// A message of a module.
     Delivery(Delivery),
+    /// The start of a module that was created, and of those that were created with it: their ids
+    /// are those from its own to this one.
+    Start(u32),
 }
 
 impl Delivery {

@@ -6,7 +6,7 @@ ghost use Rattle.std.specs.Option.{option_map};
 ghost use Rattle.event_set.specs.Order.{Each, AreInOrder};
 ghost use Rattle.event_set.specs.Timers.{has_timer, is_pending};
 ghost use Rattle.event_set.specs.Keys.{key_order, timer_in, at_key, place_at, noted, forgotten};
-ghost use Rattle.event_set.specs.Keys.{id_of, IsFree};
+ghost use Rattle.event_set.specs.Keys.{id_of, pending_of, IsFree};
 ghost use Rattle.event_set.specs.declared.places.TimerKey.{TimerKey};
 ghost use Rattle.event_set.specs.declared.places.Key.{Key};
 ghost use Rattle.std.specs.BTreeMap.{is_at, insert_entry};
@@ -25,12 +25,14 @@ use std::alloc::{AllocError, Global};
 use std::collections::BTreeMap;
 use std::marker::Model;
 
-/// When an event comes, its priority and its module, told before it is taken out.
+/// When an event comes, its priority, its module, and which it starts, told before it is taken out.
 #[derive(Clone, Copy, Drop)]
 pub struct Coming {
     pub time: SimTime,
     pub priority: i16,
     pub id: u32,
+    /// Of a start the last id of the modules that are started.
+    pub last_started: Option<u32>,
 }
 
 /// The events to come, ordered by time, priority and number of insertion, which contracts see as
@@ -140,11 +142,7 @@ impl EventSet {
         ensures { result ≡ option_map coming_of (slice_get self.now.list 0) }
     {
         match self.events.first_key_value() {
-            Some((key, entry)) => Some(Coming {
-                time: key.time,
-                priority: key.priority,
-                id: entry.id(),
-            }),
+            Some((key, entry)) => Some(coming_at(key, entry)),
             None => None,
         }
     }
@@ -203,6 +201,18 @@ fn key_of(time: SimTime, priority: i16, number: u128) -> Key
     }
 }
 
+/// What is told of an entry and its place.
+fn coming_at(key: &Key, entry: &EventEntry) -> Coming
+    ensures { result ≡ coming_of (pending_of (key.now, entry.now)) }
+{
+    Coming {
+        time: key.time,
+        priority: key.priority,
+        id: entry.id(),
+        last_started: entry.last_started(),
+    }
+}
+
 /// Equal entries at equal places.
 fn copy_events(events: &BTreeMap<Key, EventEntry>) -> Result<BTreeMap<Key, EventEntry>, AllocError>
     ensures { IfOk result (λ copy. copy.entries ≡ events.now.entries) }
@@ -255,7 +265,7 @@ fn timer_in(id: u32, what: &Happening) -> Option<TimerKey>
 {
     match what {
         Happening::Timer(timer, _) => Some(TimerKey { id, timer: *timer }),
-        Happening::Arrival(_, _, _) | Happening::Delivery(_) => None,
+        Happening::Arrival(_, _, _) | Happening::Delivery(_) | Happening::Start(_) => None,
     }
 }
 

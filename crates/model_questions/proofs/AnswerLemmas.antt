@@ -15,7 +15,7 @@ use Rattle.model_questions.specs.declared.record.Record.{Record}
 use Rattle.model_questions.specs.Answers.{Answers, answer_of, gates_of, is_declared, parameters_of, value_at, with_value, with_values}
 use Rattle.model_questions.specs.Gates.{gate_answer, gate_named, half_of, in_mark, is_half, is_inout, out_mark}
 use Rattle.model_questions.proofs.QuestionLemmas.{both}
-use Rattle.model_questions.specs.Records.{lineage_up, place_of, record_at, with_those_around}
+use Rattle.model_questions.specs.Records.{lineage_up, place_of, record_at, untyped, with_those_around}
 
 -- ---- records
 
@@ -69,6 +69,7 @@ place_more rs more h id l = lineage_more rs more h 32 id l
 -- the module that a question is about, 0 for none
 abbrev pub about : Question → ℕ
 about question.Root = 0
+about (question.TypeOf id) = id
 about (question.Build id) = id
 about (question.Param id name) = id
 about (question.GateSize id name) = id
@@ -80,6 +81,7 @@ about (question.InjectionBefore due last) = 0
 -- more modules change no answer about those that are there
 pub answer_more : (a : Answers) (rs more : List Record) → AreNested 0 rs → (q : Question) → about q ≤ length rs → answer_of a (rs ++ more) q ≡ answer_of a rs q
 answer_more a rs more h question.Root l = refl
+answer_more a rs more h (question.TypeOf id) l = ap (λ p. a.class_there (untyped p)) (place_more rs more h id l)
 answer_more a rs more h (question.Build id) l = ap a.inside (place_more rs more h id l)
 answer_more a rs more h (question.Param id name) l = ap (λ p. value_at a p name) (place_more rs more h id l)
 answer_more a rs more h (question.GateSize id name) l = ap (λ p. gate_named name (a.gates p)) (place_more rs more h id l)
@@ -87,6 +89,27 @@ answer_more a rs more h (question.Hop id name index) l = ap (λ p. a.hop p name 
 answer_more a rs more h (question.HopBack id name index) l = ap (λ p. a.hop_back p name index) (place_more rs more h id l)
 answer_more a rs more h (question.BeyondLimit time) l = refl
 answer_more a rs more h (question.InjectionBefore due last) l = refl
+
+-- ---- a module that is created
+
+-- the last record
+pub last_at : (rs : List Record) (r : Record) → slice_get (rs ++ r ∷ []) (length rs) ≡ Some r
+last_at [] r = refl
+last_at (x ∷ xs) r = last_at xs r
+
+-- it stands in the line of the module around it
+pub last_line : (n : ℕ) (rs : List Record) (r : Record) → AreNested 0 rs → r.parent ≤ length rs → lineage_up (suc n) (rs ++ r ∷ []) (suc (length rs)) ≡ r ∷ lineage_up n rs r.parent
+last_line n rs r h l = ap (with_those_around (lineage_up n (rs ++ r ∷ []))) (last_at rs r) ∙ ap (λ line. r ∷ line) (lineage_more rs (r ∷ []) h n r.parent l)
+
+last_place : (rs : List Record) (r : Record) → AreNested 0 rs → r.parent ≤ length rs → place_of (rs ++ r ∷ []) (suc (length rs)) ≡ r ∷ lineage_up 31 rs r.parent
+unfolding place_of
+last_place rs r h l = last_line 31 rs r h l
+
+-- its class decides nothing of what is answered about it
+pub typed_alike : (a : Answers) (rs : List Record) (r : Record) (class : Option (List ℕ)) → AreNested 0 rs → r.parent ≤ length rs → answer_of a (rs ++ record r { class = class } ∷ []) (question.TypeOf (suc (length rs))) ≡ answer_of a (rs ++ r ∷ []) (question.TypeOf (suc (length rs)))
+typed_alike a rs r class h l =
+    ap (λ p. a.class_there (untyped p)) (last_place rs (record r { class = class }) h l)
+    ∙ sym (ap (λ p. a.class_there (untyped p)) (last_place rs r h l))
 
 -- ---- the parameters that a call shows
 
@@ -108,6 +131,7 @@ given_none true a e = e
 shown_first : (name other : List ℕ) (a : Answer) (rest : List Parameter) (declared : Bool) → bytes_eq other name ≡ true → value_of name rest ≡ value_in (given declared a) → value_of name (with_value other a rest) ≡ value_in a
 shown_first name other (answer.Value v) rest declared e h = rw e refl
 shown_first name other (answer.Root t) rest declared e h = h ∙ given_none declared (answer.Root t) refl
+shown_first name other (answer.Class class) rest declared e h = h ∙ given_none declared (answer.Class class) refl
 shown_first name other (answer.Inside bs) rest declared e h = h ∙ given_none declared (answer.Inside bs) refl
 shown_first name other (answer.Gate g) rest declared e h = h ∙ given_none declared (answer.Gate g) refl
 shown_first name other (answer.Next found) rest declared e h = h ∙ given_none declared (answer.Next found) refl
@@ -120,6 +144,7 @@ shown_first name other answer.Absent rest declared e h = h ∙ given_none declar
 shown_later : (name other : List ℕ) (a : Answer) (rest : List Parameter) → bytes_eq other name ≡ false → value_of name (with_value other a rest) ≡ value_of name rest
 shown_later name other (answer.Value v) rest e = rw e refl
 shown_later name other (answer.Root t) rest e = refl
+shown_later name other (answer.Class class) rest e = refl
 shown_later name other (answer.Inside bs) rest e = refl
 shown_later name other (answer.Gate g) rest e = refl
 shown_later name other (answer.Next found) rest e = refl
@@ -151,6 +176,7 @@ same_value m n records id name e = value_answered m records id name ∙ (ap valu
 told_by : (a : Answer) (v : Value) → value_in a ≡ Some v → a ≡ answer.Value v
 told_by (answer.Value u) v e = let same : u ≡ v = cc in ap (λ (x : Value). answer.Value x) same
 told_by (answer.Root n) v e = cc
+told_by (answer.Class class) v e = cc
 told_by (answer.Inside bs) v e = cc
 told_by (answer.Gate g) v e = cc
 told_by (answer.Next found) v e = cc

@@ -2,7 +2,7 @@
 use Rattle.std.proofs.Common.{◌≡◌, ◌==◌, Bool, true, false, ◌&&◌, refl, ap, ◌∙◌, eqb-true, bytes_eq}
 use Rattle.std.proofs.lemmas.Slice.Eq.{bytes_eq-Decides}
 use Rattle.model_questions.specs.declared.answer.Question.{Question}
-use Rattle.model_questions.specs.declared.answer.Question.TheVariants.{Root, Build, Param, GateSize, Hop, HopBack}
+use Rattle.model_questions.specs.declared.answer.Question.TheVariants.{Root, TypeOf, Build, Param, GateSize, Hop, HopBack}
 use Rattle.model_questions.specs.Questions.{same_question}
 
 pub both : (a b : Bool) → (a && b) ≡ true → (a ≡ true) × (b ≡ true)
@@ -11,6 +11,7 @@ both false b e = cc
 
 pub same_is : (q r : Question) → same_question q r ≡ true → q ≡ r
 same_is Root Root e = refl
+same_is (TypeOf id) (TypeOf other) e = ap TypeOf (eqb-true id other e)
 same_is (Build id) (Build other) e = ap Build (eqb-true id other e)
 same_is (Param id name) (Param other named) e =
     let h = both (id == other) (bytes_eq name named) e in

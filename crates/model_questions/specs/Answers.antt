@@ -11,9 +11,10 @@ use Rattle.model_questions.specs.declared.answer.Question.{Question}
 use Rattle.model_questions.specs.declared.answer.Question.TheVariants as question
 use Rattle.model_questions.specs.declared.record.Record.{Record}
 use Rattle.model_questions.specs.Gates.{gate_named}
-use Rattle.model_questions.specs.Records.{Lineage, place_of}
+use Rattle.model_questions.specs.Records.{Lineage, place_of, untyped}
 
--- THE ANSWERS of a model are all that a run takes from it: which network is run; what is inside of
+-- THE ANSWERS of a model are all that a run takes from it: which network is run; the class of a
+-- module that was created while the run went on, by where it stands; what is inside of
 -- a module, which parameters it declares, by their names and in their order, the value of one of
 -- these, its gates, in their order, each with its size, and for a gate of that name and index the
 -- next gate that a message comes to, with the channel on the way, and the one from which a message
@@ -21,6 +22,7 @@ use Rattle.model_questions.specs.Records.{Lineage, place_of}
 -- in picoseconds; and the injections.
 pub record Answers : Type 0 where
   pub root : Answer
+  pub class_there : Lineage → Answer
   pub inside : Lineage → Answer
   pub names : Lineage → List (List ℕ)
   pub value : Lineage → List ℕ → Answer
@@ -47,6 +49,7 @@ is_beyond (Some limit) time = nat_lt limit time
 -- THE ANSWER to a question, with the modules of these records
 abbrev pub answer_of : Answers → List Record → Question → Answer
 answer_of a records question.Root = a.root
+answer_of a records (question.TypeOf id) = a.class_there (untyped (place_of records id))
 answer_of a records (question.Build id) = a.inside (place_of records id)
 answer_of a records (question.Param id name) = value_at a (place_of records id) name
 answer_of a records (question.GateSize id name) = gate_named name (a.gates (place_of records id))
@@ -61,6 +64,7 @@ answer_of a records (question.InjectionBefore due last) =
 abbrev pub with_value : List ℕ → Answer → List Parameter → List Parameter
 with_value name (answer.Value v) rest = record { name = name; value = v } ∷ rest
 with_value name (answer.Root network) rest = rest
+with_value name (answer.Class class) rest = rest
 with_value name (answer.Inside bs) rest = rest
 with_value name (answer.Gate g) rest = rest
 with_value name (answer.Next next) rest = rest

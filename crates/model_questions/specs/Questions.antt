@@ -1,15 +1,17 @@
 -- Questions that are the same.
 use Rattle.std.specs.Prelude.{◌==◌, Bool, true, false, ◌&&◌, bytes_eq}
 use Rattle.model_questions.specs.declared.answer.Question.{Question}
-use Rattle.model_questions.specs.declared.answer.Question.TheVariants.{Root, Build, Param, GateSize}
-use Rattle.model_questions.specs.declared.answer.Question.TheVariants.{Hop, HopBack, BeyondLimit}
-use Rattle.model_questions.specs.declared.answer.Question.TheVariants.{InjectionBefore}
+use Rattle.model_questions.specs.declared.answer.Question.TheVariants.{Root, TypeOf, Build, Param}
+use Rattle.model_questions.specs.declared.answer.Question.TheVariants.{GateSize, Hop, HopBack}
+use Rattle.model_questions.specs.declared.answer.Question.TheVariants.{BeyondLimit, InjectionBefore}
 
 -- Whether both ask the same of the model's modules. What is asked of a time is asked of one event,
 -- and never the same.
 abbrev pub same_question : Question → Question → Bool
 same_question Root Root = true
 same_question Root _ = false
+same_question (TypeOf id) (TypeOf other) = id == other
+same_question (TypeOf id) _ = false
 same_question (Build id) (Build other) = id == other
 same_question (Build id) _ = false
 same_question (Param id name) (Param other named) = (id == other) && bytes_eq name named
@@ -28,6 +30,7 @@ same_question (InjectionBefore due last) _ = false
 -- whether it is asked of the model's modules; any other is asked of a time
 abbrev pub is_of_modules : Question → Bool
 is_of_modules Root = true
+is_of_modules (TypeOf id) = true
 is_of_modules (Build id) = true
 is_of_modules (Param id name) = true
 is_of_modules (GateSize id name) = true

@@ -42,6 +42,12 @@ abbrev pub record_there : Lineage → Option Record
 record_there [] = None
 record_there (r ∷ rs) = Some r
 
+-- a place as it is before the class of its module is known: what is answered about the class of a
+-- module that is created doesn't rest on it
+abbrev pub untyped : Lineage → Lineage
+untyped [] = []
+untyped (r ∷ rs) = record r { class = None } ∷ rs
+
 -- where the module around it stands
 abbrev pub place_around : Lineage → Lineage
 place_around [] = []
@@ -84,6 +90,7 @@ same_index (Some i) (Some k) = i == k
 -- whether a module was built with the one around it, or is the network
 abbrev pub is_built : Origin → Bool
 is_built origin.Built = true
+is_built (origin.Created plan) = false
 
 -- whether a record is of a built submodule of that name and index
 abbrev pub is_named : ℕ → List ℕ → Option ℕ → Record → Bool

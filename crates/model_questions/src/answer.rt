@@ -17,6 +17,8 @@ use std::alloc::{AllocError, Global};
 pub enum Question {
     /// Which network is run.
     Root,
+    /// The class of the module of that id, which was created while a run went on.
+    TypeOf(u32),
     /// What is inside of the compound module of that id.
     Build(u32),
     /// The value of a parameter of the module of that id.
@@ -44,6 +46,7 @@ impl Question {
     {
         match self {
             Question::Root => Ok(Question::Root),
+            Question::TypeOf(id) => Ok(Question::TypeOf(*id)),
             Question::Build(id) => Ok(Question::Build(*id)),
             Question::Param(id, name) => Ok(Question::Param(*id, name.copy(alloc)?)),
             Question::GateSize(id, name) => Ok(Question::GateSize(*id, name.copy(alloc)?)),
@@ -126,6 +129,8 @@ pub struct NextGate {
 pub enum Answer {
     /// The name of the network.
     Root(Text),
+    /// The class of a simple module, none for a compound one.
+    Class(Option<Text>),
     /// The submodules, in the order in which they are created.
     Inside(Items<Built>),
     Value(Value),

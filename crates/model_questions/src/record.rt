@@ -3,18 +3,33 @@
 ghost use Rattle.std.specs.Prelude.{◌≡◌, ◌≤◌, ◌∷◌, IfOk, OnOk, ◌++◌, length, take};
 ghost use Rattle.std.specs.Option.{option_copied};
 ghost use Rattle.model_questions.specs.Records.{record_at, lineage_up, own_name, path_along};
-ghost use Rattle.model_questions.specs.Records.{path_of, path_around, path_under, index_of};
+ghost use Rattle.model_questions.specs.Records.{path_of, path_around, path_under, place_of};
+ghost use Rattle.model_questions.specs.Records.{index_of};
 
 use itoa::Buffer;
+use module_api::reply::Plan;
 use sim_values::text::Text;
 use std::alloc::{AllocError, Global};
 
 /// Where a module comes from.
-#[derive(Clone, Copy, PartialEq, Eq)]
+#[derive(Drop)]
 pub enum Origin {
-    /// It was built with the module around it, or is the network. One that a module creates while a
-    /// run goes on will be another variant.
+    /// It was built with the module around it, or is the network.
     Built,
+    /// A module created it while a run went on, as planned.
+    Created(Plan),
+}
+
+impl Origin {
+    /// An equal origin.
+    pub fn copy(&self, alloc: Global) -> Result<Origin, AllocError>
+        ensures { IfOk result (λ copy. copy ≡ self.now) }
+    {
+        match self {
+            Origin::Built => Ok(Origin::Built),
+            Origin::Created(plan) => Ok(Origin::Created(plan.copy(alloc)?)),
+        }
+    }
 }
 
 /// A module that was created. Its id is its place among the records, counted from 1.
@@ -53,6 +68,28 @@ pub fn index_of(records: &[Record], id: u32) -> Option<u32>
     }
 }
 
+/// How many records the line of the module of that id has, of so many at most.
+fn line_to(depth: u32, records: &[Record], id: u32) -> u32
+    ensures length { result ≡ length (lineage_up depth records.now id) }
+    ensures few { result ≤ depth }
+{
+    if depth > 0 {
+        if let Some(created) = record_at(records, id) {
+            return line_to(depth - 1, records, created.parent) + 1;
+        }
+    }
+    0
+}
+
+#[tactic(auto, unfolding(crate::specs::Records::place_of))]
+/// How many records the place of the module of that id has: its own, and those of the modules
+/// around it.
+pub fn levels_of(records: &[Record], id: u32) -> u32
+    ensures { result ≡ length (place_of records.now id) }
+{
+    line_to(MAX_NESTING, records, id)
+}
+
 /// Adds a module's name, with its index in brackets where it has one.
 fn push_own_name(path: &mut Vec<u8>, name: &[u8], index: Option<u32>) -> Result<(), AllocError>
     ensures { OnOk result (path.new.items ≡ path.old.items ++ own_name name.now index) }
@@ -65,6 +102,15 @@ fn push_own_name(path: &mut Vec<u8>, name: &[u8], index: Option<u32>) -> Result<
     let mut buffer = Buffer::new();
     path.extend_from_slice(buffer.format(index).as_bytes())?;
     path.extend_from_slice(b"]")
+}
+
+/// A module's name among its siblings, with its index in brackets where it has one.
+pub fn own_name(alloc: Global, name: &[u8], index: Option<u32>) -> Result<Text, AllocError>
+    ensures { IfOk result (λ own. own ≡ own_name name.now index) }
+{
+    let mut own = Vec::new(alloc);
+    push_own_name(&mut own, name, index)?;
+    Ok(Text::from_vec(own))
 }
 
 /// Adds the path of the module of that record, with the names of at most so many modules around it.

@@ -7,6 +7,7 @@ pub mod law;
 pub mod message;
 pub mod name;
 pub mod names;
+pub mod plans;
 pub mod reply;
 pub mod simple_module;
 

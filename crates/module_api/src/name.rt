@@ -68,6 +68,16 @@ impl Name {
         Text::from_bytes(alloc, self.as_bytes())
     }
 
+    /// An equal name, which takes no memory where it is a word of the program's own.
+    pub fn copy(&self, alloc: Global) -> Result<Name, AllocError>
+        ensures { IfOk result (λ name. name ≡ self.now) }
+    {
+        match &self.bytes {
+            Bytes::Word(word) => Ok(Name::word(word)),
+            Bytes::Owned(text) => Ok(Name::of_text(text.copy(alloc)?)),
+        }
+    }
+
     /// Whether these are its bytes.
     pub fn is(&self, bytes: &[u8]) -> bool
         ensures { result ≡ bytes_eq self.now bytes.now }

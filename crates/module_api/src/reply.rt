@@ -7,6 +7,7 @@ use crate::message::{MAX_PAYLOAD, Outgoing};
 use crate::name::Name;
 use sim_time::SimTime;
 use sim_values::text::Text;
+use sim_values::value::Value;
 use sqlite_items::Items;
 use std::alloc::{AllocError, Global};
 
@@ -67,6 +68,41 @@ pub struct Appointment {
     pub kind: i16,
 }
 
+/// A fixed value of a parameter of a module that is created.
+#[derive(Drop)]
+pub struct FixedValue {
+    pub name: Text,
+    pub value: Value,
+}
+
+/// The size of a gate vector of a module that is created.
+#[derive(Drop)]
+pub struct FixedSize {
+    pub name: Text,
+    pub size: i64,
+}
+
+/// What a module is created as, while a run goes on. Records of modules hold it, so that it has texts
+/// of its own, and no words of the program's.
+#[derive(Drop)]
+pub struct Plan {
+    /// The name of its type, which is looked up from the type of the module around it.
+    pub type_name: Text,
+    pub parameters: Items<FixedValue>,
+    pub sizes: Items<FixedSize>,
+}
+
+/// A module to create.
+#[derive(Drop)]
+pub struct Creation {
+    /// The full path of the compound module in which it is created.
+    pub parent: Text,
+    pub name: Name,
+    /// Its place in its vector, none where it is no vector's element.
+    pub index: Option<u32>,
+    pub plan: Plan,
+}
+
 /// The channel of a connection that is made while a run goes on.
 #[derive(Clone, Copy, Drop)]
 pub struct Link {
@@ -95,6 +131,9 @@ pub enum Action {
     ScheduleAfter(Schedule),
     /// Takes back the timer of that number, if it is pending.
     Cancel(u32),
+    /// Creates a module in a compound one that lives, and builds it. It is started by an event of
+    /// its own, at this time.
+    Create(Creation),
     /// Deletes the module of that path with all that is inside of it. If that is wanted, those of
     /// its modules that were started are finished first.
     Delete(Text, bool),

@@ -1,5 +1,5 @@
 -- What holds of each box of a list, where one is looked for, taken out or put in.
-use Rattle.std.proofs.Common.{◌≡◌, ℕ, ◌==◌, nat_lt, cond, Bool, true, false, List, [], ◌∷◌, Option, Some, None, Result, Ok, Err, OnOk, OnErr, refl, sym, subst, eqb-true}
+use Rattle.std.proofs.Common.{◌≡◌, ℕ, ◌==◌, nat_lt, cond, Bool, true, false, List, [], ◌∷◌, Some, Result, Ok, Err, OnOk, OnErr, refl, sym, subst, eqb-true}
 use Rattle.module_tree.specs.Boxes.{Seated, EachBox, box_of, with_box, without_box}
 
 module _ {X : Type 0} (P : ℕ → X → Type 0) where

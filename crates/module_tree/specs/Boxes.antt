@@ -48,6 +48,16 @@ module _ {X : Type 0} where
   without_boxes [] ss = ss
   without_boxes (id ∷ ids) ss = without_boxes ids (without_box id ss)
 
+  -- with others, each in its place
+  abbrev pub with_boxes : List (Seated X) → List (Seated X) → List (Seated X)
+  with_boxes [] ts = ts
+  with_boxes (s ∷ ss) ts = with_box s.id s.box (with_boxes ss ts)
+
+  -- none of these modules has a box among those
+  abbrev pub AreFree : List (Seated X) → List (Seated X) → Type 0
+  AreFree [] ts = Unit {0}
+  AreFree (s ∷ ss) ts = (box_of s.id ts ≡ None) × AreFree ss ts
+
   -- the ids rise, from this number on, and all are below that one
   abbrev pub AreRising : ℕ → ℕ → List (Seated X) → Type 0
   AreRising from below [] = Unit {0}

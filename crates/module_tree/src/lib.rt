@@ -5,7 +5,8 @@ ghost use Rattle.std.specs.Prelude.{◌≡◌, [], ◌<◌, ◌≤◌, ◌^◌, 
 ghost use Rattle.std.specs.Prelude.{IfErr, IfSome};
 ghost use Rattle.std.specs.Option.{option_copied};
 ghost use Rattle.module_tree.specs.Boxes.{box_of, last_id, with_box, without_box, without_boxes};
-ghost use Rattle.module_tree.specs.Boxes.{nothing, with_seats, seats_from, AreRising};
+ghost use Rattle.module_tree.specs.Boxes.{nothing, with_boxes, with_seats, seats_from};
+ghost use Rattle.module_tree.specs.Boxes.{AreFree, AreRising};
 
 use std::alloc::{AllocError, AllocFailed, Global};
 use std::marker::Model;
@@ -118,6 +119,49 @@ impl<T: Drop> Tree<T> {
     {
         self.slots[id as usize] = Some(value);
         self.count += 1;
+    }
+
+    /// Makes room up to that id.
+    fn reserve(&mut self, id: u32) -> Result<(), AllocError>
+        ensures same { self.new.seats ≡ self.old.seats }
+        ensures room { OnOk result (id < self.new.room) }
+    {
+        widen(&mut self.slots, id as usize)
+    }
+
+    /// Takes in the boxes of another one, whose ids are below that number. Up to there is room.
+    fn take_below(&mut self, others: &mut Tree<T>, below: usize)
+        requires few { below ≤ 2 ^ 32 }
+        requires room { below ≤ self.old.room }
+        requires rising { AreRising 0 below others.old.seats }
+        requires free { AreFree others.old.seats self.old.seats }
+        ensures all { self.new.seats ≡ with_boxes others.old.seats self.old.seats }
+        ensures none { others.new.seats ≡ [] }
+    {
+        let mut left = below;
+        while others.len() > 0 {
+            left -= 1;
+            if let Some(value) = others.take(left as u32) {
+                self.put_back(left as u32, value);
+            }
+        }
+    }
+
+    /// Takes all boxes of another one in, whose modules have none yet. Where memory runs out both
+    /// stay as they were.
+    pub fn take_in(&mut self, others: &mut Tree<T>) -> Result<(), AllocError>
+        requires { AreFree others.old.seats self.old.seats }
+        ensures all { OnOk result (self.new.seats ≡ with_boxes others.old.seats self.old.seats) }
+        ensures none { OnOk result (others.new.seats ≡ []) }
+        ensures same { OnErr result (self.new.seats ≡ self.old.seats) }
+        ensures left { OnErr result (others.new.seats ≡ others.old.seats) }
+    {
+        let Some(last) = others.last() else {
+            return Ok(());
+        };
+        self.reserve(last)?;
+        self.take_below(others, last as usize + 1);
+        Ok(())
     }
 
     /// Drops the boxes of the modules of these ids.

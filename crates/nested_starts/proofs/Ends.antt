@@ -10,14 +10,14 @@ use Rattle.model_questions.specs.declared.record.Record.{Record}
 use Rattle.model_questions.specs.Answers.{Answers, answer_of}
 use Rattle.model_questions.specs.Records.{lineage_up, place_of, record_at, with_those_around}
 use Rattle.run_semantics.specs.Laws.{Each}
-use Rattle.run_semantics.specs.Subtree.{ids_from}
+use Rattle.run_semantics.specs.Subtree.{ids_from, without}
 use Rattle.run_semantics.specs.World.{World, asked, live_of}
 use Rattle.run_semantics.specs.Perform.{Flow, ◌>>=◌, for_each}
-use Rattle.run_semantics.specs.Run.{built, compounds_from, inside_of, most_nested, room_in, set_up, unless_many, world_at, after}
+use Rattle.run_semantics.specs.Run.{with_submodules, built, compounds_from, inside_of, room_in, set_up, unless_many, world_at, after}
 use Rattle.run_semantics.proofs.Setting.{Stays}
 use Rattle.nested_starts.specs.Levels.{ParentIs, IsWithin, EndsNesting}
-use Rattle.nested_starts.proofs.Kept.{all_of, kept_within}
-use Rattle.nested_starts.proofs.Levels.{Builds, Nests, SetsUp, asked_builds, asked_nests, built_builds, builds_same, root_builds}
+use Rattle.nested_starts.proofs.Kept.{kept_within}
+use Rattle.nested_starts.proofs.Levels.{Builds, Nests, SetsUp, asked_builds, asked_nests, built_builds, builds_same}
 
 -- ---- the line of a module, by how far down it stands
 
@@ -55,17 +55,20 @@ nothing_builds : (n id : ℕ) (part : ℕ → World → Flow) (w : World) (one :
 nothing_builds n id part w (Some b) h = builds_same n w h
 nothing_builds n id part w None h =
     let records = sym (append-nil w.records) in
+    let live : live_of w ≡ live_of (with_submodules id [] w) = ap (λ (rs : List Record). without (ids_from 1 rs) w.dead) records in
     record {
       records = ([], refl);
-      live = ([], append-nil (all_of w) ∙ ap (ids_from 1) records);
+      live = ([], append-nil (live_of w) ∙ live);
       nests = record {
         network = subst (λ (rs : List Record). 1 ≤ length rs) records h.network;
-        all = subst (λ (rs : List Record). Each (IsWithin rs (ids_from 1 rs) n) (ids_from 1 rs)) records h.all;
+        dead = subst (λ (rs : List Record). Each (λ k. k ≤ length rs) w.dead) records h.dead;
+        all = subst (λ (rs : List Record). Each (IsWithin rs (without (ids_from 1 rs) w.dead) n) (without (ids_from 1 rs) w.dead)) records h.all;
       };
     }
 
 ended_builds : (n id : ℕ) (part : ℕ → World → Flow) (found : Answer) (w : World) → inside_of found ≡ [] → Nests n w → Stays (Builds n w) (built part id found w)
 ended_builds n id part (answer.Inside bs) w e h = subst (λ xs. Stays (Builds n w) (built part id (answer.Inside xs) w)) (sym e) (nothing_builds n id part w (slice_get [] (room_in w)) h)
+ended_builds n id part (answer.Class class) w e h = builds_same n w h
 ended_builds n id part (answer.Root name) w e h = builds_same n w h
 ended_builds n id part (answer.Value v) w e h = builds_same n w h
 ended_builds n id part (answer.Gate gate) w e h = builds_same n w h
@@ -79,11 +82,11 @@ no_levels : (k : ℕ) (m : Answers) → SetsUp 32 k (set_up zero m)
 no_levels k m id w g h = builds_same 32 w h
 
 -- a module of the last level
-last_builds : (m : Answers) → EndsNesting m → (id : ℕ) (w : World) → IsWithin w.records (all_of w) 32 id → Nests 32 w → Stays (Builds 32 w) (built (set_up zero m) id (answer_of m w.records (Build id)) w)
+last_builds : (m : Answers) → EndsNesting m → (id : ℕ) (w : World) → IsWithin w.records (live_of w) 32 id → Nests 32 w → Stays (Builds 32 w) (built (set_up zero m) id (answer_of m w.records (Build id)) w)
 last_builds m ends id w g h =
-    ⊎_elim (λ (i : IsWithin w.records (all_of w) 31 id). built_builds 32 31 id (set_up zero m) (answer_of m w.records (Build id)) w (omega arith) (no_levels 32 m) i h)
+    ⊎_elim (λ (i : IsWithin w.records (live_of w) 31 id). built_builds 32 31 id (set_up zero m) (answer_of m w.records (Build id)) w (omega arith) (no_levels 32 m) i h)
     (λ (e : length (place_of w.records id) ≡ 32). ended_builds 32 id (set_up zero m) (answer_of m w.records (Build id)) w (ends (place_of w.records id) e) h)
-    (place_whole w.records (all_of w) id h.network g)
+    (place_whole w.records (live_of w) id h.network g)
 
 ends_builds : (depth k : ℕ) (m : Answers) → EndsNesting m → k + depth ≤ 33 → SetsUp 32 k (set_up depth m)
 ends_builds zero k m ends l id w g h = builds_same 32 w h
@@ -94,12 +97,8 @@ ends_builds (suc depth) k m ends l id w g h = asked_builds 32 id w (set_up (suc 
     by (inr many) later =
         let level : k ≡ 32 = omega (arith, l, many) in
         let none : zero ≡ depth = omega (arith, l, many) in
-        let at : IsWithin w.records (all_of w) 32 id = subst (λ n. IsWithin w.records (all_of w) n id) level g in
+        let at : IsWithin w.records (live_of w) 32 id = subst (λ n. IsWithin w.records (live_of w) n id) level g in
         subst (λ d. Stays (Builds 32 (asked (Build id) w)) (built (set_up d m) id (answer_of m w.records (Build id)) (asked (Build id) w))) none (last_builds m ends id (asked (Build id) w) at (asked_nests 32 id w h))
 
-most_ends : (m : Answers) → EndsNesting m → SetsUp 32 1 (set_up most_nested m)
-unfolding most_nested
-most_ends m ends = ends_builds 32 1 m ends (omega arith)
-
 pub nested_after : (b : Behaviour) (m : Answers) → EndsNesting m → (n : ℕ) → let w = world_at (after b m n) in Each (IsWithin w.records (live_of w) 32) (live_of w)
-nested_after b m ends n = kept_within b m 32 (omega arith) (root_builds 32 m (answer_of m [] Root) (most_ends m ends) (omega arith)) n
+nested_after b m ends n = kept_within b m 32 (omega arith) (omega arith) (λ depth k l. ends_builds depth k m ends l) n

@@ -1,104 +1,132 @@
--- What holds after setup of how far down modules stand, when all live that were created, holds all
--- through a run of those that live.
-use Rattle.std.proofs.Common.{◌≡◌, ℕ, zero, suc, ◌≤◌, Bool, true, false, List, [], refl, sym, subst, if◌then◌else◌}
+-- All that live stand at most so many levels down, all through a run.
+use Rattle.std.proofs.Common.{◌≡◌, inl, inr, ℕ, zero, suc, ◌+◌, ◌≤◌, ◌<◌, false, true, List, [], ◌∷◌, ◌++◌, Option, Some, None, refl, sym, ap, ◌∙◌, subst, arith, length}
+use Rattle.event_set.proofs.Order.{each_append, each_map}
 use Rattle.module_api.specs.Behaviour.{Behaviour}
+use Rattle.module_api.specs.declared.reply.Creation.{Creation}
+use Rattle.model_questions.specs.declared.record.Record.{Record}
 use Rattle.model_questions.specs.Answers.{Answers}
-use Rattle.event_set.specs.declared.pending.Pending.{Pending}
-use Rattle.run_semantics.specs.declared.outcome.Outcome.{Outcome}
-use Rattle.run_semantics.specs.declared.outcome.Outcome.TheVariants.{Ended, TimeLimit}
-use Rattle.run_semantics.specs.Event.{begun, event}
+use Rattle.model_questions.specs.Records.{lineage_up, place_of, record_at, with_those_around}
+use Rattle.model_questions.proofs.AnswerLemmas.{last_at}
+use Rattle.run_semantics.specs.Creating.{is_full, levels_in, record_for, with_created}
+use Rattle.run_semantics.specs.Event.{begun}
 use Rattle.run_semantics.specs.Laws.{Each}
-use Rattle.run_semantics.specs.Perform.{Flow, On, Stopped, Broken, ◌>>=◌}
-use Rattle.run_semantics.specs.Run.{prepared, start_all, start_modules, unstarted, Stage, Running, Over, world_at, settled, is_after_limit, went, next_stage, after}
-use Rattle.run_semantics.specs.Subtree.{ids_from}
-use Rattle.run_semantics.specs.Upcoming.{Upcoming, Comes, Nothing, upcoming}
-use Rattle.run_semantics.specs.World.{World}
-use Rattle.run_semantics.proofs.Alike.{begins, prepared_fits}
-use Rattle.run_semantics.proofs.Fitting.{begun_grows, fits_after, fits_looked, settled_world}
-use Rattle.run_semantics.proofs.Flows.{in_flow}
+use Rattle.run_semantics.specs.Run.{set_up, most_nested, with_network, world_at, after}
+use Rattle.model_questions.specs.declared.answer.Question.TheVariants.{Root}
+use Rattle.run_semantics.specs.World.{World, asked, empty, is_live, live_of}
+use Rattle.run_semantics.proofs.Alive.{live_within}
+use Rattle.run_semantics.proofs.Always.{LastsAlways, always}
+use Rattle.run_semantics.proofs.Bounds.{created_live}
 use Rattle.run_semantics.proofs.Growth.{Fits}
-use Rattle.run_semantics.proofs.Lasting.{Lasts, ends_hold, event_holds, start_ends, unstarted_live, unstarted_new}
-use Rattle.run_semantics.proofs.Living.{all_live}
-use Rattle.run_semantics.proofs.Looking.{beside, HasLooked, upcoming_looks}
-use Rattle.run_semantics.proofs.Setting.{Stays, prepared_stays}
-use Rattle.nested_starts.specs.Levels.{IsWithin}
-use Rattle.nested_starts.proofs.Within.{AreWithin, gone_within}
+use Rattle.run_semantics.proofs.Lasting.{HasLevels, Lasts, not_full}
+use Rattle.run_semantics.proofs.Setting.{Stays, stays_as}
+use Rattle.nested_starts.specs.Levels.{ParentIs, IsWithin}
+use Rattle.nested_starts.proofs.Levels.{AllWithin, Builds, SetsUp, set_up_builds, within_on}
+use Rattle.nested_starts.proofs.Within.{AreWithin, among_back, among_is, each_there, gone_within, live_above, within_most}
 
--- the ids of all modules that were created
-abbrev pub all_of : World → List ℕ
-all_of w = ids_from 1 w.records
+-- ---- lines that end
 
--- all that were created stand at most so many levels down
-abbrev pub AllStand : ℕ → World → Type 0
-AllStand n w = Each (IsWithin w.records (all_of w) n) (all_of w)
+line_first : (rs : List Record) → 1 ≤ length rs → (j : ℕ) → (k : ℕ) × (length (lineage_up (suc j) rs 1) ≡ suc k)
+line_first [] l j = absurd (omega (arith, l))
+line_first (r ∷ rs) l j = (length (lineage_up j (r ∷ rs) r.parent), refl)
 
--- ---- setup
+-- where the line of a module is cut nowhere, the module stands as far down as it has records
+by_line : (rs : List Record) (live : List ℕ) (n j id : ℕ) → 1 ≤ length rs → IsWithin rs live n id → length (lineage_up j rs id) < j → IsWithin rs live (length (lineage_up j rs id)) id
+by_line rs live zero j id l h short = absurd h
+by_line rs live (suc n) zero id l h short = absurd (omega (arith, short))
+by_line rs live (suc n) (suc j) id l (inl e) short =
+    let first = line_first rs l j in
+    let here : IsWithin rs live (suc first.0) id = inl e in
+    subst (λ k. IsWithin rs live k id) (sym (ap (λ i. length (lineage_up (suc j) rs i)) e ∙ first.1)) here
+by_line rs live (suc n) (suc j) id l (inr h) short = by (record_at rs id) refl h.1 short (λ r. by_line rs live n j r.parent l)
+  where
+    by : (o : Option Record) → record_at rs id ≡ o → ParentIs (IsWithin rs live n) o → length (with_those_around (lineage_up j rs) o) < suc j
+        → ((r : Record) → IsWithin rs live n r.parent → length (lineage_up j rs r.parent) < j → IsWithin rs live (length (lineage_up j rs r.parent)) r.parent)
+        → IsWithin rs live (length (with_those_around (lineage_up j rs) o)) id
+    by None e g few later = absurd g
+    by (Some r) e g few later = inr (h.0, subst (ParentIs (IsWithin rs live (length (lineage_up j rs r.parent)))) (sym e) (later r g (omega (arith, few))))
 
-stays_both : (P Q R : World → Type 0) (fl : Flow) → ((w : World) → P w → Q w → R w) → Stays P fl → Stays Q fl → Stays R fl
-stays_both P Q R (On w) f h g = f w h g
-stays_both P Q R (Stopped w) f h g = absurd h
-stays_both P Q R (Broken w path e) f h g = f w h g
+-- there are levels left below a module in which one is created
+short_line : (parent : ℕ) (w : World) → is_full (levels_in parent w) ≡ false → length (lineage_up 32 w.records parent) < 32
+unfolding place_of most_nested
+short_line parent w e = let some = not_full (levels_in parent w) e in omega (arith, some)
 
--- nobody is dead after it
-nobody_dead : (m : Answers) → Stays (λ (w : World). w.dead ≡ []) (prepared m)
-nobody_dead m = prepared_stays (λ (w : World). w.dead ≡ []) m (record { asked = λ id w e l. e; created = λ parent bs w e l few. e }) refl (λ name. refl)
+-- where a module lives there is one
+one_there : (w : World) (id : ℕ) → is_live w id ≡ true → 1 ≤ length w.records
+one_there w id live = let above = live_above w id live in let within = live_within w id live in omega (arith, above, within)
 
-prepared_within : (n : ℕ) (m : Answers) → Stays (AllStand n) (prepared m) → Stays (AreWithin n) (prepared m)
-prepared_within n m h =
-    stays_both (AllStand n) (λ (w : World). w.dead ≡ []) (AreWithin n) (prepared m)
-    (λ w all none. subst (λ ids. Each (IsWithin w.records ids n) ids) (sym (all_live w none)) all) h (nobody_dead m)
+-- ---- what happens in a run
 
--- ---- what happens in an event
+module _ (b : Behaviour) (m : Answers) (n : ℕ) (least : 32 ≤ n) (few : n ≤ 33) (sets : (depth k : ℕ) → k + depth ≤ 33 → SetsUp n k (set_up depth m)) where
+  -- a module that lives
+  one_within : (w : World) (id : ℕ) → is_live w id ≡ true → AreWithin n w → IsWithin w.records (live_of w) n id
+  one_within w id live h = each_there (IsWithin w.records (live_of w) n) id (live_of w) h (among_is id (live_of w) live)
 
-within_lasts : (b : Behaviour) (n : ℕ) → n ≤ 33 → Lasts b (AreWithin n)
-within_lasts b n few = record {
-  asked = λ q w a f g h. h;
-  emitted = λ e w c t f g h. h;
-  recorded = λ s w f g h. h;
-  inserted = λ e w c t live short f g h. h;
-  cancelled = λ id timer w f g h. h;
-  transmitted = λ ts w f g h. h;
-  joined = λ gate to w f g h. h;
-  ended = λ w f g h. h;
-  called = λ m id reason i w e f g h. h;
-  finished = λ id w f g h. h;
-  gone = λ target w live f g h. gone_within n target w few f live h;
-}
+  -- one that is created
+  new_within : (parent : ℕ) (r : Record) (w : World) (live : List ℕ) → r.parent ≡ parent → IsWithin w.records live (length (lineage_up 32 w.records parent)) parent → length (lineage_up 32 w.records parent) < 32
+      → IsWithin (w.records ++ r ∷ []) (live ++ suc (length w.records) ∷ []) n (suc (length w.records))
+  new_within parent r w live e h short =
+      let rs : List Record = w.records in
+      let k : ℕ = length (lineage_up 32 rs parent) in
+      let ids : List ℕ = live ++ suc (length rs) ∷ [] in
+      let around : IsWithin (rs ++ r ∷ []) ids k r.parent = subst (λ i. IsWithin (rs ++ r ∷ []) ids k i) (sym e) (within_on rs (r ∷ []) live (suc (length rs) ∷ []) k parent h) in
+      let here : IsWithin (rs ++ r ∷ []) ids (suc k) (suc (length rs)) =
+      inr (among_back (suc (length rs)) live (suc (length rs) ∷ []) (inl refl), subst (ParentIs (IsWithin (rs ++ r ∷ []) ids k)) (sym (last_at rs r)) around) in
+      within_most (rs ++ r ∷ []) ids (suc k) n (suc (length rs)) (omega (arith, short, least)) here
 
-module _ (b : Behaviour) (m : Answers) (n : ℕ) (few : n ≤ 33) where
-  lasts : Lasts b (AreWithin n)
-  lasts = within_lasts b n few
+  created_within : (parent : ℕ) (c : Creation) (class : Option (List ℕ)) (w : World) → is_live w parent ≡ true → is_full (levels_in parent w) ≡ false → Fits w → AreWithin n w → AreWithin n (with_created parent c class w)
+  created_within parent c class w live deep f h =
+      let rs : List Record = w.records in
+      let r : Record = record_for parent c class in
+      let v : World = with_created parent c class w in
+      let short = short_line parent w deep in
+      let ids : List ℕ = live_of w ++ suc (length rs) ∷ [] in
+      let stands = by_line rs (live_of w) n 32 parent (one_there w parent live) (one_within w parent live h) short in
+      let next : 1 + length rs ≡ suc (length rs) = omega arith in
+      let whole : live_of v ≡ ids = created_live w v (r ∷ []) f.dead refl refl ∙ ap (λ k. live_of w ++ k ∷ []) next in
+      let all : Each (IsWithin v.records ids n) ids =
+      each_append (IsWithin v.records ids n) (live_of w) (suc (length rs) ∷ [])
+      (each_map (IsWithin rs (live_of w) n) (IsWithin v.records ids n) (live_of w) (λ id g. within_on rs (r ∷ []) (live_of w) (suc (length rs) ∷ []) n id g) h)
+      (new_within parent r w (live_of w) refl stands short, tt) in
+      subst (λ is. Each (IsWithin v.records is n) is) (sym whole) all
 
-  start_within : (fl : Flow) → Fits (in_flow fl) → Stays (AreWithin n) fl → AreWithin n (in_flow (fl >>= start_all b m))
-  start_within (On w) f h =
-      (ends_hold b (AreWithin n) lasts m [] (start_modules b m (unstarted w) 1 w)
-      (start_ends b (AreWithin n) lasts (λ ids v e live fresh f g h. h) m (unstarted w) 1 w (unstarted_live w) (unstarted_new w) (f, h))).1
-  start_within (Stopped w) f h = absurd h
-  start_within (Broken w path e) f h = h
+  set_up_within : (depth id : ℕ) (w : World) → is_live w id ≡ true → HasLevels depth id w → Fits w → AreWithin n w → Stays (AreWithin n) (set_up depth m id w)
+  set_up_within zero id w live levels f h = h
+  set_up_within (suc depth) id w live levels f h =
+      let k : ℕ = length (lineage_up 33 w.records id) in
+      let stands : IsWithin w.records (live_of w) k id = by_line w.records (live_of w) n 33 id (one_there w id live) (one_within w id live h) (omega (arith, levels)) in
+      stays_as (Builds n w) (AreWithin n) (set_up (suc depth) m id w) (λ v d. d.nests.all)
+      (sets (suc depth) k levels id w stands (record { network = one_there w id live; dead = f.dead; all = h }))
 
-  zero_within : Stays (AllStand n) (prepared m) → AreWithin n (world_at (after b m 0))
-  zero_within h = subst (AreWithin n) (sym (settled_world (begins b m))) (start_within (prepared m) (prepared_fits m) (prepared_within n m h))
+  lasts : Lasts b m (AreWithin n)
+  lasts = record {
+    asked = λ q w a f g h. h;
+    emitted = λ e w c t f g h. h;
+    recorded = λ s w f g h. h;
+    inserted = λ e w c t live short f g h. h;
+    cancelled = λ id timer w f g h. h;
+    transmitted = λ ts w f g h. h;
+    joined = λ gate to w f g h. h;
+    ended = λ w f g h. h;
+    called = λ id reason i w e f g h. h;
+    finished = λ id w f g h. h;
+    gone = λ target w live f g h. gone_within n target w few f live h;
+    created = λ parent c class w live room deep f g h. created_within parent c class w live deep f h;
+    set_up = set_up_within;
+    started = λ ids w e live fresh f g h. h;
+  }
 
-  -- what comes next is looked for, and begins
-  begun_within : (w u : World) (p : Pending) (rest : List Pending) → HasLooked w u → AreWithin n w → AreWithin n (begun p rest u)
-  begun_within w u p rest looked h = subst (λ (v : World). AreWithin n (begun p rest v)) looked.same h
-
-  either_within : (c : Bool) (w : World) (outcome : Outcome) (s : Stage) → AreWithin n w → AreWithin n (world_at s) → AreWithin n (world_at (if c then Over w outcome else s))
-  either_within true w outcome s h k = h
-  either_within false w outcome s h k = k
-
-  went_within : (w : World) (up : Upcoming) → HasLooked w (beside up) → Fits w → AreWithin n w → AreWithin n (world_at (went b m w up))
-  went_within w (Nothing u) looked f h = h
-  went_within w (Comes u p rest) looked f h =
-      either_within (is_after_limit m u.records p) w TimeLimit (settled (event b m p rest u)) h
-      (subst (AreWithin n) (sym (settled_world (event b m p rest u)))
-      (event_holds b (AreWithin n) lasts m p rest u ((begun_grows p rest u (fits_looked w u looked f)).fits, begun_within w u p rest looked h)).1)
-
-  next_within : (s : Stage) → Fits (world_at s) → AreWithin n (world_at s) → AreWithin n (world_at (next_stage b m s))
-  next_within (Running w) f h = either_within w.ended w Ended (went b m w (upcoming m w)) h (went_within w (upcoming m w) (upcoming_looks m w) f h)
-  next_within (Over w outcome) f h = h
+  lasts_always : LastsAlways b m (AreWithin n)
+  lasts_always = record {
+    lasts = lasts;
+    at_first = tt;
+    network = λ name. let w : World = with_network name (asked Root empty) in (within_most w.records (live_of w) 1 n 1 (omega (arith, least)) (inl refl), tt);
+    begins = λ w u p rest e looked f h. subst (λ (v : World). AreWithin n (begun p rest v)) looked.same h;
+  }
 
   -- ALL THROUGH A RUN
-  pub kept_within : Stays (AllStand n) (prepared m) → (k : ℕ) → AreWithin n (world_at (after b m k))
-  kept_within h zero = zero_within h
-  kept_within h (suc k) = next_within (after b m k) (fits_after b m k) (kept_within h k)
+  pub kept_within : (k : ℕ) → AreWithin n (world_at (after b m k))
+  kept_within k = always b m (AreWithin n) lasts_always k
+
+-- whatever the model makes inside of modules
+pub within_after : (b : Behaviour) (m : Answers) (k : ℕ) → AllWithin (world_at (after b m k))
+within_after b m k = kept_within b m 33 (omega arith) (omega arith) (λ depth level l. set_up_builds 33 depth level m l) k

@@ -17,7 +17,7 @@ use Rattle.run_semantics.specs.Upcoming.{first_due, delivered, target_of, Upcomi
 use Rattle.run_semantics.specs.World.{World, asked_next}
 use Rattle.run_semantics.proofs.Alive.{each_filter}
 use Rattle.run_semantics.proofs.Always.{LastsAlways, always}
-use Rattle.run_semantics.proofs.Lasting.{Lasts, LastsAtFirst}
+use Rattle.run_semantics.proofs.Lasting.{Lasts, by_steps}
 use Rattle.payload_bounds.specs.Bounds.{AreShort, BringShort, IsShort}
 
 abbrev Short : World → Type 0
@@ -68,8 +68,8 @@ upcoming_short m w is h = coming_short (suc (length m.injections)) m w.pending w
 -- ---- runs
 
 -- what is put among the events to come is short
-short_lasts : (b : Behaviour) → Lasts b Short
-short_lasts b = record {
+short_lasts : (b : Behaviour) (m : Answers) → Lasts b m Short
+short_lasts b m = record {
   asked = λ q w n f g h. h;
   emitted = λ e w n t f g h. h;
   recorded = λ s w f g h. h;
@@ -78,21 +78,17 @@ short_lasts b = record {
   transmitted = λ ts w f g h. h;
   joined = λ gate to w f g h. h;
   ended = λ w f g h. h;
-  called = λ m id reason i w e f g h. h;
+  called = λ id reason i w e f g h. h;
   finished = λ id w f g h. h;
   gone = λ target w live f g h. each_filter (λ (p : Pending). IsShort (message_of p).payload) (λ (p : Pending). IsShort (message_of p).payload) _ w.pending (λ p k e. k) h;
-}
-
-short_first : (b : Behaviour) → LastsAtFirst b Short
-short_first b = record {
-  built = λ parent bs w n few f g h. h;
+  created = λ parent c class w live room deep f g h. h;
+  set_up = by_steps m Short (λ id w n f g h. h) (λ parent bs w n few f g h. h);
   started = λ ids w e live fresh f g h. h;
 }
 
 short_always : (b : Behaviour) (m : Answers) → AreShort m.injections → LastsAlways b m Short
 short_always b m is = record {
-  lasts = short_lasts b;
-  first = short_first b;
+  lasts = short_lasts b m;
   at_first = tt;
   network = λ name. tt;
   begins = λ w u p rest e looked f h. (subst ComesShort e (upcoming_short m w is h)).1;

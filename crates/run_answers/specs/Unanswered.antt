@@ -1,5 +1,5 @@
 -- A model that answers nothing.
-use Rattle.std.specs.Prelude.{List, [], None}
+use Rattle.std.specs.Prelude.{[], None}
 use Rattle.model_questions.specs.declared.answer.Answer.TheVariants as answer
 use Rattle.model_questions.specs.Answers.{Answers}
 
@@ -7,6 +7,7 @@ use Rattle.model_questions.specs.Answers.{Answers}
 abbrev pub unanswered : Answers
 unanswered = record {
   root = answer.Absent;
+  class_there = λ p. answer.Absent;
   inside = λ p. answer.Absent;
   names = λ p. [];
   value = λ p name. answer.Absent;

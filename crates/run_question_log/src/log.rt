@@ -136,6 +136,7 @@ fn is_of_modules(question: &Question) -> bool
 {
     match question {
         Question::Root
+        | Question::TypeOf(_)
         | Question::Build(_)
         | Question::Param(_, _)
         | Question::GateSize(_, _)

@@ -2,6 +2,7 @@
 -- that answer them alike do the same.
 use Rattle.std.proofs.Common.{◌≡◌, ℕ, zero, suc, ◌+◌, ◌≤◌, ◌==◌, Bool, true, false, List, [], ◌∷◌, ◌++◌, ◌||◌, Option, Some, None, Result, Ok, Err, refl, sym, ap, ◌∙◌, arith, subst, append-nil, length, slice_get, if◌then◌else◌, nat_lt}
 use Rattle.module_api.specs.Behaviour.{Behaviour, Replied}
+use Rattle.module_api.specs.Names.{is_module_name}
 use Rattle.module_api.specs.Laws.{AgreesOn, IsLawful}
 use Rattle.module_api.specs.declared.call.CallReason.{CallReason}
 use Rattle.module_api.specs.declared.call.CallReason.TheVariants as prompt
@@ -14,11 +15,11 @@ use Rattle.model_questions.specs.declared.answer.Answer.TheVariants as answer
 use Rattle.model_questions.specs.declared.answer.AskedQuestion.{AskedQuestion}
 use Rattle.model_questions.specs.declared.answer.Built.{Built}
 use Rattle.model_questions.specs.declared.answer.Question.{Question}
-use Rattle.model_questions.specs.declared.answer.Question.TheVariants.{Root, Build, GateSize, Hop, HopBack}
+use Rattle.model_questions.specs.declared.answer.Question.TheVariants.{Root, TypeOf, Build, GateSize, Hop, HopBack}
 use Rattle.model_questions.specs.Answers.{Answers, answer_of, gates_of, parameters_of}
 use Rattle.model_questions.specs.declared.record.Record.{Record}
 use Rattle.model_questions.specs.Questions.{same_question}
-use Rattle.model_questions.proofs.AnswerLemmas.{AreNested, about, answer_more, same_gate, same_value}
+use Rattle.model_questions.proofs.AnswerLemmas.{AreNested, about, answer_more, same_gate, same_value, typed_alike}
 use Rattle.model_questions.proofs.QuestionLemmas.{same_is}
 use Rattle.channels.specs.declared.travels.ChannelFault.{ChannelFault}
 use Rattle.channels.specs.declared.travels.Travel.{Travel}
@@ -27,7 +28,8 @@ use Rattle.channels.specs.Travel.{travel}
 use Rattle.sim_time.specs.Time.{time_sum}
 use Rattle.module_api.specs.declared.message.Outgoing.{Outgoing}
 use Rattle.module_api.specs.declared.reply.Action.{Action}
-use Rattle.module_api.specs.declared.reply.Action.TheVariants.{Emit, RecordScalar, Send, SendDelayed, SendDirect, ScheduleAt, ScheduleAfter, Cancel, Delete, Connect, Disconnect, End, Fail}
+use Rattle.module_api.specs.declared.reply.Action.TheVariants.{Emit, RecordScalar, Send, SendDelayed, SendDirect, ScheduleAt, ScheduleAfter, Cancel, Create, Delete, Connect, Disconnect, End, Fail}
+use Rattle.module_api.specs.declared.reply.Creation.{Creation}
 use Rattle.module_api.specs.declared.reply.Flight.{Flight}
 use Rattle.module_api.specs.declared.reply.GatePlace.{GatePlace}
 use Rattle.module_api.specs.declared.reply.OwnGate.{OwnGate}
@@ -52,14 +54,15 @@ use Rattle.run_semantics.specs.Calls.{call_of, instance_in, changed, replied, ca
 use Rattle.run_semantics.specs.Finishing.{call_last, with_finished, marked, finish, finish_all}
 use Rattle.run_semantics.specs.Deleting.{subtree_of, to_finish_in, finished_first, gone, subtree_dropped, deleted_at}
 use Rattle.run_semantics.specs.Joining.{gate_at, channel_by, joined, joined_free, joined_into, joined_from, joined_to, joined_at, freed, freed_from, freed_at}
-use Rattle.run_semantics.specs.Event.{message_of}
+use Rattle.run_semantics.specs.Creating.{with_start, awaiting, record_for, class_in, with_created, class_answer, creating, built_by, built_as, has_namesake, is_full, levels_in, created_in}
+use Rattle.run_semantics.specs.Event.{happens, message_of}
 use Rattle.run_semantics.specs.Subtree.{among, outer_first}
-use Rattle.run_semantics.specs.Run.{rooted, room_in, unless_many, created, inside_of, compounds_from, built, set_up, most_nested, root_asked, prepared, Part, needs_of, placed, first_unknown, unless_unknown, stages_in, most_stages, initialize, one_stage, stages_from, started, start_all, start_modules, unstarted, with_started}
+use Rattle.run_semantics.specs.Run.{rooted, room_in, unless_many, created, inside_of, compounds_from, built, set_up, most_nested, root_asked, prepared, Part, needs_of, placed, first_unknown, unless_unknown, stages_in, most_stages, initialize, one_stage, stages_from, started, start_all, start_modules, starting, unstarted, with_started}
 use Rattle.run_semantics.proofs.Alive.{live_last, live_within}
 use Rattle.run_semantics.proofs.Flows.{in_flow}
 use Rattle.run_semantics.proofs.Growth.{AllAbout, Fits, fits_beside, found_live, fits_changed, fits_more, fits_placed, nested_last, IsGrown, grown_same, grown_on, grown_beside, fits_empty, longer, rooted_grows, created_grows, then_grows, asked_grows}
 use Rattle.run_semantics.proofs.Grows.{growth_lasts_on, deed_grows, start_grows}
-use Rattle.run_semantics.proofs.Lasting.{AreLive, Ends, LiveTo, deed_ends, fits_without, if_live_to, module_live, perform_ends, unstarted_live, unstarted_new}
+use Rattle.run_semantics.proofs.Lasting.{AreLive, Ends, LiveTo, deed_ends, fits_without, if_live_to, module_live, perform_ends, starting_live, unstarted_live, unstarted_new}
 use Rattle.run_semantics.proofs.Setting.{AreUpTo, compounds_within, length_created}
 
 -- ---- agreement on fewer questions
@@ -395,6 +398,7 @@ HasRecord w = 1 ≤ length w.records
 -- a network that is created has its record
 rooted_on : (found : Answer) → IfOn HasRecord (rooted found (asked Root empty))
 rooted_on (answer.Root name) = omega arith
+rooted_on (answer.Class class) = tt
 rooted_on (answer.Inside bs) = tt
 rooted_on (answer.Value v) = tt
 rooted_on (answer.Gate g) = tt
@@ -420,6 +424,7 @@ many_on parent bs w None = omega (arith, length_created parent bs w)
 
 created_on : (parent : ℕ) (found : Answer) (w : World) → IfOn (λ v. length w.records + length (inside_of found) ≤ length v.records) (created parent found w)
 created_on parent (answer.Inside bs) w = many_on parent bs w (slice_get bs (room_in w))
+created_on parent (answer.Class class) w = tt
 created_on parent (answer.Root name) w = tt
 created_on parent (answer.Value v) w = tt
 created_on parent (answer.Gate g) w = tt
@@ -450,10 +455,68 @@ prepared_same : (m n : Answers) → DoesSame m n empty (prepared m) (prepared n)
 prepared_same m n = does_then_where m n HasRecord empty (root_asked m) (root_asked n) (set_up most_nested m 1) (set_up most_nested n 1) (root_same m n) (rooted_on (answer_of m [] Root)) (set_up_same m n most_nested 1)
 
 -- where the flow goes on the module lives
-lives_on : (b : Behaviour) (m : Answers) (u : World) (id : ℕ) (fl : Flow) → Ends b (IsGrown u) (growth_lasts_on b u) m (id ∷ []) fl → IfOn (λ v. is_live v id ≡ true) fl
+lives_on : (b : Behaviour) (m : Answers) (u : World) (id : ℕ) (fl : Flow) → Ends b m (IsGrown u) (growth_lasts_on b m u) (id ∷ []) fl → IfOn (λ v. is_live v id ≡ true) fl
 lives_on b m u id (On w) h = h.1.0
 lives_on b m u id (Stopped w) h = tt
 lives_on b m u id (Broken w path f) h = tt
+
+-- ---- modules that are created
+
+-- what answers alike about the class of a module that is created creates the same
+creating_same : (m n : Answers) (parent : ℕ) (c : Creation) (next other : Answer → World → Flow) (w : World) → Fits w → parent ≤ length w.records → ((a : Answer) (v : World) → Fits v → is_live v (suc (length w.records)) ≡ true → DoesSame m n v (next a v) (other a v)) → DoesSame m n w (creating m parent c next w) (creating n parent c other w)
+creating_same m n parent c next other w f l h =
+    let a : Answer = class_answer m parent c w in
+    let first : ℕ = suc (length w.records) in
+    let r : Record = record_for parent c (class_in a) in
+    let v : World = with_created parent c (class_in a) w in
+    let u : World = asked (TypeOf first) v in
+    let fits : Fits v = fits_more w v (r ∷ []) f refl refl refl refl (nested_last 0 w.records r f.nested (omega (arith, l))) in
+    let live = live_last w v r refl refl f.dead in
+    let made : IsGrown w v = record { rest = []; joined = append-nil w.questions; present = tt; count = refl; more = r ∷ []; records = refl; fits = fits } in
+    let asks = asked_grows (TypeOf first) v fits (live_within v first live) in
+    let d = h a u asks.fits live in
+    record {
+      grows = grown_on made (grown_on asks d.grows);
+      same = λ agreed.
+          let here : AgreesIn m n u = Agrees-before m n u (in_flow (next a u)) asks.fits d.grows agreed in
+          let there = Agrees-noted m n v.records v.count (TypeOf first) v.questions here in
+          let alike : a ≡ class_answer n parent c w = sym (typed_alike m w.records (record_for parent c None) (class_in a) f.nested l) ∙ (there ∙ typed_alike n w.records (record_for parent c None) (class_in a) f.nested l) in
+          d.same agreed ∙ ap (λ (x : Answer). other x (asked (TypeOf first) (with_created parent c (class_in x) w))) alike;
+    }
+
+awaiting_same : (m n : Answers) (first : ℕ) (w : World) → Fits w → DoesSame m n w (awaiting first w) (awaiting first w)
+awaiting_same m n first w f = does_itself m n w (awaiting first w) (beside_grows w (with_start first w) f refl refl refl refl refl)
+
+built_by_same : (m n : Answers) (levels first : ℕ) (class : Option (List ℕ)) (w : World) → Fits w → is_live w first ≡ true → DoesSame m n w (built_by m levels first class w) (built_by n levels first class w)
+built_by_same m n levels first (Some class) w f live = awaiting_same m n first w f
+built_by_same m n levels first None w f live =
+    does_then m n w (set_up levels m first w) (set_up levels n first w) (awaiting first) (awaiting first) (set_up_same m n levels first w f (live_within w first live)) (awaiting_same m n first)
+
+built_as_same : (m n : Answers) (levels first : ℕ) (a : Answer) (w : World) → Fits w → is_live w first ≡ true → DoesSame m n w (built_as m levels first a w) (built_as n levels first a w)
+built_as_same m n levels first (answer.Class class) w f live = built_by_same m n levels first class w f live
+built_as_same m n levels first (answer.Fault path e) w f live = does_itself m n w _ (grown_same w f)
+built_as_same m n levels first (answer.Root name) w f live = does_itself m n w _ (grown_same w f)
+built_as_same m n levels first (answer.Inside bs) w f live = does_itself m n w _ (grown_same w f)
+built_as_same m n levels first (answer.Value v) w f live = does_itself m n w _ (grown_same w f)
+built_as_same m n levels first (answer.Gate g) w f live = does_itself m n w _ (grown_same w f)
+built_as_same m n levels first (answer.Next next) w f live = does_itself m n w _ (grown_same w f)
+built_as_same m n levels first (answer.Beyond beyond) w f live = does_itself m n w _ (grown_same w f)
+built_as_same m n levels first (answer.Injection i) w f live = does_itself m n w _ (grown_same w f)
+built_as_same m n levels first answer.Absent w f live = does_itself m n w _ (grown_same w f)
+
+created_new_same : (m n : Answers) (id : ℕ) (c : Creation) (w : World) (found : Option ℕ) → module_at c.parent w ≡ found → Fits w → DoesSame m n w (created_in m id c w found) (created_in n id c w found)
+created_new_same m n id c w None e f = does_itself m n w (broken id fault.NoModule w) (grown_same w f)
+created_new_same m n id c w (Some parent) e f =
+    let within = live_within w parent (module_live c.parent w parent e) in
+    let first : ℕ = suc (length w.records) in
+    let levels : ℕ = levels_in parent w in
+    let none : (x : FaultValue) → DoesSame m n w (broken id x w) (broken id x w) = λ x. does_itself m n w (broken id x w) (grown_same w f) in
+    either_does m n w (is_simple w.records parent) _ _ _ _ (none fault.NoModule)
+    (either_does m n w (is_module_name c.name) _ _ _ _
+    (either_does m n w (has_namesake parent c w) _ _ _ _ (none fault.DuplicateName)
+    (either_does m n w (is_full (room_in w)) _ _ _ _ (does_itself m n w _ (grown_same w f))
+    (either_does m n w (is_full levels) _ _ _ _ (does_itself m n w _ (grown_same w f)) (creating_same m n parent c (built_as m levels first) (built_as n levels first) w f within (built_as_same m n levels first)))))
+    (none fault.BadName))
 
 -- ---- replies
 
@@ -532,7 +595,7 @@ called_same b law m n o id does other h p w (Some i) f e =
 deeds_alike : (b : Behaviour) (m n : Answers) (id : ℕ) → ActAlike m n id (deed id) (deed id)
 deeds_alike b m n id = record {
   same = λ action w f l. does_itself m n w (deed id action w) (deed_grows b m id action w l f);
-  live = λ action w small f l. lives_on b m w id (deed id action w) (deed_ends b (IsGrown w) (growth_lasts_on b w) m (id ∷ []) id action w l ((f, grown_same w f), (l, tt)));
+  live = λ action w small f l. lives_on b m w id (deed id action w) (deed_ends b m (IsGrown w) (growth_lasts_on b m w) (id ∷ []) id action w l ((f, grown_same w f), (l, tt)));
 }
 
 finish_same : (b : Behaviour) → IsLawful b → (m n : Answers) (id : ℕ) (w : World) → Fits w → DoesSame m n w (finish b m occasion.Deletion id w) (finish b n occasion.Deletion id w)
@@ -576,6 +639,7 @@ perform_same b law m n id (SendDirect place message flight) w f l = to_same m n 
 perform_same b law m n id (ScheduleAt a) w f l = (deeds_alike b m n id).same (ScheduleAt a) w f l
 perform_same b law m n id (ScheduleAfter s) w f l = (deeds_alike b m n id).same (ScheduleAfter s) w f l
 perform_same b law m n id (Cancel timer) w f l = (deeds_alike b m n id).same (Cancel timer) w f l
+perform_same b law m n id (Create c) w f l = created_new_same m n id c w (module_at c.parent w) refl f
 perform_same b law m n id (Delete path finish) w f l = deleted_same b law m n id finish w (module_at path w) f
 perform_same b law m n id (Connect from to link) w f l = connected_same m n id from to link w (module_at from.path w) refl f
 perform_same b law m n id (Disconnect place) w f l = disconnected_same m n id place w (module_at place.path w) refl f
@@ -583,10 +647,10 @@ perform_same b law m n id End w f l = (deeds_alike b m n id).same End w f l
 perform_same b law m n id (Fail text) w f l = (deeds_alike b m n id).same (Fail text) w f l
 
 all_alike : (b : Behaviour) → IsLawful b → (m n : Answers) (id : ℕ) → ActAlike m n id (perform b m id) (perform b n id)
-all_alike b law m n id = record { same = perform_same b law m n id; live = λ action w small f l. lives_on b m w id (perform b m id action w) (perform_ends b (IsGrown w) (growth_lasts_on b w) m id action w small ((f, grown_same w f), (l, tt))) }
+all_alike b law m n id = record { same = perform_same b law m n id; live = λ action w small f l. lives_on b m w id (perform b m id action w) (perform_ends b m (IsGrown w) (growth_lasts_on b m w) id action w small ((f, grown_same w f), (l, tt))) }
 
 -- one call
-pub call_same : (b : Behaviour) → IsLawful b → (m n : Answers) (id : ℕ) (p : CallReason) (w : World) → Fits w → DoesSame m n w (call_module b m id p w) (call_module b n id p w)
+call_same : (b : Behaviour) → IsLawful b → (m n : Answers) (id : ℕ) (p : CallReason) (w : World) → Fits w → DoesSame m n w (call_module b m id p w) (call_module b n id p w)
 call_same b law m n id p w f = called_same b law m n occasion.Event id (perform b m id) (perform b n id) (all_alike b law m n id) p w (instance_in id w.modules) f refl
 
 -- ---- starts
@@ -625,6 +689,13 @@ start_modules_same b law m n ids first w live f = by (first_unknown b (needs_of 
         record { grows = grown_on (grown_beside w u g refl refl refl) d.grows; same = d.same }
 
 -- ---- events
+
+-- what happens in an event is the same
+pub happens_same : (b : Behaviour) → IsLawful b → (m n : Answers) (p : Pending) (what : Happening) (w : World) → Fits w → DoesSame m n w (happens b m p what w) (happens b n p what w)
+happens_same b law m n p (happening.Start last) w f = start_modules_same b law m n (starting p.id last w) p.id w (starting_live p.id last w) f
+happens_same b law m n p (happening.Timer timer kind) w f = call_same b law m n p.id (prompt.Message (message_of p)) w f
+happens_same b law m n p (happening.Arrival kind bits payload) w f = call_same b law m n p.id (prompt.Message (message_of p)) w f
+happens_same b law m n p (happening.Delivery d) w f = call_same b law m n p.id (prompt.Message (message_of p)) w f
 
 -- event zero, before it is settled
 abbrev pub begins : Behaviour → Answers → Flow

@@ -14,7 +14,7 @@ use Rattle.run_semantics.specs.Laws.{Each, IsBounded}
 use Rattle.run_semantics.specs.Subtree.{among, ids_from, stands_in}
 use Rattle.run_semantics.proofs.Alive.{above_none, among_append, among_filter, each_among}
 use Rattle.run_semantics.proofs.Always.{LastsAlways, always}
-use Rattle.run_semantics.proofs.Lasting.{Lasts, LastsAtFirst}
+use Rattle.run_semantics.proofs.Lasting.{Lasts, by_steps, not_full}
 use Rattle.run_semantics.proofs.Living.{all_kept}
 use Rattle.run_semantics.proofs.Placing.{filter_append, filter_alike, filter_filter}
 
@@ -42,17 +42,20 @@ not_false : (a : Bool) → a ≡ false → not a ≡ true
 not_false false e = refl
 not_false true e = cc
 
--- all that are created live
-more_live : (w v : World) (more : List Record) → Each (λ k. k ≤ length w.records) w.dead → v.records ≡ w.records ++ more → v.dead ≡ w.dead → length (live_of v) ≡ length (live_of w) + length more
-more_live w v more within records dead =
+-- all that are created live, besides those that lived
+pub created_live : (w v : World) (more : List Record) → Each (λ k. k ≤ length w.records) w.dead → v.records ≡ w.records ++ more → v.dead ≡ w.dead → live_of v ≡ live_of w ++ ids_from (1 + length w.records) more
+created_live w v more within records dead =
     let f : ℕ → Bool = λ id. not (among id w.dead) in
     let next : List ℕ = ids_from (1 + length w.records) more in
     let kept : filter f next ≡ next = all_kept f next (each_map (λ id. 1 + length w.records ≤ id) (λ id. f id ≡ true) next (λ id l. not_false (among id w.dead) (above_none id (length w.records) w.dead (omega (arith, l)) within)) (ids_above (1 + length w.records) more)) in
-    let whole : live_of v ≡ live_of w ++ next =
     ap (λ ids. filter (λ id. not (among id ids)) (ids_from 1 v.records)) dead
     ∙ (ap (filter f) (ap (λ (rs : List Record). ids_from 1 rs) records ∙ ids_append 1 w.records more)
-    ∙ (filter_append f (ids_from 1 w.records) next ∙ ap (λ ids. live_of w ++ ids) kept)) in
-    omega (arith, ap (λ (ids : List ℕ). length ids) whole, length-append (live_of w) next, length_ids (1 + length w.records) more)
+    ∙ (filter_append f (ids_from 1 w.records) next ∙ ap (λ ids. live_of w ++ ids) kept))
+
+more_live : (w v : World) (more : List Record) → Each (λ k. k ≤ length w.records) w.dead → v.records ≡ w.records ++ more → v.dead ≡ w.dead → length (live_of v) ≡ length (live_of w) + length more
+more_live w v more within records dead =
+    let next : List ℕ = ids_from (1 + length w.records) more in
+    omega (arith, ap (λ (ids : List ℕ). length ids) (created_live w v more within records dead), length-append (live_of w) next, length_ids (1 + length w.records) more)
 
 split : (q : ℕ → Bool) (xs : List ℕ) → length (filter q xs) + length (filter (λ k. not (q k)) xs) ≡ length xs
 split q [] = refl
@@ -102,8 +105,8 @@ few_more w v more n within records dead room long h =
       all = omega (arith, lives, count, all, ap (λ (ids : List ℕ). length ids) dead);
     }
 
-few_last : (b : Behaviour) → Lasts b IsFew
-few_last b = record {
+few_last : (b : Behaviour) (m : Answers) → Lasts b m IsFew
+few_last b m = record {
   asked = λ q w n f g p. record { live = p.live; created = p.created; all = p.all };
   emitted = λ e w n t f g p. record { live = p.live; created = p.created; all = p.all };
   recorded = λ s w f g p. record { live = p.live; created = p.created; all = p.all };
@@ -112,7 +115,7 @@ few_last b = record {
   transmitted = λ ts w f g p. record { live = p.live; created = p.created; all = p.all };
   joined = λ gate to w f g p. record { live = p.live; created = p.created; all = p.all };
   ended = λ w f g p. record { live = p.live; created = p.created; all = p.all };
-  called = λ m id reason i w e f g p. record { live = p.live; created = p.created; all = p.all };
+  called = λ id reason i w e f g p. record { live = p.live; created = p.created; all = p.all };
   finished = λ id w f g p. record { live = p.live; created = p.created; all = p.all };
   gone = λ target w live f g p.
       let fewer = fewer_live w (λ n. stands_in w.records target n) in
@@ -120,18 +123,15 @@ few_last b = record {
       let l = p.live in
       let all = p.all in
       record { live = omega (arith, fewer, l); created = p.created; all = omega (arith, fewer, more, all) };
-}
-
-few_first : (b : Behaviour) → LastsAtFirst b IsFew
-few_first b = record {
-  built = λ parent bs w n few f g p. few_more w (with_submodules parent bs w) (map (record_under parent) bs) (length bs) f.dead refl refl (none_there bs (room_in w) few) (length-map bs (record_under parent)) p;
+  created = λ parent c class w live room deep f g p. few_more w _ _ 1 f.dead refl refl (not_full (room_in w) room) refl p;
+  set_up = by_steps m IsFew (λ id w n f g p. record { live = p.live; created = p.created; all = p.all })
+      (λ parent bs w n few f g p. few_more w (with_submodules parent bs w) (map (record_under parent) bs) (length bs) f.dead refl refl (none_there bs (room_in w) few) (length-map bs (record_under parent)) p);
   started = λ ids w e live fresh f g p. record { live = p.live; created = p.created; all = p.all };
 }
 
 few_always : (b : Behaviour) (m : Answers) → LastsAlways b m IsFew
 few_always b m = record {
-  lasts = few_last b;
-  first = few_first b;
+  lasts = few_last b m;
   at_first = record { live = omega arith; created = omega arith; all = refl };
   network = λ name. record { live = omega arith; created = omega arith; all = refl };
   begins = λ w u p rest e looked f h. subst (λ v. IsFew (begun p rest v)) looked.same (record { live = h.live; created = h.created; all = h.all });

@@ -2,7 +2,7 @@
 -- nothing is undone.
 use Rattle.std.proofs.Common.{◌≡◌, ℕ, Bool, true, false, List, [], ◌∷◌, Option, Some, None, refl, ◌∙◌, length, nat_lt, if◌then◌else◌}
 use Rattle.module_api.specs.declared.reply.Action.{Action}
-use Rattle.module_api.specs.declared.reply.Action.TheVariants.{Emit, RecordScalar, Send, SendDelayed, SendDirect, ScheduleAt, ScheduleAfter, Cancel, Delete, Connect, Disconnect, End, Fail}
+use Rattle.module_api.specs.declared.reply.Action.TheVariants.{Emit, RecordScalar, Send, SendDelayed, SendDirect, ScheduleAt, ScheduleAfter, Cancel, Create, Delete, Connect, Disconnect, End, Fail}
 use Rattle.module_api.specs.Actions.{has_large_payload}
 use Rattle.module_api.specs.declared.reply.Reply.{Reply}
 use Rattle.module_api.specs.declared.call.CallReason.TheVariants as prompt
@@ -73,6 +73,7 @@ last_closed id (RecordScalar name value) w =
 last_closed id (ScheduleAt a) w = closed_same w
 last_closed id (ScheduleAfter s) w = closed_same w
 last_closed id (Cancel timer) w = record { questions = refl; records = refl; count = refl; dead = refl; started = refl; changes = refl; finished = on_same w.finished; emissions = on_same w.emissions; scalars = on_same w.scalars }
+last_closed id (Create c) w = closed_same w
 last_closed id (Delete path finish) w = closed_same w
 last_closed id (Connect from to link) w = closed_same w
 last_closed id (Disconnect place) w = closed_same w

@@ -2,7 +2,6 @@
 -- event is counted.
 use Rattle.std.proofs.Common.{◌≡◌, ℕ, zero, suc, ◌+◌, Bool, true, false, List, refl, sym, ap, ◌∙◌, arith, subst, length, if◌then◌else◌}
 use Rattle.module_api.specs.Behaviour.{Behaviour}
-use Rattle.module_api.specs.declared.call.CallReason.TheVariants as prompt
 use Rattle.model_questions.specs.declared.answer.Question.TheVariants.{BeyondLimit}
 use Rattle.model_questions.specs.Answers.{Answers}
 use Rattle.event_set.specs.declared.pending.Pending.{Pending}
@@ -10,14 +9,14 @@ use Rattle.run_semantics.specs.declared.outcome.Outcome.{Outcome}
 use Rattle.run_semantics.specs.declared.outcome.Outcome.TheVariants.{Ended, TimeLimit}
 use Rattle.run_semantics.specs.World.{World}
 use Rattle.run_semantics.specs.Perform.{Flow, On, Stopped, Broken}
-use Rattle.run_semantics.specs.Event.{counted, begun, event, message_of}
+use Rattle.run_semantics.specs.Event.{counted, begun, event}
 use Rattle.run_semantics.specs.Run.{Stage, Running, Over, world_at, settled, start, is_after_limit, went, next_stage, after}
 use Rattle.run_semantics.specs.Upcoming.{Upcoming, Comes, Nothing, upcoming}
 use Rattle.run_semantics.proofs.Looking.{beside, HasLooked, upcoming_looks}
 use Rattle.run_semantics.proofs.Flows.{in_flow}
 use Rattle.run_semantics.proofs.Alike.{begins, begins_grows}
 use Rattle.run_semantics.proofs.Growth.{AllAbout-append, AllAbout-more, Fits, IsGrown, timed_grows}
-use Rattle.run_semantics.proofs.Grows.{call_grows}
+use Rattle.run_semantics.proofs.Grows.{happens_grows}
 
 -- the end of an event changes nothing of the world
 pub settled_world : (fl : Flow) → world_at (settled fl) ≡ in_flow fl
@@ -46,11 +45,11 @@ begun_grows p rest w f = timed_grows (BeyondLimit p.time) (counted p rest w) (re
 -- ---- one event
 
 pub event_fits : (b : Behaviour) (m : Answers) (p : Pending) (rest : List Pending) (w : World) → Fits w → Fits (in_flow (event b m p rest w))
-event_fits b m p rest w f = (call_grows b m p.id (prompt.Message (message_of p)) (begun p rest w) (begun_grows p rest w f).fits).fits
+event_fits b m p rest w f = (happens_grows b m p p.what (begun p rest w) (begun_grows p rest w f).fits).fits
 
 -- it is counted
 pub event_count : (b : Behaviour) (m : Answers) (p : Pending) (rest : List Pending) (w : World) → Fits w → (in_flow (event b m p rest w)).count ≡ w.count + 1
-event_count b m p rest w f = (call_grows b m p.id (prompt.Message (message_of p)) (begun p rest w) (begun_grows p rest w f).fits).count
+event_count b m p rest w f = (happens_grows b m p p.what (begun p rest w) (begun_grows p rest w f).fits).count
 
 -- ---- every world
 

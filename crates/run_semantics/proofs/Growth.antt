@@ -297,6 +297,7 @@ network_grows name = record {
 -- as was answered
 pub rooted_grows : (found : Answer) → IsGrown (asked Root empty) (in_flow (rooted found (asked Root empty)))
 rooted_grows (answer.Root name) = network_grows name
+rooted_grows (answer.Class class) = grown_same _ (asked_grows Root empty fits_empty (omega arith)).fits
 rooted_grows (answer.Inside bs) = grown_same _ (asked_grows Root empty fits_empty (omega arith)).fits
 rooted_grows (answer.Value v) = grown_same _ (asked_grows Root empty fits_empty (omega arith)).fits
 rooted_grows (answer.Gate g) = grown_same _ (asked_grows Root empty fits_empty (omega arith)).fits
@@ -326,6 +327,7 @@ many_grow parent bs w None f l = submodules_grow parent bs w f l
 -- as was answered
 pub created_grows : (parent : ℕ) (found : Answer) (w : World) → Fits w → parent ≤ length w.records → IsGrown w (in_flow (created parent found w))
 created_grows parent (answer.Inside bs) w f l = many_grow parent bs w (slice_get bs (room_in w)) f l
+created_grows parent (answer.Class class) w f l = grown_same w f
 created_grows parent (answer.Root name) w f l = grown_same w f
 created_grows parent (answer.Value v) w f l = grown_same w f
 created_grows parent (answer.Gate g) w f l = grown_same w f

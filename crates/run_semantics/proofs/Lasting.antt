@@ -14,12 +14,13 @@ use Rattle.event_set.specs.declared.pending.Happening.TheVariants as happening
 use Rattle.event_set.specs.declared.pending.Pending.{Pending}
 use Rattle.module_api.specs.Actions.{has_large_payload, is_large}
 use Rattle.module_api.specs.Behaviour.{Behaviour, Replied}
-use Rattle.module_api.specs.Names.{is_scalar_name}
+use Rattle.module_api.specs.Names.{is_module_name, is_scalar_name}
 use Rattle.module_api.specs.declared.call.CallReason.{CallReason}
 use Rattle.module_api.specs.declared.call.CallReason.TheVariants as prompt
 use Rattle.module_api.specs.declared.message.Outgoing.{Outgoing}
 use Rattle.module_api.specs.declared.reply.Action.{Action}
-use Rattle.module_api.specs.declared.reply.Action.TheVariants.{Emit, RecordScalar, Send, SendDelayed, SendDirect, ScheduleAt, ScheduleAfter, Cancel, Delete, Connect, Disconnect, End, Fail}
+use Rattle.module_api.specs.declared.reply.Action.TheVariants.{Emit, RecordScalar, Send, SendDelayed, SendDirect, ScheduleAt, ScheduleAfter, Cancel, Create, Delete, Connect, Disconnect, End, Fail}
+use Rattle.module_api.specs.declared.reply.Creation.{Creation}
 use Rattle.module_api.specs.declared.reply.Flight.{Flight}
 use Rattle.module_api.specs.declared.reply.GatePlace.{GatePlace}
 use Rattle.module_api.specs.declared.reply.Link.{Link}
@@ -32,10 +33,11 @@ use Rattle.model_questions.specs.declared.answer.Answer.{Answer}
 use Rattle.model_questions.specs.declared.answer.Answer.TheVariants as answer
 use Rattle.model_questions.specs.declared.answer.Built.{Built}
 use Rattle.model_questions.specs.declared.answer.Question.{Question}
-use Rattle.model_questions.specs.declared.answer.Question.TheVariants.{Build, GateSize, Hop, HopBack}
+use Rattle.model_questions.specs.declared.answer.Question.TheVariants.{Build, GateSize, Hop, HopBack, TypeOf}
 use Rattle.model_questions.specs.declared.record.Record.{Record}
 use Rattle.model_questions.specs.Answers.{Answers, answer_of}
-use Rattle.model_questions.proofs.AnswerLemmas.{about}
+use Rattle.model_questions.specs.Records.{lineage_up, place_of}
+use Rattle.model_questions.proofs.AnswerLemmas.{about, last_line}
 use Rattle.run_semantics.specs.declared.occasions.Occasion.{Occasion}
 use Rattle.run_semantics.specs.declared.occasions.Occasion.TheVariants as occasion
 use Rattle.run_semantics.specs.declared.outcome.RunFault.{RunFault}
@@ -55,15 +57,16 @@ use Rattle.run_semantics.specs.Calls.{call_of, instance_in, changed, called}
 use Rattle.run_semantics.specs.Finishing.{call_last, with_finished, marked, finish, finish_all}
 use Rattle.run_semantics.specs.Deleting.{subtree_of, to_finish_in, finished_first, gone, subtree_dropped, deleted_at}
 use Rattle.run_semantics.specs.Joining.{gate_at, channel_by, joined, joined_free, joined_into, joined_from, joined_to, joined_at, freed, freed_from, freed_at}
-use Rattle.run_semantics.specs.Run.{with_submodules, room_in, set_up, most_nested, Part, needs_of, placed, first_unknown, unless_unknown, stages_in, most_stages, initialize, one_stage, stages_from, with_started, started, start_modules, unstarted}
-use Rattle.run_semantics.specs.Event.{begun, event, message_of}
+use Rattle.run_semantics.specs.Creating.{least_priority, with_start, awaiting, record_for, class_in, with_created, class_answer, creating, built_by, built_as, has_namesake, is_full, levels_in, created_in}
+use Rattle.run_semantics.specs.Run.{with_submodules, room_in, set_up, most_nested, Part, needs_of, placed, first_unknown, unless_unknown, stages_in, most_stages, initialize, one_stage, stages_from, with_started, started, start_modules, starting, unstarted}
+use Rattle.run_semantics.specs.Event.{begun, event, happens, message_of}
 use Rattle.run_semantics.specs.Laws.{Each}
 use Rattle.run_semantics.specs.Subtree.{among, ids_from, outer_first, stands_in}
 use Rattle.run_semantics.proofs.Alive.{among_filter, and_both, and_of, each_among, live_gone, live_is, live_last, live_more, live_of_filter, live_within, not_among}
 use Rattle.run_semantics.proofs.Flows.{in_flow}
 use Rattle.run_semantics.proofs.Growth.{Fits, fits_beside, found_live, fits_changed, fits_more, fits_gone, fits_asked, fits_placed, fits_built, nested_last}
 use Rattle.run_semantics.proofs.Sending.{sum_is_after, flight_later}
-use Rattle.run_semantics.proofs.Setting.{IsLasting, Stays, set_up_stays}
+use Rattle.run_semantics.proofs.Setting.{IsLasting, Stays, stays_as, set_up_stays}
 
 -- from the first of two worlds that fit to the second
 abbrev pub Step : (World → Type 0) → World → World → Type 0
@@ -77,8 +80,21 @@ AreLive w ids = (k : ℕ) → among k ids ≡ true → is_live w k ≡ true
 abbrev pub AreNew : World → List ℕ → Type 0
 AreNew w ids = (k : ℕ) → among k ids ≡ true → among k w.started ≡ false
 
--- A PROPERTY LASTS through all that happens in an event where it lasts through each of these steps;
-pub record Lasts (b : Behaviour) (P : World → Type 0) : Type 0 where
+-- a start leaves it
+abbrev pub StartLeaves : Behaviour → (World → Type 0) → Type 0
+StartLeaves b P = (ids : List ℕ) (w : World) → first_unknown b (needs_of ids w) ≡ None → AreLive w ids → AreNew w ids → Step P w (with_started ids (placed b (needs_of ids w) w))
+
+-- there are so many levels for a module and what is to stand in it
+abbrev pub HasLevels : ℕ → ℕ → World → Type 0
+HasLevels depth id w = length (lineage_up 33 w.records id) + depth ≤ 33
+
+-- the setup of a module that lives leaves it
+abbrev pub SetupLeaves : Answers → (World → Type 0) → Type 0
+SetupLeaves m P = (depth id : ℕ) (w : World) → is_live w id ≡ true → HasLevels depth id w → Fits w → P w → Stays P (set_up depth m id w)
+
+-- A PROPERTY LASTS through all that happens in a run of that model where it lasts through each of
+-- these steps.
+pub record Lasts (b : Behaviour) (m : Answers) (P : World → Type 0) : Type 0 where
   pub asked : (q : Question) (w : World) → about q ≤ length w.records → Step P w (asked q w)
   pub emitted : (e : Emission) (w : World) → e.event ≡ w.count → e.time ≡ w.clock → Step P w (record w { emissions = w.emissions ++ e ∷ [] })
   pub recorded : (s : Scalar) (w : World) → Step P w (record w { scalars = w.scalars ++ s ∷ [] })
@@ -87,18 +103,45 @@ pub record Lasts (b : Behaviour) (P : World → Type 0) : Type 0 where
   pub transmitted : (ts : List Transmission) (w : World) → Step P w (record w { transmissions = ts })
   pub joined : (g : PlacedGate) (to : Option NextHop) (w : World) → Step P w (with_change g to w)
   pub ended : (w : World) → Step P w (record w { ended = true })
-  pub called : (m : Answers) (id : ℕ) (reason : CallReason) (i : Instance) (w : World) → instance_in id w.modules ≡ Some i → Step P w (changed id ((b.naming i.kind).reply i.state (call_of m id reason w)).state w)
+  pub called : (id : ℕ) (reason : CallReason) (i : Instance) (w : World) → instance_in id w.modules ≡ Some i → Step P w (changed id ((b.naming i.kind).reply i.state (call_of m id reason w)).state w)
   pub finished : (id : ℕ) (w : World) → Step P w (with_finished id w)
   pub gone : (target : ℕ) (w : World) → is_live w target ≡ true → Step P w (gone (subtree_of target w) w)
-
--- a start leaves it
-abbrev pub StartLeaves : Behaviour → (World → Type 0) → Type 0
-StartLeaves b P = (ids : List ℕ) (w : World) → first_unknown b (needs_of ids w) ≡ None → AreLive w ids → AreNew w ids → Step P w (with_started ids (placed b (needs_of ids w) w))
-
--- and through event zero where it lasts through these besides.
-pub record LastsAtFirst (b : Behaviour) (P : World → Type 0) : Type 0 where
-  pub built : (parent : ℕ) (bs : List Built) (w : World) → parent ≤ length w.records → slice_get bs (room_in w) ≡ None → Step P w (with_submodules parent bs w)
+  pub created : (parent : ℕ) (c : Creation) (class : Option (List ℕ)) (w : World) → is_live w parent ≡ true → is_full (room_in w) ≡ false → is_full (levels_in parent w) ≡ false → Step P w (with_created parent c class w)
+  pub set_up : SetupLeaves m P
   pub started : StartLeaves b P
+
+-- a setup leaves what lasts through its two steps
+pub by_steps : (m : Answers) (P : World → Type 0) → ((id : ℕ) (w : World) → id ≤ length w.records → Step P w (asked (Build id) w))
+    → ((parent : ℕ) (bs : List Built) (w : World) → parent ≤ length w.records → slice_get bs (room_in w) ≡ None → Step P w (with_submodules parent bs w)) → SetupLeaves m P
+by_steps m P asks builds depth id w live levels f p =
+    stays_as (λ v. (Fits v × P v) × (0 ≤ length v.records)) P (set_up depth m id w) (λ v h. h.0.1)
+    (set_up_stays (λ v. Fits v × P v) (record {
+      asked = λ k v h n. let g = fits_asked (Build k) v h.0 n in (g, asks k v n h.0 g h.1);
+      created = λ parent bs v h n few. let g = fits_built parent bs v h.0 n in (g, builds parent bs v n few h.0 g h.1);
+    }) depth m 0 id w (f, p) (omega arith) (live_within w id live))
+
+-- through a setup everything fits, and these live
+lives_on : (ks : List ℕ) → IsLasting (λ w. Fits w × Each (λ k. is_live w k ≡ true) ks)
+lives_on ks = record {
+  asked = λ id w h n. (fits_asked (Build id) w h.0 n, h.1);
+  created = λ parent bs w h n few.
+      let v : World = with_submodules parent bs w in
+      (fits_built parent bs w h.0 n, each_map (λ k. is_live w k ≡ true) (λ k. is_live v k ≡ true) ks (λ k e. live_more w v _ k refl refl e) h.1);
+}
+
+-- ---- the levels of a module that is created
+
+pub not_full : (n : ℕ) → is_full n ≡ false → 1 ≤ n
+not_full zero e = cc
+not_full (suc n) e = omega arith
+
+-- it has those that are left in the module around it
+pub created_levels : (parent : ℕ) (c : Creation) (class : Option (List ℕ)) (w : World) → Fits w → parent ≤ length w.records → is_full (levels_in parent w) ≡ false → HasLevels (levels_in parent w) (suc (length w.records)) (with_created parent c class w)
+unfolding place_of most_nested
+created_levels parent c class w f l e =
+    let line = ap length (last_line 32 w.records (record_for parent c class) f.nested l) in
+    let some = not_full (levels_in parent w) e in
+    omega (arith, line, some)
 
 -- ---- a module that is found by its path lives
 
@@ -141,12 +184,21 @@ unstarted_live w k e = live_of_filter w (λ id. not (among id w.started)) k e
 pub unstarted_new : (w : World) → AreNew w (unstarted w)
 unstarted_new w k e = not_among k w.started (and_both (among k (live_of w)) (not (among k w.started)) (sym (among_filter k (λ id. not (among id w.started)) (live_of w)) ∙ e)).1
 
+in_range : (first last : ℕ) (w : World) (k : ℕ) → among k (starting first last w) ≡ true → among k (unstarted w) ≡ true
+in_range first last w k e = (and_both (among k (unstarted w)) (nat_le first k && nat_le k last) (sym (among_filter k (λ id. nat_le first id && nat_le id last) (unstarted w)) ∙ e)).0
+
+pub starting_live : (first last : ℕ) (w : World) → AreLive w (starting first last w)
+starting_live first last w k e = unstarted_live w k (in_range first last w k e)
+
+pub starting_new : (first last : ℕ) (w : World) → AreNew w (starting first last w)
+starting_new first last w k e = unstarted_new w k (in_range first last w k e)
+
 -- without the modules below one, everything fits still
 pub fits_without : (target : ℕ) (w : World) → Fits w → Fits (gone (subtree_of target w) w)
 fits_without target w f =
     fits_gone w (subtree_of target w) f (each_among (λ k. k ≤ length w.records) (subtree_of target w) (λ k e. live_within w k (live_of_filter w (λ n. stands_in w.records target n) k e)))
 
-module _ (b : Behaviour) (P : World → Type 0) (l : Lasts b P) (m : Answers) where
+module _ (b : Behaviour) (m : Answers) (P : World → Type 0) (l : Lasts b m P) where
   abbrev pub Holds : World → Type 0
   Holds w = Fits w × P w
 
@@ -216,6 +268,7 @@ module _ (b : Behaviour) (P : World → Type 0) (l : Lasts b P) (m : Answers) wh
   deed_ends ks id (Cancel timer) w live h = let f = fits_beside w (with_cancelled id timer w) h.0.0 refl refl refl refl in ((f, l.cancelled id timer w h.0.0 f h.0.1), h.1)
   deed_ends ks id End w live h = let f = fits_beside w (record w { ended = true }) h.0.0 refl refl refl refl in (f, l.ended w h.0.0 f h.0.1)
   deed_ends ks id (Fail text) w live h = h.0
+  deed_ends ks id (Create c) w live h = h
   deed_ends ks id (Delete path finish) w live h = h
   deed_ends ks id (Connect from to link) w live h = h
   deed_ends ks id (Disconnect place) w live h = h
@@ -273,7 +326,7 @@ module _ (b : Behaviour) (P : World → Type 0) (l : Lasts b P) (m : Answers) wh
       let r : Replied = (b.naming i.kind).reply i.state (call_of m id reason w) in
       let live = found_live id w i h.0.0 e in
       let fits = fits_changed id r.state w h.0.0 in
-      fewer_end id ks (follow r.reply (changed id r.state w)) (f r.reply (changed id r.state w) ((fits, l.called m id reason i w e h.0.0 fits h.0.1), (live, h.1)))
+      fewer_end id ks (follow r.reply (changed id r.state w)) (f r.reply (changed id r.state w) ((fits, l.called id reason i w e h.0.0 fits h.0.1), (live, h.1)))
 
   finish_ends : (ks : List ℕ) (o : Occasion) (id : ℕ) (w : World) → Goes ks w → Ends ks (finish b m o id w)
   finish_ends ks o id w h =
@@ -476,6 +529,64 @@ module _ (b : Behaviour) (P : World → Type 0) (l : Lasts b P) (m : Answers) wh
       either_ends (id ∷ []) (target == 1) (broken id fault.NoModule w) (finished_first b m finish target w >>= subtree_dropped id target) (λ t. h.0)
       (λ t. finished_ends id target (finished_first b m finish target w) (first_ends (target ∷ id ∷ []) finish target w (h.0, (module_live path w target e, h.1))))
 
+  -- ---- modules that are created
+
+  awaiting_goes : (ks : List ℕ) (first : ℕ) (w : World) → is_live w first ≡ true → Goes ks w → Goes ks (with_start first w)
+  awaiting_goes ks first w live h = inserted_goes ks (record { time = w.clock; priority = least_priority; number = w.next; id = first; what = happening.Start (length w.records) }) w refl (omega arith) live (omega arith) h
+
+  stays_end : (ks : List ℕ) (fl : Flow) → Stays P fl → Stays (λ w. (Fits w × Each (λ k. is_live w k ≡ true) ks) × (0 ≤ length w.records)) fl → Ends ks fl
+  stays_end ks (On w) h k = ((k.0.0, h), k.0.1)
+  stays_end ks (Stopped w) h k = absurd h
+  stays_end ks (Broken w path f) h k = (k.0.0, h)
+
+  -- the setup of a module that lives
+  pub set_up_ends : (ks : List ℕ) (depth id : ℕ) (w : World) → is_live w id ≡ true → HasLevels depth id w → Goes ks w → Ends ks (set_up depth m id w)
+  set_up_ends ks depth id w live levels h =
+      stays_end ks (set_up depth m id w) (l.set_up depth id w live levels h.0.0 h.0.1)
+      (set_up_stays (λ v. Fits v × Each (λ k. is_live v k ≡ true) ks) (lives_on ks) depth m 0 id w (h.0.0, h.1) (omega arith) (live_within w id live))
+
+  built_by_ends : (ks : List ℕ) (levels first : ℕ) (class : Option (List ℕ)) (w : World) → HasLevels levels first w → Goes (first ∷ ks) w → Ends (first ∷ ks) (built_by m levels first class w)
+  built_by_ends ks levels first (Some class) w e h = awaiting_goes (first ∷ ks) first w h.1.0 h
+  built_by_ends ks levels first None w e h =
+      then_ends (first ∷ ks) (set_up levels m first w) (awaiting first) (set_up_ends (first ∷ ks) levels first w h.1.0 e h) (λ v g. awaiting_goes (first ∷ ks) first v g.1.0 g)
+
+  built_as_ends : (ks : List ℕ) (levels first : ℕ) (a : Answer) (w : World) → HasLevels levels first w → Goes (first ∷ ks) w → Ends (first ∷ ks) (built_as m levels first a w)
+  built_as_ends ks levels first (answer.Class class) w e h = built_by_ends ks levels first class w e h
+  built_as_ends ks levels first (answer.Fault path f) w e h = h.0
+  built_as_ends ks levels first (answer.Root name) w e h = h.0
+  built_as_ends ks levels first (answer.Inside bs) w e h = h.0
+  built_as_ends ks levels first (answer.Value v) w e h = h.0
+  built_as_ends ks levels first (answer.Gate g) w e h = h.0
+  built_as_ends ks levels first (answer.Next next) w e h = h.0
+  built_as_ends ks levels first (answer.Beyond beyond) w e h = h.0
+  built_as_ends ks levels first (answer.Injection i) w e h = h.0
+  built_as_ends ks levels first answer.Absent w e h = h.0
+
+  creating_ends : (ks : List ℕ) (parent : ℕ) (c : Creation) (w : World) → is_live w parent ≡ true → is_full (room_in w) ≡ false → is_full (levels_in parent w) ≡ false → Goes ks w → Ends ks (creating m parent c (built_as m (levels_in parent w) (suc (length w.records))) w)
+  creating_ends ks parent c w around room deep h =
+      let a : Answer = class_answer m parent c w in
+      let r : Record = record_for parent c (class_in a) in
+      let v : World = with_created parent c (class_in a) w in
+      let first : ℕ = suc (length w.records) in
+      let within = live_within w parent around in
+      let nested = nested_last 0 w.records r h.0.0.nested (omega (arith, within)) in
+      let f = fits_more w v (r ∷ []) h.0.0 refl refl refl refl nested in
+      let live = live_last w v r refl refl h.0.0.dead in
+      let all = each_map (λ k. is_live w k ≡ true) (λ k. is_live v k ≡ true) ks (λ k e. live_more w v (r ∷ []) k refl refl e) h.1 in
+      let g : Goes (first ∷ ks) v = ((f, l.created parent c (class_in a) w around room deep h.0.0 f h.0.1), (live, all)) in
+      fewer_end first ks (built_as m (levels_in parent w) first a (asked (TypeOf first) v))
+      (built_as_ends ks (levels_in parent w) first a (asked (TypeOf first) v) (created_levels parent c (class_in a) w h.0.0 within deep) (beside_goes (first ∷ ks) v (TypeOf first) g (live_within v first live)))
+
+  created_ends : (ks : List ℕ) (id : ℕ) (c : Creation) (w : World) (found : Option ℕ) → module_at c.parent w ≡ found → Goes ks w → Ends ks (created_in m id c w found)
+  created_ends ks id c w None e h = h.0
+  created_ends ks id c w (Some parent) e h =
+      either_ends ks (is_simple w.records parent) _ _ (λ e. h.0)
+      (λ s. either_ends ks (is_module_name c.name) _ _
+      (λ s. either_ends ks (has_namesake parent c w) _ _ (λ s. h.0)
+      (λ s. either_ends ks (is_full (room_in w)) _ _ (λ s. h.0)
+      (λ room. either_ends ks (is_full (levels_in parent w)) _ _ (λ s. h.0) (λ deep. creating_ends ks parent c w (module_live c.parent w parent e) room deep h))))
+      (λ s. h.0))
+
   -- ---- actions: one line for each
 
   pub perform_ends : (id : ℕ) (action : Action) (w : World) → has_large_payload action ≡ false → Goes (id ∷ []) w → Ends (id ∷ []) (perform b m id action w)
@@ -487,6 +598,7 @@ module _ (b : Behaviour) (P : World → Type 0) (l : Lasts b P) (m : Answers) wh
   perform_ends id (ScheduleAt a) w small h = deed_ends (id ∷ []) id (ScheduleAt a) w h.1.0 h
   perform_ends id (ScheduleAfter s) w small h = deed_ends (id ∷ []) id (ScheduleAfter s) w h.1.0 h
   perform_ends id (Cancel timer) w small h = deed_ends (id ∷ []) id (Cancel timer) w h.1.0 h
+  perform_ends id (Create c) w small h = created_ends (id ∷ []) id c w (module_at c.parent w) refl h
   perform_ends id (Delete path finish) w small h = deleted_ends id path finish w (module_at path w) refl h
   perform_ends id (Connect from to link) w small h = connected_ends (id ∷ []) id from to link w (module_at from.path w) refl h
   perform_ends id (Disconnect place) w small h = disconnected_ends (id ∷ []) id place w (module_at place.path w) refl h
@@ -514,36 +626,30 @@ module _ (b : Behaviour) (P : World → Type 0) (l : Lasts b P) (m : Answers) wh
   stages_end ids stage zero w h = (h, tt)
   stages_end ids stage (suc left) w h = then_ends [] (one_stage b m stage ids w) (stages_from b m ids (suc stage) left) (one_stage_ends stage ids w h) (λ v g. stages_end ids (suc stage) left v g.0)
 
-  -- ONE EVENT, from the world in which it begins
-  pub event_holds : (p : Pending) (rest : List Pending) (w : World) → Holds (begun p rest w) → Holds (in_flow (event b m p rest w))
-  event_holds p rest w h = ends_hold [] (event b m p rest w) (call_ends p.id (prompt.Message (message_of p)) (begun p rest w) h)
-
--- ---- event zero
-
-module _ (b : Behaviour) (P : World → Type 0) (l : Lasts b P) (z : LastsAtFirst b P) (m : Answers) where
-  -- what lasts through a setup, and that these live
-  pub setup_lasts : (ks : List ℕ) → IsLasting (Goes b P l m ks)
-  setup_lasts ks = record {
-    asked = λ id w h n. beside_goes b P l m ks w (Build id) h n;
-    created = λ parent bs w h n few.
-        let v : World = with_submodules parent bs w in
-        let f = fits_built parent bs w h.0.0 n in
-        ((f, z.built parent bs w n few h.0.0 f h.0.1), each_map (λ k. is_live w k ≡ true) (λ k. is_live v k ≡ true) ks (λ k e. live_more w v _ k refl refl e) h.1);
-  }
-
-module _ (b : Behaviour) (P : World → Type 0) (l : Lasts b P) (started_leaves : StartLeaves b P) (m : Answers) where
   -- A START of modules that live
-  pub start_ends : (ids : List ℕ) (first : ℕ) (w : World) → AreLive w ids → AreNew w ids → Holds b P l m w → Ends b P l m [] (start_modules b m ids first w)
+  pub start_ends : (ids : List ℕ) (first : ℕ) (w : World) → AreLive w ids → AreNew w ids → Holds w → Ends [] (start_modules b m ids first w)
   start_ends ids first w live fresh h = by (first_unknown b (needs_of ids w)) refl
     where
       calls : List ℕ
       calls = outer_first w.records ids first
 
-      by : (o : Option Part) → first_unknown b (needs_of ids w) ≡ o → Ends b P l m [] (unless_unknown b (needs_of ids w) w o >>= started b m ids calls)
+      by : (o : Option Part) → first_unknown b (needs_of ids w) ≡ o → Ends [] (unless_unknown b (needs_of ids w) w o >>= started b m ids calls)
       by (Some p) e = h
       by None e =
           let v : World = placed b (needs_of ids w) w in
           let u : World = with_started ids v in
           let f = fits_placed b w ids h.0 live in
           let g = fits_beside v u f refl refl refl refl in
-          stages_end b P l m calls 0 (most_stages b v.modules calls) u (g, started_leaves ids w e live fresh h.0 g h.1)
+          stages_end calls 0 (most_stages b v.modules calls) u (g, l.started ids w e live fresh h.0 g h.1)
+
+  -- ---- an event
+
+  pub happens_ends : (p : Pending) (what : Happening) (w : World) → Holds w → Ends [] (happens b m p what w)
+  happens_ends p (happening.Start last) w h = start_ends (starting p.id last w) p.id w (starting_live p.id last w) (starting_new p.id last w) h
+  happens_ends p (happening.Timer timer kind) w h = call_ends p.id (prompt.Message (message_of p)) w h
+  happens_ends p (happening.Arrival kind bits payload) w h = call_ends p.id (prompt.Message (message_of p)) w h
+  happens_ends p (happening.Delivery d) w h = call_ends p.id (prompt.Message (message_of p)) w h
+
+  -- ONE EVENT, from the world in which it begins
+  pub event_holds : (p : Pending) (rest : List Pending) (w : World) → Holds (begun p rest w) → Holds (in_flow (event b m p rest w))
+  event_holds p rest w h = ends_hold [] (event b m p rest w) (happens_ends p p.what (begun p rest w) h)

@@ -27,4 +27,3 @@ pub mod Setting
 pub mod Setup
 pub mod Sound
 pub mod States
-pub mod Staying

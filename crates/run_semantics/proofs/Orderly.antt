@@ -22,7 +22,7 @@ use Rattle.run_semantics.proofs.Always.{LastsAlways, always, begins_hold}
 use Rattle.run_semantics.proofs.Fitting.{begun_grows, fits_after, fits_looked, settled_world}
 use Rattle.run_semantics.proofs.Flows.{in_flow}
 use Rattle.run_semantics.proofs.Growth.{Fits}
-use Rattle.run_semantics.proofs.Lasting.{Lasts, LastsAtFirst, event_holds}
+use Rattle.run_semantics.proofs.Lasting.{Lasts, by_steps, event_holds}
 use Rattle.run_semantics.proofs.Looking.{beside, HasLooked, upcoming_looks}
 use Rattle.event_set.proofs.Order.{each_map, each_append, each_inserted, ordered_inserted, own_inserted, each_without, ordered_without, own_without}
 
@@ -99,7 +99,7 @@ IsInTime m w = IsAhead w.clock w.delivered m.injections
 abbrev IsWell : Answers → World → Type 0
 IsWell m w = IsOrderly w × IsInTime m w
 
-well_lasts : (b : Behaviour) (m : Answers) → Lasts b (IsWell m)
+well_lasts : (b : Behaviour) (m : Answers) → Lasts b m (IsWell m)
 well_lasts b m = record {
   asked = λ q w n f g p. (orderly_same w _ p.0 refl refl refl refl refl, p.1);
   emitted = λ e w n t f g p. (orderly_same w _ p.0 refl refl refl refl refl, p.1);
@@ -118,14 +118,11 @@ well_lasts b m = record {
   transmitted = λ ts w f g p. (orderly_same w _ p.0 refl refl refl refl refl, p.1);
   joined = λ gate to w f g p. (orderly_same w _ p.0 refl refl refl refl refl, p.1);
   ended = λ w f g p. (orderly_same w _ p.0 refl refl refl refl refl, p.1);
-  called = λ m id reason i w e f g p. (orderly_same w _ p.0 refl refl refl refl refl, p.1);
+  called = λ id reason i w e f g p. (orderly_same w _ p.0 refl refl refl refl refl, p.1);
   finished = λ id w f g p. (orderly_same w _ p.0 refl refl refl refl refl, p.1);
   gone = λ target w live f g p. (orderly_gone w (subtree_of target w) p.0, p.1);
-}
-
-well_first : (b : Behaviour) (m : Answers) → LastsAtFirst b (IsWell m)
-well_first b m = record {
-  built = λ parent bs w n few f g p. (orderly_more w _ _ p.0 refl refl refl refl refl, p.1);
+  created = λ parent c class w live room deep f g p. (orderly_more w _ _ p.0 refl refl refl refl refl, p.1);
+  set_up = by_steps m (IsWell m) (λ id w n f g p. (orderly_same w _ p.0 refl refl refl refl refl, p.1)) (λ parent bs w n few f g p. (orderly_more w _ _ p.0 refl refl refl refl refl, p.1));
   started = λ ids w e live fresh f g p. (orderly_same w _ p.0 refl refl refl refl refl, p.1);
 }
 
@@ -165,7 +162,6 @@ begun_well m w u p rest e looked h =
 well_always : (b : Behaviour) (m : Answers) → LastsAlways b m (IsWell m)
 well_always b m = record {
   lasts = well_lasts b m;
-  first = well_first b m;
   at_first = (record { order = tt; own = tt; below = tt; due = tt; live = tt }, ahead_at_zero None m.injections);
   network = λ name. (record { order = tt; own = tt; below = tt; due = tt; live = tt }, ahead_at_zero None m.injections);
   begins = λ w u p rest e looked f h. begun_well m w u p rest e looked h;
@@ -216,8 +212,8 @@ pub record Since (old new : World) : Type 0 where
 since_same : (w : World) → Since w w
 since_same w = record { clock = refl; count = refl; next = omega arith; dead = on_same w.dead; started = on_same w.started; finished = on_same w.finished; changes = on_same w.changes; emissions = on_same w.emissions; present = tt; scalars = on_same w.scalars }
 
-since_lasts : (b : Behaviour) (u : World) → Lasts b (Since u)
-since_lasts b u = record {
+since_lasts : (b : Behaviour) (m : Answers) (u : World) → Lasts b m (Since u)
+since_lasts b m u = record {
   asked = λ q w n f g p. record { clock = p.clock; count = p.count; next = p.next; dead = p.dead; started = p.started; finished = p.finished; changes = p.changes; emissions = p.emissions; present = p.present; scalars = p.scalars };
   emitted = λ e w n t f g p. record { clock = p.clock; count = p.count; next = p.next; dead = p.dead; started = p.started; finished = p.finished; changes = p.changes; emissions = on_added u.emissions w.emissions (e ∷ []) p.emissions; present = each_append (λ (e : Emission). (e.event ≡ u.count) × (e.time ≡ u.clock)) p.emissions.0 (e ∷ []) p.present ((n ∙ p.count, t ∙ p.clock), tt); scalars = p.scalars };
   recorded = λ s w f g p. record { clock = p.clock; count = p.count; next = p.next; dead = p.dead; started = p.started; finished = p.finished; changes = p.changes; emissions = p.emissions; present = p.present; scalars = on_added u.scalars w.scalars (s ∷ []) p.scalars };
@@ -226,20 +222,17 @@ since_lasts b u = record {
   transmitted = λ ts w f g p. record { clock = p.clock; count = p.count; next = p.next; dead = p.dead; started = p.started; finished = p.finished; changes = p.changes; emissions = p.emissions; present = p.present; scalars = p.scalars };
   joined = λ gate to w f g p. record { clock = p.clock; count = p.count; next = p.next; dead = p.dead; started = p.started; finished = p.finished; changes = on_added u.changes w.changes _ p.changes; emissions = p.emissions; present = p.present; scalars = p.scalars };
   ended = λ w f g p. record { clock = p.clock; count = p.count; next = p.next; dead = p.dead; started = p.started; finished = p.finished; changes = p.changes; emissions = p.emissions; present = p.present; scalars = p.scalars };
-  called = λ m id reason i w e f g p. record { clock = p.clock; count = p.count; next = p.next; dead = p.dead; started = p.started; finished = p.finished; changes = p.changes; emissions = p.emissions; present = p.present; scalars = p.scalars };
+  called = λ id reason i w e f g p. record { clock = p.clock; count = p.count; next = p.next; dead = p.dead; started = p.started; finished = p.finished; changes = p.changes; emissions = p.emissions; present = p.present; scalars = p.scalars };
   finished = λ id w f g p. record { clock = p.clock; count = p.count; next = p.next; dead = p.dead; started = p.started; finished = on_added u.finished w.finished (id ∷ []) p.finished; changes = p.changes; emissions = p.emissions; present = p.present; scalars = p.scalars };
   gone = λ target w live f g p. record { clock = p.clock; count = p.count; next = p.next; dead = on_added u.dead w.dead (subtree_of target w) p.dead; started = p.started; finished = p.finished; changes = p.changes; emissions = p.emissions; present = p.present; scalars = p.scalars };
-}
-
-since_first : (b : Behaviour) (u : World) → LastsAtFirst b (Since u)
-since_first b u = record {
-  built = λ parent bs w n few f g p. record { clock = p.clock; count = p.count; next = p.next; dead = p.dead; started = p.started; finished = p.finished; changes = p.changes; emissions = p.emissions; present = p.present; scalars = p.scalars };
+  created = λ parent c class w live room deep f g p. record { clock = p.clock; count = p.count; next = p.next; dead = p.dead; started = p.started; finished = p.finished; changes = p.changes; emissions = p.emissions; present = p.present; scalars = p.scalars };
+  set_up = by_steps m (Since u) (λ id w n f g p. record { clock = p.clock; count = p.count; next = p.next; dead = p.dead; started = p.started; finished = p.finished; changes = p.changes; emissions = p.emissions; present = p.present; scalars = p.scalars }) (λ parent bs w n few f g p. record { clock = p.clock; count = p.count; next = p.next; dead = p.dead; started = p.started; finished = p.finished; changes = p.changes; emissions = p.emissions; present = p.present; scalars = p.scalars });
   started = λ ids w e live fresh f g p. record { clock = p.clock; count = p.count; next = p.next; dead = p.dead; started = on_added u.started w.started ids p.started; finished = p.finished; changes = p.changes; emissions = p.emissions; present = p.present; scalars = p.scalars };
 }
 
 -- one event
 event_since : (b : Behaviour) (m : Answers) (p : Pending) (rest : List Pending) (w : World) → Fits w → Since (begun p rest w) (in_flow (event b m p rest w))
-event_since b m p rest w f = let v : World = begun p rest w in (event_holds b (Since v) (since_lasts b v) m p rest w ((begun_grows p rest w f).fits, since_same v)).1
+event_since b m p rest w f = let v : World = begun p rest w in (event_holds b m (Since v) (since_lasts b m v) p rest w ((begun_grows p rest w f).fits, since_same v)).1
 
 -- from the first world to the second, over one event at most
 pub record Follows (old new : World) : Type 0 where
@@ -301,7 +294,7 @@ after_follows b m n = next_follows b m (after b m n) (fits_after b m n) (well_af
 
 -- event zero
 pub zero_since : (b : Behaviour) (m : Answers) → Since empty (world_at (after b m 0))
-zero_since b m = begins_hold b m (Since empty) (since_lasts b empty) (since_first b empty) (record { clock = refl; count = refl; next = omega arith; dead = on_same []; started = on_same []; finished = on_same []; changes = on_same []; emissions = on_same []; present = tt; scalars = on_same [] }) (λ name. record { clock = refl; count = refl; next = omega arith; dead = on_same []; started = on_same []; finished = on_same []; changes = on_same []; emissions = on_same []; present = tt; scalars = on_same [] })
+zero_since b m = begins_hold b m (Since empty) (since_lasts b m empty) (record { clock = refl; count = refl; next = omega arith; dead = on_same []; started = on_same []; finished = on_same []; changes = on_same []; emissions = on_same []; present = tt; scalars = on_same [] }) (λ name. record { clock = refl; count = refl; next = omega arith; dead = on_same []; started = on_same []; finished = on_same []; changes = on_same []; emissions = on_same []; present = tt; scalars = on_same [] })
 
 -- ---- emissions
 

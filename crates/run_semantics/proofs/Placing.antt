@@ -16,7 +16,7 @@ use Rattle.run_semantics.specs.Subtree.{among, ids_from}
 use Rattle.run_semantics.specs.World.{World, is_live}
 use Rattle.run_semantics.proofs.Alive.{above_none, among_append, among_more, each_among, each_filter, live_is, live_within}
 use Rattle.run_semantics.proofs.Always.{LastsAlways, always}
-use Rattle.run_semantics.proofs.Lasting.{AreLive, AreNew, Lasts, LastsAtFirst}
+use Rattle.run_semantics.proofs.Lasting.{AreLive, AreNew, Lasts, by_steps}
 
 -- ---- lists that are filtered
 
@@ -260,8 +260,8 @@ stands_started b w ids live fresh h =
       within = each_append (λ k. k ≤ length w.records) w.started ids h.within (each_among (λ k. k ≤ length w.records) ids (λ k e. live_within w k (live k e)));
     }
 
-stands_last : (b : Behaviour) → Lasts b StandsWell
-stands_last b = record {
+stands_last : (b : Behaviour) (m : Answers) → Lasts b m StandsWell
+stands_last b m = record {
   asked = λ q w n f g p. record { stands = p.stands; within = p.within };
   emitted = λ e w n t f g p. record { stands = p.stands; within = p.within };
   recorded = λ s w f g p. record { stands = p.stands; within = p.within };
@@ -270,21 +270,17 @@ stands_last b = record {
   transmitted = λ ts w f g p. record { stands = p.stands; within = p.within };
   joined = λ gate to w f g p. record { stands = p.stands; within = p.within };
   ended = λ w f g p. record { stands = p.stands; within = p.within };
-  called = λ m id reason i w e f g p. record { stands = standing_state id _ w.modules ∙ p.stands; within = p.within };
+  called = λ id reason i w e f g p. record { stands = standing_state id _ w.modules ∙ p.stands; within = p.within };
   finished = λ id w f g p. record { stands = p.stands; within = p.within };
   gone = λ target w live f g p. stands_gone w (subtree_of target w) p;
-}
-
-stands_first : (b : Behaviour) → LastsAtFirst b StandsWell
-stands_first b = record {
-  built = λ parent bs w n few f g p. stands_more w _ _ p refl refl refl refl;
+  created = λ parent c class w live room deep f g p. stands_more w _ _ p refl refl refl refl;
+  set_up = by_steps m StandsWell (λ id w n f g p. record { stands = p.stands; within = p.within }) (λ parent bs w n few f g p. stands_more w _ _ p refl refl refl refl);
   started = λ ids w e live fresh f g p. stands_started b w ids live fresh p;
 }
 
 stands_always : (b : Behaviour) (m : Answers) → LastsAlways b m StandsWell
 stands_always b m = record {
-  lasts = stands_last b;
-  first = stands_first b;
+  lasts = stands_last b m;
   at_first = record { stands = refl; within = tt };
   network = λ name. record { stands = refl; within = tt };
   begins = λ w u p rest e looked f h. subst (λ v. StandsWell (begun p rest v)) looked.same (record { stands = h.stands; within = h.within });

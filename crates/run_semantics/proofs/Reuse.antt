@@ -2,7 +2,6 @@
 -- them alike have the same run.
 use Rattle.std.proofs.Common.{◌≡◌, ℕ, zero, suc, ◌+◌, ◌≤◌, ◌<◌, Bool, true, false, List, [], ◌∷◌, ◌++◌, Option, Some, None, refl, sym, ap, ◌∙◌, arith, subst, append_assoc, append-nil, length, if◌then◌else◌, ⊎_elim}
 use Rattle.std.proofs.Math.Nat.{eq-or-lt_of_le}
-use Rattle.module_api.specs.declared.call.CallReason.TheVariants as prompt
 use Rattle.module_api.specs.Behaviour.{Behaviour}
 use Rattle.module_api.specs.Laws.{IsLawful}
 use Rattle.model_questions.specs.declared.answer.Answer.{Answer}
@@ -21,7 +20,7 @@ use Rattle.run_semantics.specs.Agreement.{Agrees, AgreesUpTo, tried, questions_o
 use Rattle.run_semantics.specs.Laws.{Each, GoesOn}
 use Rattle.run_semantics.specs.World.{World, asked_next}
 use Rattle.run_semantics.specs.Perform.{Flow, On, Stopped, Broken}
-use Rattle.run_semantics.specs.Event.{begun, event, message_of}
+use Rattle.run_semantics.specs.Event.{begun, event}
 use Rattle.run_semantics.specs.Run.{Stage, Running, Over, world_at, settled, start, says_beyond, is_after_limit, went, next_stage, after, IsReached}
 use Rattle.run_semantics.specs.Upcoming.{first_due, delivered, target_of, Upcoming, Comes, Nothing, aimed, chosen, upcoming_in, upcoming}
 use Rattle.run_semantics.proofs.Looking.{beside, HasLooked, looked_same, looked_count, looked_joined, looked_questions, chosen_looks, coming_looks, upcoming_looks, upcoming_tried, first_asked, upcoming_asks}
@@ -29,11 +28,11 @@ use Rattle.run_semantics.proofs.Looks.{upcoming_more}
 use Rattle.run_semantics.proofs.Flows.{in_flow}
 use Rattle.run_semantics.proofs.Counts.{RunsOn, runs_on}
 use Rattle.run_semantics.proofs.Ends.{over_stays}
-use Rattle.run_semantics.proofs.Alike.{AgreesIn, Agrees-front, Agrees-last, Agrees-fewer, Agrees-grown, Agrees-before, begins, begins_same, begins_grows, call_same}
+use Rattle.run_semantics.proofs.Alike.{AgreesIn, Agrees-front, Agrees-last, Agrees-fewer, Agrees-grown, Agrees-before, begins, begins_same, begins_grows, happens_same}
 use Rattle.run_semantics.proofs.Growth.{AllOfEvent, AllAbout, AllOfEvent-append, AllAbout-append, AllAbout-more, Fits, grown_on}
 pub use Rattle.run_semantics.proofs.Fitting.{fits_after}
 use Rattle.run_semantics.proofs.Fitting.{settled_world, looked_records, fits_looked, begun_grows}
-use Rattle.run_semantics.proofs.Grows.{call_grows}
+use Rattle.run_semantics.proofs.Grows.{happens_grows}
 
 -- ---- all that was asked
 
@@ -78,7 +77,7 @@ later_same event w f = record { rest = []; joined = append-nil w.questions; late
 event_later : (b : Behaviour) (m : Answers) (p : Pending) (rest : List Pending) (w : World) → Fits w → IsLater (w.count + 1) w (world_at (settled (event b m p rest w)))
 event_later b m p rest w f =
     let first = begun_grows p rest w f in
-    let g = grown_on first (call_grows b m p.id (prompt.Message (message_of p)) (begun p rest w) first.fits) in
+    let g = grown_on first (happens_grows b m p p.what (begun p rest w) first.fits) in
     subst (IsLater (w.count + 1) w) (sym (settled_world (event b m p rest w))) (record { rest = g.rest; joined = g.joined; later = g.present; more = g.more; records = g.records; fits = g.fits })
 
 -- where the run is over nothing is noted
@@ -158,7 +157,7 @@ upcoming_same m n w h =
 begun_agreed : (b : Behaviour) (m n : Answers) (p : Pending) (rest : List Pending) (u : World) → Fits u → AgreesAt m n (settled (event b m p rest u)) → AgreesIn m n (begun p rest u)
 begun_agreed b m n p rest u f h =
     let fits = (begun_grows p rest u f).fits in
-    Agrees-before m n (begun p rest u) (in_flow (event b m p rest u)) fits (call_grows b m p.id (prompt.Message (message_of p)) (begun p rest u) fits)
+    Agrees-before m n (begun p rest u) (in_flow (event b m p rest u)) fits (happens_grows b m p p.what (begun p rest u) fits)
     (subst (AgreesIn m n) (settled_world (event b m p rest u)) (AgreesAt-noted m n (settled (event b m p rest u)) h))
 
 -- by whether the event is after the limit
@@ -187,7 +186,7 @@ went_same b law m n w (Comes u p rest) looked f a h =
     let limit : answer_of m u.records (BeyondLimit p.time) ≡ answer_of n u.records (BeyondLimit p.time) =
     Agrees-last m n u.records u.questions (record { event = u.count + 1; question = BeyondLimit p.time }) (subst (λ rs. Agrees m n rs (tried (Comes u p rest))) (sym (looked_records w u looked)) a) in
     went_by m n w (is_after_limit m u.records p) (is_after_limit n u.records p) (settled (event b m p rest u)) (settled (event b n p rest u)) (ap says_beyond limit)
-    (λ k. ap settled ((call_same b law m n p.id (prompt.Message (message_of p)) (begun p rest u) fits).same (subst (AgreesIn m n) (settled_world (event b m p rest u)) (AgreesAt-noted m n (settled (event b m p rest u)) k))))
+    (λ k. ap settled ((happens_same b law m n p p.what (begun p rest u) fits).same (subst (AgreesIn m n) (settled_world (event b m p rest u)) (AgreesAt-noted m n (settled (event b m p rest u)) k))))
     h
 
 -- where the run is over it is so in both

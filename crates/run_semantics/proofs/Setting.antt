@@ -85,6 +85,7 @@ inside_stays P inner n parent bs w None e lasting f h l p =
 
 built_stays : (P : World → Type 0) (inner : ℕ → World → Flow) (n parent : ℕ) (found : Answer) (w : World) → IsLasting P → Leaves P inner → P w → n ≤ length w.records → parent ≤ length w.records → Stays (With n P) (built inner parent found w)
 built_stays P inner n parent (answer.Inside bs) w lasting f h l p = inside_stays P inner n parent bs w (slice_get bs (room_in w)) refl lasting f h l p
+built_stays P inner n parent (answer.Class class) w lasting f h l p = (h, l)
 built_stays P inner n parent (answer.Root name) w lasting f h l p = (h, l)
 built_stays P inner n parent (answer.Value v) w lasting f h l p = (h, l)
 built_stays P inner n parent (answer.Gate g) w lasting f h l p = (h, l)
@@ -101,19 +102,25 @@ set_up_stays P lasting (suc depth) m n id w h l p =
     built_stays P (set_up depth m) n id (answer_of m w.records (Build id)) (asked (Build id) w) lasting (set_up_stays P lasting depth m) (lasting.asked id w h p) l p
 
 -- the network is created, and set up
-root_stays : (P : World → Type 0) (m : Answers) (found : Answer) → IsLasting P → P (asked Root empty) → ((name : List ℕ) → P (with_network name (asked Root empty))) → Stays P (rooted found (asked Root empty) >>= set_up most_nested m 1)
-root_stays P m (answer.Root name) lasting h f =
-    let w : World = with_network name (asked Root empty) in
-    stays_as (With 0 P) P (set_up most_nested m 1 w) (λ v g. g.0) (set_up_stays P lasting most_nested m 0 1 w (f name) (omega arith) (omega arith))
-root_stays P m (answer.Inside bs) lasting h f = h
-root_stays P m (answer.Value v) lasting h f = h
-root_stays P m (answer.Gate g) lasting h f = h
-root_stays P m (answer.Next next) lasting h f = h
-root_stays P m (answer.Fault path fault) lasting h f = h
-root_stays P m (answer.Beyond beyond) lasting h f = h
-root_stays P m (answer.Injection next) lasting h f = h
-root_stays P m answer.Absent lasting h f = h
+root_stays : (P : World → Type 0) (m : Answers) (found : Answer) → P (asked Root empty) → ((name : List ℕ) → Stays P (set_up most_nested m 1 (with_network name (asked Root empty)))) → Stays P (rooted found (asked Root empty) >>= set_up most_nested m 1)
+root_stays P m (answer.Root name) h f = f name
+root_stays P m (answer.Class class) h f = h
+root_stays P m (answer.Inside bs) h f = h
+root_stays P m (answer.Value v) h f = h
+root_stays P m (answer.Gate g) h f = h
+root_stays P m (answer.Next next) h f = h
+root_stays P m (answer.Fault path fault) h f = h
+root_stays P m (answer.Beyond beyond) h f = h
+root_stays P m (answer.Injection next) h f = h
+root_stays P m answer.Absent h f = h
 
--- so it holds after setup
+-- so what holds after that of the network holds after setup
+pub rooted_stays : (P : World → Type 0) (m : Answers) → P (asked Root empty) → ((name : List ℕ) → Stays P (set_up most_nested m 1 (with_network name (asked Root empty)))) → Stays P (prepared m)
+rooted_stays P m h f = root_stays P m (answer_of m [] Root) h f
+
+-- and what lasts through its steps
 pub prepared_stays : (P : World → Type 0) (m : Answers) → IsLasting P → P (asked Root empty) → ((name : List ℕ) → P (with_network name (asked Root empty))) → Stays P (prepared m)
-prepared_stays P m lasting h f = root_stays P m (answer_of m [] Root) lasting h f
+prepared_stays P m lasting h f =
+    rooted_stays P m h
+    (λ name. stays_as (With 0 P) P (set_up most_nested m 1 (with_network name (asked Root empty))) (λ v g. g.0)
+    (set_up_stays P lasting most_nested m 0 1 (with_network name (asked Root empty)) (f name) (omega arith) (omega arith)))

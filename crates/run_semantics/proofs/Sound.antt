@@ -11,8 +11,9 @@ use Rattle.module_api.specs.Behaviour.{Behaviour, Replied}
 use Rattle.module_api.specs.declared.call.CallReason.{CallReason}
 use Rattle.module_api.specs.declared.call.CallReason.TheVariants as prompt
 use Rattle.module_api.specs.declared.reply.Action.{Action}
-use Rattle.module_api.specs.Names.{is_scalar_name}
-use Rattle.module_api.specs.declared.reply.Action.TheVariants.{Emit, RecordScalar, Send, SendDelayed, SendDirect, ScheduleAt, ScheduleAfter, Cancel, Delete, Connect, Disconnect, End, Fail}
+use Rattle.module_api.specs.Names.{is_module_name, is_scalar_name}
+use Rattle.module_api.specs.declared.reply.Action.TheVariants.{Emit, RecordScalar, Send, SendDelayed, SendDirect, ScheduleAt, ScheduleAfter, Cancel, Create, Delete, Connect, Disconnect, End, Fail}
+use Rattle.module_api.specs.declared.reply.Creation.{Creation}
 use Rattle.module_api.specs.declared.message.Outgoing.{Outgoing}
 use Rattle.module_api.specs.Actions.{has_large_payload}
 use Rattle.module_api.specs.declared.reply.Flight.{Flight}
@@ -25,7 +26,7 @@ use Rattle.module_api.specs.declared.reply.Schedule.{Schedule}
 use Rattle.model_questions.specs.declared.answer.Answer.{Answer}
 use Rattle.model_questions.specs.declared.answer.Answer.TheVariants as answer
 use Rattle.model_questions.specs.declared.answer.Question.{Question}
-use Rattle.model_questions.specs.declared.answer.Question.TheVariants.{GateSize, Hop, HopBack}
+use Rattle.model_questions.specs.declared.answer.Question.TheVariants.{GateSize, Hop, HopBack, TypeOf}
 use Rattle.model_questions.specs.Answers.{Answers, answer_of}
 use Rattle.run_semantics.specs.declared.occasions.Occasion.{Occasion}
 use Rattle.run_semantics.specs.declared.occasions.Occasion.TheVariants as occasion
@@ -43,9 +44,10 @@ use Rattle.run_semantics.specs.Routes.{arriving, busy_of, change_of, channels_of
 use Rattle.run_semantics.specs.Perform.{Flow, flow_of, On, Stopped, Broken, ◌>>=◌, asking, broken, for_each, scheduled_at, scheduled, deed, hop_after, next_hop, past_last, with_hop, after_hop, chain, most_hops, travelled, sent_over, sent_through, sent, entering, flight_end, entered, sent_into, sent_to, is_allowed, is_last_action, perform, act, act_all, ask_all, ask_noted, question_of, acted, read_fault, unless_fault, answered_by, answered, call_module}
 use Rattle.run_semantics.specs.Calls.{call_of, instance_in, changed, called}
 use Rattle.run_semantics.specs.Finishing.{call_last, marked, finish, finish_all}
+use Rattle.run_semantics.specs.Creating.{awaiting, record_for, class_in, with_created, class_answer, creating, built_as, has_namesake, is_full, levels_in, created_in}
 use Rattle.run_semantics.specs.Deleting.{subtree_of, to_finish_in, finished_first, gone, subtree_dropped, deleted_at}
 use Rattle.run_semantics.specs.Joining.{gate_at, channel_by, joined, joined_free, joined_into, joined_from, joined_to, joined_at, freed, freed_from, freed_at}
-use Rattle.run_semantics.specs.Run.{room_in, set_up, most_nested}
+use Rattle.run_semantics.specs.Run.{room_in, set_up}
 use Rattle.run_semantics.specs.Subtree.{among}
 use Rattle.run_semantics.proofs.Setting.{IsLasting, stays_in, set_up_stays}
 
@@ -104,6 +106,7 @@ deed_keeps id (RecordScalar name value) w = either_keeps 1 (is_scalar_name name)
 deed_keeps id (ScheduleAt a) w = either_keeps 1 (nat_lt a.at w.clock) _ _ w (keeps_same 1 w) (λ e. timer_keeps id a.timer a.priority a.kind w a.at)
 deed_keeps id (ScheduleAfter s) w = scheduled_keeps id s w (time_sum w.clock s.delay)
 deed_keeps id (Cancel timer) w = keeps_beside 1 w _ refl refl
+deed_keeps id (Create c) w = keeps_same 1 w
 deed_keeps id (Delete path finish) w = keeps_same 1 w
 deed_keeps id (Connect from to link) w = keeps_same 1 w
 deed_keeps id (Disconnect place) w = keeps_same 1 w
@@ -120,6 +123,7 @@ last_keeps id (RecordScalar name value) w = either_keeps 0 (is_scalar_name name)
 last_keeps id (ScheduleAt a) w = keeps_same 0 w
 last_keeps id (ScheduleAfter s) w = keeps_same 0 w
 last_keeps id (Cancel timer) w = keeps_beside 0 w _ refl refl
+last_keeps id (Create c) w = keeps_same 0 w
 last_keeps id (Delete path finish) w = keeps_same 0 w
 last_keeps id (Connect from to link) w = keeps_same 0 w
 last_keeps id (Disconnect place) w = keeps_same 0 w
@@ -317,13 +321,47 @@ freed_keeps m id place w (Some source) =
     free None v = keeps_same 0 v
     free (Some hop) v = keeps_beside 0 v _ refl refl
 
--- ---- a setup inserts nothing
+-- ---- a setup inserts nothing, and a module that is created its start
+
+awaiting_keeps : (first : ℕ) (w : World) → Keeps 1 w (in_flow (awaiting first w))
+awaiting_keeps first w = record { count = refl; next = omega arith }
 
 setup_keeps : (u : World) → IsLasting (Keeps 0 u)
 setup_keeps u = record { asked = λ id w p l. record { count = p.count; next = p.next }; created = λ parent bs w p l few. record { count = p.count; next = p.next } }
 
 pub set_up_keeps : (m : Answers) (depth id : ℕ) (w : World) → id ≤ length w.records → Keeps 0 w (in_flow (set_up depth m id w))
 set_up_keeps m depth id w l = (stays_in _ (set_up depth m id w) (set_up_stays (Keeps 0 w) (setup_keeps w) depth m 0 id w (keeps_same 0 w) (omega arith) l)).0
+
+built_keeps : (m : Answers) (levels first : ℕ) (a : Answer) (w : World) → first ≤ length w.records → Keeps 1 w (in_flow (built_as m levels first a w))
+built_keeps m levels first (answer.Class (Some class)) w l = awaiting_keeps first w
+built_keeps m levels first (answer.Class None) w l = part_then 0 1 w (set_up levels m first w) (awaiting first) (set_up_keeps m levels first w l) (awaiting_keeps first)
+built_keeps m levels first (answer.Fault path f) w l = keeps_same 1 w
+built_keeps m levels first (answer.Root name) w l = keeps_same 1 w
+built_keeps m levels first (answer.Inside bs) w l = keeps_same 1 w
+built_keeps m levels first (answer.Value v) w l = keeps_same 1 w
+built_keeps m levels first (answer.Gate g) w l = keeps_same 1 w
+built_keeps m levels first (answer.Next next) w l = keeps_same 1 w
+built_keeps m levels first (answer.Beyond beyond) w l = keeps_same 1 w
+built_keeps m levels first (answer.Injection i) w l = keeps_same 1 w
+built_keeps m levels first answer.Absent w l = keeps_same 1 w
+
+creating_keeps : (m : Answers) (levels parent : ℕ) (c : Creation) (w : World) → Keeps 1 w (in_flow (creating m parent c (built_as m levels (suc (length w.records))) w))
+creating_keeps m levels parent c w =
+    let a : Answer = class_answer m parent c w in
+    let v : World = with_created parent c (class_in a) w in
+    let u : World = asked (TypeOf (suc (length w.records))) v in
+    let more = length-append w.records (record_for parent c (class_in a) ∷ []) in
+    keeps_after 1 w u (in_flow (built_as m levels (suc (length w.records)) a u)) (keeps_beside 0 w u refl refl) (built_keeps m levels (suc (length w.records)) a u (omega (arith, more)))
+
+created_keeps : (m : Answers) (id : ℕ) (c : Creation) (w : World) (found : Option ℕ) → Keeps 1 w (in_flow (created_in m id c w found))
+created_keeps m id c w None = keeps_same 1 w
+created_keeps m id c w (Some parent) =
+    either_keeps 1 (is_simple w.records parent) _ _ w (keeps_same 1 w)
+    (λ e. either_keeps 1 (is_module_name c.name) _ _ w
+    (either_keeps 1 (has_namesake parent c w) _ _ w (keeps_same 1 w)
+    (λ e. either_keeps 1 (is_full (room_in w)) _ _ w (keeps_same 1 w)
+    (λ e. either_keeps 1 (is_full (levels_in parent w)) _ _ w (keeps_same 1 w) (λ e. creating_keeps m (levels_in parent w) parent c w))))
+    (λ e. keeps_same 1 w))
 
 -- ---- actions: one line for each
 
@@ -336,6 +374,7 @@ perform_keeps b m id (SendDirect place message flight) w = direct_keeps m id pla
 perform_keeps b m id (ScheduleAt a) w = deed_keeps id (ScheduleAt a) w
 perform_keeps b m id (ScheduleAfter s) w = deed_keeps id (ScheduleAfter s) w
 perform_keeps b m id (Cancel timer) w = deed_keeps id (Cancel timer) w
+perform_keeps b m id (Create c) w = created_keeps m id c w (module_at c.parent w)
 perform_keeps b m id (Delete path finish) w = keeps_more 0 1 w _ (omega arith) (deleted_keeps b m id finish w (module_at path w))
 perform_keeps b m id (Connect from to link) w = keeps_more 0 1 w _ (omega arith) (joined_keeps m id from to link w (module_at from.path w))
 perform_keeps b m id (Disconnect place) w = keeps_more 0 1 w _ (omega arith) (freed_keeps m id place w (module_at place.path w))

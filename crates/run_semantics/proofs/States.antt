@@ -9,7 +9,7 @@ use Rattle.run_semantics.specs.Calls.{call_of, instance_in, with_state}
 use Rattle.run_semantics.specs.Run.{Part, fresh, first_unknown, needs_of, with_instance, with_instances, world_at, after}
 use Rattle.run_semantics.specs.Laws.{Each, AreStates}
 use Rattle.run_semantics.proofs.Alive.{each_filter}
-use Rattle.run_semantics.proofs.Lasting.{Lasts, LastsAtFirst}
+use Rattle.run_semantics.proofs.Lasting.{Lasts, by_steps}
 use Rattle.run_semantics.proofs.Always.{LastsAlways, always}
 
 -- a module's kind is known, and its state is one of that kind
@@ -61,8 +61,8 @@ all_in : (b : Behaviour) (is js : List Instance) → Each (IsAtHome b) is → Ea
 all_in b [] js h k = k
 all_in b (i ∷ is) js h k = one_in b i (with_instances is js) h.0 (all_in b is js h.1 k)
 
-states_last : (b : Behaviour) → IsLawful b → Lasts b (AllIn b)
-states_last b law = record {
+states_last : (b : Behaviour) → IsLawful b → (m : Answers) → Lasts b m (AllIn b)
+states_last b law m = record {
   asked = λ q w n f g p. p;
   emitted = λ e w n t f g p. p;
   recorded = λ s w f g p. p;
@@ -71,14 +71,11 @@ states_last b law = record {
   transmitted = λ ts w f g p. p;
   joined = λ gate to w f g p. p;
   ended = λ w f g p. p;
-  called = λ m id reason i w e f g p. let home = found_in b id w.modules i e p in changed_in b id ((b.naming i.kind).reply i.state (call_of m id reason w)).state w.modules i e ((law.states i.kind home.known).goes_on i.state (call_of m id reason w) home.state) p;
+  called = λ id reason i w e f g p. let home = found_in b id w.modules i e p in changed_in b id ((b.naming i.kind).reply i.state (call_of m id reason w)).state w.modules i e ((law.states i.kind home.known).goes_on i.state (call_of m id reason w) home.state) p;
   finished = λ id w f g p. p;
   gone = λ target w live f g p. each_filter (IsAtHome b) (IsAtHome b) _ w.modules (λ i h e. h) p;
-}
-
-states_first : (b : Behaviour) → IsLawful b → LastsAtFirst b (AllIn b)
-states_first b law = record {
-  built = λ parent bs w n few f g p. p;
+  created = λ parent c class w live room deep f g p. p;
+  set_up = by_steps m (AllIn b) (λ id w n f g p. p) (λ parent bs w n few f g p. p);
   started = λ ids w e live young f g p. all_in b (map (fresh b) (needs_of ids w)) w.modules (fresh_in b law (needs_of ids w) e) p;
 }
 
@@ -86,8 +83,7 @@ states_first b law = record {
 
 states_always : (b : Behaviour) → IsLawful b → (m : Answers) → LastsAlways b m (AllIn b)
 states_always b law m = record {
-  lasts = states_last b law;
-  first = states_first b law;
+  lasts = states_last b law m;
   at_first = tt;
   network = λ name. tt;
   begins = λ w u p rest e looked f h. subst (AllIn b) looked.same h;

@@ -42,6 +42,7 @@ abbrev pub created : ℕ → Answer → World → Flow
 created parent (answer.Inside bs) w = unless_many parent bs w (slice_get bs (room_in w))
 created parent (answer.Fault path f) w = Broken w path (fault.Model f)
 created parent (answer.Root name) w = broken parent (fault.Model UnknownType) w
+created parent (answer.Class class) w = broken parent (fault.Model UnknownType) w
 created parent (answer.Value v) w = broken parent (fault.Model UnknownType) w
 created parent (answer.Gate g) w = broken parent (fault.Model UnknownType) w
 created parent (answer.Next next) w = broken parent (fault.Model UnknownType) w
@@ -52,6 +53,7 @@ created parent answer.Absent w = broken parent (fault.Model UnknownType) w
 abbrev pub inside_of : Answer → List Built
 inside_of (answer.Inside bs) = bs
 inside_of (answer.Root name) = []
+inside_of (answer.Class class) = []
 inside_of (answer.Value v) = []
 inside_of (answer.Gate g) = []
 inside_of (answer.Next next) = []

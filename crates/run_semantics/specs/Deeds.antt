@@ -5,7 +5,7 @@ use Rattle.sim_time.specs.Time.{time_sum}
 use Rattle.module_api.specs.declared.reply.Action.{Action}
 use Rattle.module_api.specs.declared.reply.Action.TheVariants.{Emit, RecordScalar, Send}
 use Rattle.module_api.specs.declared.reply.Action.TheVariants.{SendDelayed, SendDirect, ScheduleAt}
-use Rattle.module_api.specs.declared.reply.Action.TheVariants.{ScheduleAfter, Cancel, Delete}
+use Rattle.module_api.specs.declared.reply.Action.TheVariants.{ScheduleAfter, Cancel, Create, Delete}
 use Rattle.module_api.specs.declared.reply.Action.TheVariants.{Connect, Disconnect, End, Fail}
 use Rattle.module_api.specs.declared.reply.Appointment.{Appointment}
 use Rattle.module_api.specs.declared.reply.Schedule.{Schedule}
@@ -112,7 +112,8 @@ deed id (ScheduleAfter s) w = scheduled id s w (time_sum w.clock s.delay)
 deed id (Cancel timer) w = On (with_cancelled id timer w)
 deed id (Fail text) w = broken id (fault.ModuleFailed text) w
 deed id End w = Stopped (record w { ended = true })
--- what is sent, deleted or joined asks of the model or calls modules: it is no deed
+-- what is sent, created, deleted or joined asks of the model or calls modules: it is no deed
+deed id (Create c) w = On w
 deed id (Delete path finish) w = On w
 deed id (Connect from to link) w = On w
 deed id (Disconnect place) w = On w

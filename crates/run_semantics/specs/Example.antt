@@ -34,6 +34,7 @@ inside_at path =
 abbrev pub nested : Answers
 nested = record {
   root = answer.Root (codes "N");
+  class_there = λ p. answer.Absent;
   inside = λ p. inside_at (path_along p);
   names = λ p. [];
   value = λ p name. answer.Absent;

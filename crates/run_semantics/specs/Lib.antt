@@ -9,6 +9,7 @@ pub mod Finishing
 pub mod Deleting
 pub mod Joining
 pub mod Building
+pub mod Creating
 pub mod Perform
 pub mod Starting
 pub mod Event
@@ -22,3 +23,4 @@ pub mod Example
 pub mod Sends
 pub mod Wires
 pub mod Deletes
+pub mod Creates

@@ -17,13 +17,14 @@ use Rattle.module_api.specs.declared.call.CallReason.{CallReason}
 use Rattle.module_api.specs.declared.reply.Action.{Action}
 use Rattle.module_api.specs.declared.reply.Action.TheVariants.{Emit, RecordScalar, Send}
 use Rattle.module_api.specs.declared.reply.Action.TheVariants.{SendDelayed, SendDirect, ScheduleAt}
-use Rattle.module_api.specs.declared.reply.Action.TheVariants.{ScheduleAfter, Cancel, Delete}
+use Rattle.module_api.specs.declared.reply.Action.TheVariants.{ScheduleAfter, Cancel, Create, Delete}
 use Rattle.module_api.specs.declared.reply.Action.TheVariants.{Connect, Disconnect, End, Fail}
 use Rattle.module_api.specs.declared.reply.Reply.{Reply}
 use Rattle.module_api.specs.Behaviour.{Behaviour}
 use Rattle.model_questions.specs.Answers.{Answers}
 use Rattle.run_semantics.specs.declared.occasions.Occasion.TheVariants as occasion
 use Rattle.run_semantics.specs.Calls.{calling}
+use Rattle.run_semantics.specs.Creating.{created_new}
 use Rattle.run_semantics.specs.Deleting.{deleted}
 use Rattle.run_semantics.specs.Joining.{connected, disconnected}
 use Rattle.run_semantics.specs.World.{World}
@@ -39,6 +40,7 @@ perform b m id (SendDirect place message flight) w = sent_direct m id place mess
 perform b m id (ScheduleAt a) w = deed id (ScheduleAt a) w
 perform b m id (ScheduleAfter s) w = deed id (ScheduleAfter s) w
 perform b m id (Cancel timer) w = deed id (Cancel timer) w
+perform b m id (Create c) w = created_new m id c w
 perform b m id (Delete path finish) w = deleted b m id path finish w
 perform b m id (Connect from to link) w = connected m id from to link w
 perform b m id (Disconnect place) w = disconnected m id place w

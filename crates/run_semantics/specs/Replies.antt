@@ -4,7 +4,7 @@ use Rattle.std.specs.Prelude.{if◌then◌else◌, length}
 use Rattle.module_api.specs.declared.reply.Action.{Action}
 use Rattle.module_api.specs.declared.reply.Action.TheVariants.{Emit, RecordScalar, Send}
 use Rattle.module_api.specs.declared.reply.Action.TheVariants.{SendDelayed, SendDirect, ScheduleAt}
-use Rattle.module_api.specs.declared.reply.Action.TheVariants.{ScheduleAfter, Cancel, Delete}
+use Rattle.module_api.specs.declared.reply.Action.TheVariants.{ScheduleAfter, Cancel, Create, Delete}
 use Rattle.module_api.specs.declared.reply.Action.TheVariants.{Connect, Disconnect, End, Fail}
 use Rattle.module_api.specs.Actions.{has_large_payload}
 use Rattle.module_api.specs.declared.reply.Read.{Read}
@@ -39,6 +39,7 @@ abbrev pub parameter_fault : Answer → Option RunFault
 parameter_fault (answer.Value v) = None
 parameter_fault (answer.Fault path f) = Some (fault.Model f)
 parameter_fault (answer.Root name) = Some fault.NoParameter
+parameter_fault (answer.Class class) = Some fault.NoParameter
 parameter_fault (answer.Inside bs) = Some fault.NoParameter
 parameter_fault (answer.Gate g) = Some fault.NoParameter
 parameter_fault (answer.Next next) = Some fault.NoParameter
@@ -49,6 +50,7 @@ parameter_fault answer.Absent = Some fault.NoParameter
 abbrev pub gate_fault : Answer → Option RunFault
 gate_fault (answer.Gate g) = None
 gate_fault (answer.Root name) = Some fault.NoGate
+gate_fault (answer.Class class) = Some fault.NoGate
 gate_fault (answer.Inside bs) = Some fault.NoGate
 gate_fault (answer.Value v) = Some fault.NoGate
 gate_fault (answer.Next next) = Some fault.NoGate
@@ -83,6 +85,7 @@ is_last_action (SendDirect place message flight) = false
 is_last_action (ScheduleAt a) = false
 is_last_action (ScheduleAfter s) = false
 is_last_action (Cancel timer) = true
+is_last_action (Create c) = false
 is_last_action (Delete path finish) = false
 is_last_action (Connect from to link) = false
 is_last_action (Disconnect place) = false

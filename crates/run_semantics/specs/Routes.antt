@@ -38,6 +38,7 @@ is_output Inout = false
 abbrev pub is_out_gate : Answer → ℕ → Bool
 is_out_gate (answer.Gate g) index = is_output g.direction && nat_lt index g.size
 is_out_gate (answer.Root name) index = false
+is_out_gate (answer.Class class) index = false
 is_out_gate (answer.Inside bs) index = false
 is_out_gate (answer.Value v) index = false
 is_out_gate (answer.Next next) index = false
@@ -55,6 +56,7 @@ is_input Inout = false
 abbrev pub is_in_gate : Answer → ℕ → Bool
 is_in_gate (answer.Gate g) index = is_input g.direction && nat_lt index g.size
 is_in_gate (answer.Root name) index = false
+is_in_gate (answer.Class class) index = false
 is_in_gate (answer.Inside bs) index = false
 is_in_gate (answer.Value v) index = false
 is_in_gate (answer.Next next) index = false
@@ -105,6 +107,7 @@ leading_to records id (Some next) = next_by next (neighbour_id records id next.n
 abbrev pub hop_by : List Record → ℕ → Answer → Option NextHop
 hop_by records id (answer.Next next) = leading_to records id next
 hop_by records id (answer.Root name) = None
+hop_by records id (answer.Class class) = None
 hop_by records id (answer.Inside bs) = None
 hop_by records id (answer.Value v) = None
 hop_by records id (answer.Gate g) = None

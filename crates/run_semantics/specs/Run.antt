@@ -8,7 +8,7 @@ pub use Rattle.run_semantics.specs.Starting.{with_instance, with_instances, plac
 pub use Rattle.run_semantics.specs.Starting.{unless_unknown, part_of, standing, stages_in}
 pub use Rattle.run_semantics.specs.Starting.{most_stages, initialize, one_stage, stages_from}
 pub use Rattle.run_semantics.specs.Starting.{with_started, started, place_parts, start_modules}
-pub use Rattle.run_semantics.specs.Starting.{unstarted}
+pub use Rattle.run_semantics.specs.Starting.{starting, unstarted}
 use Rattle.std.specs.Prelude.{◌≡◌, ℕ, suc, zero, Bool, true, false, List, [], ◌∷◌, Option, Some}
 use Rattle.std.specs.Prelude.{None, if◌then◌else◌}
 use Rattle.module_api.specs.Behaviour.{Behaviour}
@@ -45,6 +45,7 @@ with_network name w = record w { records = network_record name ∷ [] }
 abbrev pub rooted : Answer → World → Flow
 rooted (answer.Root name) w = On (with_network name w)
 rooted (answer.Fault path f) w = Broken w path (fault.Model f)
+rooted (answer.Class class) w = Broken w [] (fault.Model UnknownType)
 rooted (answer.Inside bs) w = Broken w [] (fault.Model UnknownType)
 rooted (answer.Value v) w = Broken w [] (fault.Model UnknownType)
 rooted (answer.Gate g) w = Broken w [] (fault.Model UnknownType)
@@ -95,6 +96,7 @@ start b m = settled (prepared m >>= start_all b m)
 abbrev pub says_beyond : Answer → Bool
 says_beyond (answer.Beyond beyond) = beyond
 says_beyond (answer.Root name) = false
+says_beyond (answer.Class class) = false
 says_beyond (answer.Inside bs) = false
 says_beyond (answer.Value v) = false
 says_beyond (answer.Gate g) = false
@@ -147,3 +149,21 @@ is_fault EventLimit = false
 is_fault NoMoreEvents = false
 is_fault TimeLimit = false
 is_fault (Fault event path f) = true
+
+-- ---- boxes that are wanted
+
+-- those of the modules that an event starts
+abbrev pub wanted_for : Pending → Happening → World → List Part
+wanted_for p (happening.Start last) w = needs_of (starting p.id last w) w
+wanted_for p (happening.Timer timer kind) w = []
+wanted_for p (happening.Arrival kind bits payload) w = []
+wanted_for p (happening.Delivery d) w = []
+
+abbrev pub wanted_by : Answers → Upcoming → List Part
+wanted_by m (Nothing w) = []
+wanted_by m (Comes w p rest) = if is_after_limit m w.records p then [] else wanted_for p p.what w
+
+-- THE BOXES THAT ARE WANTED between two events, by rising id: those that the next event needs,
+-- where there is one
+abbrev pub wanted : Answers → World → List Part
+wanted m w = if w.ended then [] else wanted_by m (upcoming m w)

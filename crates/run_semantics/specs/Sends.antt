@@ -83,6 +83,7 @@ back_at false = answer.Next None
 abbrev pub linked : Option Channel → Bool → Answers
 linked channel taken = record {
   root = answer.Root (codes "N");
+  class_there = λ p. answer.Absent;
   inside = λ p. answer.Absent;
   names = λ p. [];
   value = λ p name. answer.Absent;

@@ -117,3 +117,8 @@ start_modules b m ids first w =
 -- the modules that live and were not started
 abbrev pub unstarted : World → List ℕ
 unstarted w = filter (λ id. not (among id w.started)) (live_of w)
+
+-- those that were created together, with ids from the first to the last: one that was created in
+-- one of them since has a start of its own
+abbrev pub starting : ℕ → ℕ → World → List ℕ
+starting first last w = filter (λ id. nat_le first id && nat_le id last) (unstarted w)

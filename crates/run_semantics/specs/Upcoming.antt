@@ -70,6 +70,7 @@ chosen go_on w ps (answer.Injection (Some i)) =
     aimed go_on (delivered i w) ps i (target_of i.path w)
 chosen go_on w ps (answer.Injection None) = first_of w ps
 chosen go_on w ps (answer.Root name) = first_of w ps
+chosen go_on w ps (answer.Class class) = first_of w ps
 chosen go_on w ps (answer.Inside bs) = first_of w ps
 chosen go_on w ps (answer.Value v) = first_of w ps
 chosen go_on w ps (answer.Gate g) = first_of w ps

@@ -16,7 +16,7 @@ use Rattle.model_questions.specs.declared.answer.Answer.TheVariants as answer
 use Rattle.model_questions.specs.declared.answer.Built.{Built}
 use Rattle.model_questions.specs.Answers.{Answers}
 use Rattle.model_questions.specs.Records.{path_along}
-use Rattle.run_semantics.specs.declared.outcome.Outcome.TheVariants.{NoMoreEvents, Fault}
+use Rattle.run_semantics.specs.declared.outcome.Outcome.TheVariants.{Fault}
 use Rattle.run_semantics.specs.declared.outcome.RunFault.TheVariants as fault
 use Rattle.run_semantics.specs.Example.{made}
 use Rattle.run_semantics.specs.Run.{after, run_to, world_at}
@@ -101,10 +101,11 @@ gates_there path =
 abbrev pub inside_network : List Built → List ℕ → Answer
 inside_network bs path = if bytes_eq path (codes "N") then answer.Inside bs else answer.Absent
 
--- a network of these modules, with no connection
+-- a network of these modules, with no connection; what is created in it is a Sink
 abbrev pub network_of : List Built → Answers
 network_of bs = record {
   root = answer.Root (codes "N");
+  class_there = λ p. answer.Class (Some (codes "Sink"));
   inside = λ p. inside_network bs (path_along p);
   names = λ p. [];
   value = λ p name. answer.Absent;

@@ -10,6 +10,7 @@ ghost use Rattle.model_questions.specs.declared.record.Record.{Record};
 ghost use Rattle.run_semantics.specs.Agreement.{Agrees, AgreesUpTo, questions_of};
 ghost use Rattle.run_semantics.specs.Ending.{ending};
 ghost use Rattle.run_semantics.specs.Example.{ExampleNests};
+ghost use Rattle.run_semantics.specs.Creates.{ExampleCreated, ExampleCreates};
 ghost use Rattle.run_semantics.specs.Deletes.{ExampleDeleted, ExampleDeletes};
 ghost use Rattle.run_semantics.specs.Wires.{ExampleJoins, ExampleWires};
 ghost use Rattle.run_semantics.specs.Sends.{ExampleSends};
@@ -105,15 +106,6 @@ pub fn one_event_more()
 pub fn runs_grow()
     ensures { (b : Behaviour) (m : Answers) (n k : ℕ) → n ≤ k
         → HasGrown (world_at (after b m n)) (world_at (after b m k)) }
-{}
-
-/// From event zero until the end the same modules were created and started, as no action creates
-/// one: so modules go, and none comes.
-pub fn no_module_comes_after_event_zero()
-    ensures created { (b : Behaviour) (m : Answers) (n k : ℕ) → n ≤ k
-        → (world_at (after b m k)).records ≡ (world_at (after b m n)).records }
-    ensures started { (b : Behaviour) (m : Answers) (n k : ℕ) → n ≤ k
-        → (world_at (after b m k)).started ≡ (world_at (after b m n)).started }
 {}
 
 /// A module that died lives never again: one that was created by then and lives later lived then.
@@ -267,6 +259,12 @@ pub fn sending_example()
 pub fn wires_example()
     ensures runs { ExampleWires }
     ensures actions { ExampleJoins }
+{}
+
+/// Modules that are created while a run goes on, worked by hand.
+pub fn creates_example()
+    ensures runs { ExampleCreates }
+    ensures actions { ExampleCreated }
 {}
 
 /// Modules that are deleted while a run goes on, worked by hand.

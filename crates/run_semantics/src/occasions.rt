@@ -42,6 +42,7 @@ fn is_last_action(action: &Action) -> bool
         | Action::SendDirect(_, _, _)
         | Action::ScheduleAt(_)
         | Action::ScheduleAfter(_)
+        | Action::Create(_)
         | Action::Delete(_, _)
         | Action::Connect(_, _, _)
         | Action::Disconnect(_)

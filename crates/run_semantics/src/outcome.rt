@@ -41,6 +41,8 @@ pub enum RunFault {
     TwoTransmissionChannels,
     /// An earlier transmission goes on as a message reaches the channel.
     Busy,
+    /// A module is created with the name and index of a sibling.
+    DuplicateName,
     /// No module that lives has that path, or none that can be meant.
     NoModule,
     /// A payload has more than 4,096 bytes.
@@ -108,6 +110,7 @@ impl RunFault {
             RunFault::TooManyHops => b"TooManyHops",
             RunFault::TwoTransmissionChannels => b"TwoTransmissionChannels",
             RunFault::Busy => b"Busy",
+            RunFault::DuplicateName => b"DuplicateName",
             RunFault::NoModule => b"NoModule",
             RunFault::PayloadTooLarge => b"PayloadTooLarge",
             RunFault::Past => b"Past",
@@ -134,6 +137,7 @@ impl RunFault {
             RunFault::TooManyHops => RunFault::TooManyHops,
             RunFault::TwoTransmissionChannels => RunFault::TwoTransmissionChannels,
             RunFault::Busy => RunFault::Busy,
+            RunFault::DuplicateName => RunFault::DuplicateName,
             RunFault::NoModule => RunFault::NoModule,
             RunFault::PayloadTooLarge => RunFault::PayloadTooLarge,
             RunFault::Past => RunFault::Past,

@@ -1,5 +1,4 @@
 use Rattle.std.proofs.Common.{◌-◌, None, Some, is_some, refl, sym, ap, ◌∙◌, arith, length}
-use Rattle.module_tree.specs.Boxes.{last_id, seats_from}
 use Rattle.module_tree.proofs.Seats.{take_short, last_none, last_some, none_at_all}
 use Rattle.module_tree.proofs.last_at.Goals as goal
 

@@ -1,6 +1,6 @@
-use Rattle.std.proofs.Common.{◌≡◌, Bool, false, Result, Ok, Err, OnOk, ap, sym, ◌∙◌, arith, length}
+use Rattle.std.proofs.Common.{◌≡◌, false, Result, Ok, Err, OnOk, ap, sym, ◌∙◌, arith, length}
 use Rattle.std.specs.Result.{is_err}
-use Rattle.module_tree.specs.Boxes.{box_of, with_box, IsCounted}
+use Rattle.module_tree.specs.Boxes.{box_of, with_box}
 use Rattle.module_tree.proofs.Seats.{filled, empty_slot, counted_in, room_for_one}
 use Rattle.module_tree.proofs.Tree.place.Goals as goal
 

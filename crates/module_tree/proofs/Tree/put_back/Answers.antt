@@ -1,5 +1,5 @@
 use Rattle.std.proofs.Common.{ap, ◌∙◌, arith}
-use Rattle.module_tree.specs.Boxes.{box_of, Held}
+use Rattle.module_tree.specs.Boxes.{box_of}
 use Rattle.module_tree.proofs.Seats.{put, counted_in, room_for_one}
 use Rattle.module_tree.proofs.Tree.put_back.Goals as goal
 

@@ -2,7 +2,7 @@ use Rattle.run_semantics.specs.Run.{after, world_at}
 use Rattle.run_semantics.proofs.Fitting.{fits_after}
 use Rattle.nested_starts.proofs.Apart.{deleted_once}
 use Rattle.nested_starts.proofs.Deleted.{all_finished_first, those_alone}
-use Rattle.nested_starts.proofs.Levels.{within_after}
+use Rattle.nested_starts.proofs.Kept.{within_after}
 use Rattle.nested_starts.proofs.Once.{once_after}
 use Rattle.nested_starts.proofs.laws.deleted_modules_are_finished_once.Goals as goal
 
