@@ -58,6 +58,7 @@ abbrev pub setting_of : List TypeDeclaration → ModuleRules
 setting_of types = record {
   stands = λ m. standing m.path;
   root = λ m. Some 0;
+  planned = λ m. None;
   is_too_deep = λ m. false;
   entry = λ path. None;
   types = types;

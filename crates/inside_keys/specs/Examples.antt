@@ -136,6 +136,7 @@ abbrev pub setting : List ℕ → List ConnectionItem → ModuleRules
 setting type items = record {
   stands = λ m. standing m.path;
   root = λ m. Some 2;
+  planned = λ m. None;
   is_too_deep = λ m. false;
   entry = λ path. None;
   types = router ∷ plug ∷ network type items ∷ [];

@@ -12,4 +12,5 @@ pub mod Values
 pub mod Blamed
 pub mod Unconnected
 pub mod Examples
+pub mod CreatedExamples
 pub mod ChannelExamples

@@ -11,6 +11,7 @@ use Rattle.inside_keys.specs.declared.key.Module.{Module}
 use Rattle.inside_keys.specs.declared.place.ExpressionPlace.{ExpressionPlace}
 use Rattle.inside_keys.specs.declared.place.Section.{Section}
 use Rattle.inside_keys.specs.declared.place.Section.TheVariants as section_at
+use Rattle.inside_keys.specs.declared.planned.Planned.{Planned}
 use Rattle.inside_keys.specs.Places.{Scope}
 
 -- where a module stands: the module around it, none around the network; its name, and its index
@@ -22,12 +23,14 @@ pub record Whereabouts : Type 0 where
   pub index : Option ℤ
   pub is_declared : Bool
 
--- ALL THAT VALUES REST ON: where each module stands; the number of the type of the network, and of
--- what was created; whether a module is nested too deep; what the first entry of the ini text says
--- that matches the full path of a parameter; and the flat types
+-- ALL THAT VALUES REST ON: where each module stands; the number of the type of the network; what a
+-- module was created as, where it was created while the model ran; whether a module is nested too
+-- deep; what the first entry of the ini text says that matches the full path of a parameter; and
+-- the flat types
 pub record ModuleRules : Type 0 where
   pub stands : Module → Whereabouts
   pub root : Module → Option ℕ
+  pub planned : Module → Option Planned
   pub is_too_deep : Module → Bool
   pub entry : List ℕ → Option EntryValue
   pub types : List TypeDeclaration

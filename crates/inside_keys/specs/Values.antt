@@ -45,6 +45,7 @@ use Rattle.inside_keys.specs.declared.key.Module.{Module}
 use Rattle.inside_keys.specs.declared.key.What.{What}
 use Rattle.inside_keys.specs.declared.key.What.TheVariants as what
 use Rattle.inside_keys.specs.declared.place.Section.TheVariants as section
+use Rattle.inside_keys.specs.declared.planned.Planned.{Planned}
 use Rattle.inside_keys.specs.Asked.{KeyAsking, ask_then, known_then, number_then, result_then}
 use Rattle.inside_keys.specs.Asked.{valued_then}
 use Rattle.inside_keys.specs.Channels.{carrier_begun, with_value}
@@ -130,9 +131,19 @@ module _ (m : Module) where
 abbrev pub no_body : SubmoduleBody
 no_body = record { lines = []; gates = [] }
 
+abbrev pub body_or_none : Option SubmoduleBody → SubmoduleBody
+body_or_none None = no_body
+body_or_none (Some body) = body
+
 abbrev pub body_by : Option Submodule → SubmoduleBody
 body_by None = no_body
 body_by (Some l) = l.body
+
+-- what a module that no type declares is given: one that was created what its plan says, the
+-- network nothing
+abbrev pub planned_body : Option Planned → SubmoduleBody
+planned_body None = no_body
+planned_body (Some p) = p.body
 
 -- ---- channels
 
@@ -294,22 +305,50 @@ module _ (s : ModuleRules) where
   typed_then m next = ask_then (key m what.Type)
       (λ v. number_then v (λ n. known_then (slice_get s.types n) (next n)))
 
-  -- with the body of what declares a module
+  -- with the body of what declares a module, or with what it was given where no type declares it
   abbrev pub body_of_declarer : Module → Option Module → (SubmoduleBody → KeyAsking) → KeyAsking
-  body_of_declarer m None next = next no_body
+  body_of_declarer m None next = next (planned_body (s.planned m))
   body_of_declarer m (Some around) next =
       typed_then around (λ n t. next (body_by (submodule_named (s.stands m).name t.submodules)))
 
   abbrev pub body_then : Module → (SubmoduleBody → KeyAsking) → KeyAsking
   body_then m next = body_of_declarer m (declarer s m) next
 
+  -- ---- types of modules that were created
+
+  -- the type of that number, where it is one of modules
+  abbrev pub type_of_modules : ℕ → Option TypeDeclaration → KeyAsking
+  type_of_modules n None = Done (Err UnknownType)
+  type_of_modules n (Some u) =
+      if is_kind_of_modules u.kind then is (value.Whole (pos n)) else Done (Err UnknownType)
+
+  abbrev pub created_found : Option ℕ → KeyAsking
+  created_found None = Done (Err UnknownType)
+  created_found (Some n) = type_of_modules n (slice_get s.types n)
+
+  -- the type of a module that was created in one of that type, by the name that its plan has: a
+  -- simple type, a module or a network
+  abbrev pub created_type : TypeDeclaration → List ℕ → KeyAsking
+  created_type t name = if is_dotted_name name then created_found (type_meant t name)
+      else Done (Err UnknownType)
+
+  abbrev pub type_planned : Planned → Option Module → KeyAsking
+  type_planned p None = Done (Err UnknownType)
+  type_planned p (Some around) = typed_then around (λ n t. created_type t p.type_name)
+
+  -- THE TYPE OF A MODULE THAT NO TYPE DECLARES: of the network; or of one that was created in the
+  -- module around it, whose type is asked for first
+  abbrev pub type_undeclared : Module → Option Module → Option Planned → KeyAsking
+  type_undeclared m around None = numbered (s.root m)
+  type_undeclared m around (Some p) = type_planned p around
+
   abbrev pub type_declared : Module → Option Module → KeyAsking
-  type_declared m None = numbered (s.root m)
+  type_declared m None = type_undeclared m (s.stands m).around (s.planned m)
   type_declared m (Some around) =
       if s.is_too_deep m then Done (Err (fault.Value TooDeep)) else typed_then around
       (λ n t. type_in m around t (submodule_named (s.stands m).name t.submodules))
 
-  -- THE TYPE OF A MODULE: its nesting comes first
+  -- THE TYPE OF A MODULE: the nesting of one that a type declares comes first
   abbrev pub type_asking : Module → KeyAsking
   type_asking m = type_declared m (declarer s m)
 

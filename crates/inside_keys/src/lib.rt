@@ -8,6 +8,7 @@ pub mod found;
 pub mod key;
 pub mod laws;
 pub mod place;
+pub mod planned;
 pub mod sizes;
 pub mod turn;
 pub mod unconnected;

@@ -58,7 +58,7 @@ use Rattle.inside_keys.specs.declared.place.Section.TheVariants as section
 use Rattle.inside_keys.specs.Given.{gate_size_posed, has_gate, has_vector, is_misplaced, is_vector_at, misplaced, misplaced_in, named_in}
 use Rattle.inside_keys.specs.Inside.{gates_in}
 use Rattle.inside_keys.specs.Settings.{ModuleRules, declarer, place_in, type_gates}
-use Rattle.inside_keys.specs.Values.{asking_of, body_of_declarer, declared_asking, inside_of, no_body, rules_of, sized_or_open, typed_then, value_at}
+use Rattle.inside_keys.specs.Values.{asking_of, body_of_declarer, declared_asking, inside_of, planned_body, rules_of, sized_or_open, typed_then, value_at}
 use Rattle.inside_laws.specs.Sound.{AreOnce, Each, IsLink, IsSound}
 use Rattle.inside_laws.proofs.Laid.{AreSizes, IsBegun, IsDue, gates_go, laid_next, sized_by, submodules_go}
 use Rattle.inside_laws.proofs.Lists.{none_is_none}
@@ -271,7 +271,7 @@ module _ (s : ModuleRules) where
   refused at l n t name v typed there h known = known_ends (rules_of s) Never (key at (what.Declared name)) (found.Value v) ends known
     where
       body_go : (next : SubmoduleBody → KeyAsking) → ((b : SubmoduleBody) → Ends (rules_of s) Never (next b)) → (o : Option Module) → Ends (rules_of s) Never (body_of_declarer s at o next)
-      body_go next f None = f no_body
+      body_go next f None = f (planned_body (s.planned at))
       body_go next f (Some around) = by_value (rules_of s) Never _ _ (λ w known. by_number (rules_of s) Never w _ (λ k e. by_known (rules_of s) Never (slice_get s.types k) _ (λ u there. f _)))
 
       declared_go : (u : TypeDeclaration) → u ≡ t → (b : SubmoduleBody) → Ends (rules_of s) Never (declared_asking s at u name b)

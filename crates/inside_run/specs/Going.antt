@@ -29,7 +29,8 @@ use Rattle.inside_keys.specs.Inside.{conditioned, is_vector}
 use Rattle.inside_keys.specs.Keys.{key}
 use Rattle.inside_keys.specs.Places.{meant_under}
 use Rattle.inside_keys.specs.Settings.{ModuleRules, Whereabouts}
-use Rattle.inside_keys.specs.Values.{among, asking_in, at_index, body_by, declared_asking, is}
+use Rattle.inside_keys.specs.Values.{among, asking_in, at_index, body_by, created_type}
+use Rattle.inside_keys.specs.Values.{declared_asking, is}
 use Rattle.inside_keys.specs.Values.{is_there, kept, of_child, carrier, posed_asking, size_of_gate}
 use Rattle.inside_keys.specs.Values.{element_type, indexed_type, size_read, type_in, type_told}
 use Rattle.inside_keys.specs.Channels.{with_value}
@@ -137,6 +138,7 @@ module _ (s : ModuleRules) where
       (indexed_type s m around t.now l.now) (Done (Err UnknownType)))
   goes_on (progress.TypeSize m around t l) =
       value_then (λ v. size_then v (element_type s m around t.now l.now))
+  goes_on (progress.TypePlanned name) = typed (λ n u. created_type s u name)
   goes_on (progress.BodyAround m w t name) = typed (body_in m w t.now name)
   goes_on (progress.InsideAround m t g) =
       typed (λ n u. Ask (key m what.Joined) (size_read s u (standing_by t) g))

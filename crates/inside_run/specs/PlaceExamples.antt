@@ -44,6 +44,7 @@ abbrev pub placed_so : List ℕ → Option ℤ → ModuleRules
 placed_so name index = record {
   stands = λ m. named_so name index m.path;
   root = λ m. Some 0;
+  planned = λ m. None;
   is_too_deep = λ m. false;
   entry = λ path. None;
   types = places ∷ plug ∷ [];

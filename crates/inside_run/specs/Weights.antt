@@ -17,7 +17,7 @@ use Rattle.inside_keys.specs.declared.key.What.TheVariants as what
 use Rattle.inside_keys.specs.Given.{channel_lines, channel_posed, condition_posed, gate_size_posed}
 use Rattle.inside_keys.specs.Given.{parameter_posed, vector_size_posed}
 use Rattle.inside_keys.specs.Settings.{Posed, ModuleRules, type_gates}
-use Rattle.inside_keys.specs.Values.{body_by, no_body, type_written}
+use Rattle.inside_keys.specs.Values.{body_by, planned_body, type_written}
 use Rattle.inside_run.specs.declared.progress.Moved.{Moved}
 use Rattle.inside_run.specs.declared.progress.Moved.TheVariants as moved
 use Rattle.inside_run.specs.declared.progress.KeyProgress.{KeyProgress}
@@ -79,9 +79,10 @@ module _ (s : ModuleRules) where
 
   -- a key of a module of that type
   abbrev pub typed_weight : Module → What → TypeDeclaration → ℕ
-  typed_weight m (what.Param x) t = 1 + body_weight m (what.Param x) t no_body
+  typed_weight m (what.Param x) t = 1 + body_weight m (what.Param x) t (planned_body (s.planned m))
       + around_weight m (what.Param x) t (s.stands m).name
-  typed_weight m (what.Declared g) t = 1 + body_weight m (what.Declared g) t no_body
+  typed_weight m (what.Declared g) t = 1
+      + body_weight m (what.Declared g) t (planned_body (s.planned m))
       + around_weight m (what.Declared g) t (s.stands m).name
   typed_weight m (what.Condition sub) t = posed_weight (condition_posed s m t sub)
   typed_weight m (what.VectorSize sub) t = posed_weight (vector_size_posed s m t sub)
@@ -98,6 +99,7 @@ module _ (s : ModuleRules) where
   weight (progress.TypeAround m around name) = type_weight m name
   weight (progress.TypeCondition m around t l) = 1 + choice_weight m l.now.submodule_type
   weight (progress.TypeSize m around t l) = choice_weight m l.now.submodule_type
+  weight (progress.TypePlanned name) = 0
   weight (progress.BodyAround m w t name) = around_weight m w t.now name
   weight (progress.InsideAround m t g) = 1
   weight (progress.Joined names t g) = 0

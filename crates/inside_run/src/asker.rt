@@ -1,12 +1,13 @@
 //! All keys of a model, as an asker.
 
 ghost use Rattle.std.specs.Prelude.{◌≡◌, ◌+◌, ◌≤◌, ℕ, IfOk};
+ghost use Rattle.std.specs.Option.{option_copied};
 ghost use Rattle.param_engine.specs.Turns.{came_to, asks};
 ghost use Rattle.sim_values.specs.declared.model_fault.ModelFault.TheVariants as fault;
 ghost use Rattle.sim_values.specs.declared.value_fault.ValueFault.TheVariants.{Circle};
 ghost use Rattle.inside_keys.specs.Asked.{KeyAsking as asked_type};
 ghost use Rattle.inside_keys.specs.Settings.{ModuleRules};
-ghost use Rattle.inside_keys.specs.Values.{asking_of};
+ghost use Rattle.inside_keys.specs.Values.{asking_of, body_by, body_or_none};
 ghost use Rattle.inside_keys.specs.declared.found.Found.TheVariants as found_as;
 ghost use Rattle.inside_run.specs.Going as going;
 ghost use Rattle.inside_run.specs.Going.{Finds, Moves, goes_on};
@@ -21,13 +22,13 @@ use crate::posed::go_on_posed;
 use crate::progress::{KeyProgress, Moved};
 use crate::reading::{held, sized};
 use crate::scene::{ModuleSource, Stands, submodule_in};
-use crate::types::{go_on_chosen, type_counted, type_held, type_in};
+use crate::types::{created_type, go_on_chosen, type_counted, type_held, type_in};
 use inside_keys::found::{Found, Inside};
 use inside_keys::key::{Key, Module, What};
 use inside_parts::fault::InsideError;
 use inside_walk::submodules::number;
 use inside_wiring::wiring::Carrier;
-use ned_trees::declarations::TypeDeclaration;
+use ned_trees::declarations::{Submodule, SubmoduleBody, TypeDeclaration};
 use param_engine::asker::Asker;
 use param_engine::turn::EngineStep;
 use sim_values::NoMemory;
@@ -124,6 +125,32 @@ fn type_around<'m, S: ModuleSource>(
     type_in(alloc, scene, site, around, declared, submodule)
 }
 
+/// Goes on with the type of the module around: the type of a module that was created in it is
+/// looked up there.
+fn planned_around<'m, S: ModuleSource>(
+    alloc: Global,
+    scene: &'m S,
+    name: &Text,
+    value: &Value,
+) -> Result<Moved<'m>, InsideError>
+    ensures moves { Moves (S.setting scene.now) result
+        (goes_on (S.setting scene.now) (waits.TypePlanned name.now) (found_as.Value value.now)) }
+    ensures costs { Costs (S.setting scene.now) 0 result }
+{
+    let (_, around) = type_found(scene, value)?;
+    created_type(alloc, scene, around, name)
+}
+
+/// What a submodule is given, if there is one.
+fn body_in(submodule: Option<&Submodule>) -> Option<&SubmoduleBody>
+    ensures { body_or_none (option_copied result) ≡ body_by (option_copied submodule.entry) }
+{
+    match submodule {
+        Some(submodule) => Some(&submodule.body),
+        None => None,
+    }
+}
+
 /// Goes on with the type of the module around: what it says in the module's body counts.
 fn body_around<'m, S: ModuleSource>(
     alloc: Global,
@@ -142,7 +169,7 @@ fn body_around<'m, S: ModuleSource>(
 {
     let (number, around) = type_found(scene, value)?;
     let submodule = submodule_in(scene, number, around, name);
-    with_body(alloc, scene, site, what, declared, submodule)
+    with_body(alloc, scene, site, what, declared, body_in(submodule))
 }
 
 /// Goes on with the type of the module around: its inside is asked for.
@@ -189,6 +216,7 @@ fn on_value<'m, S: ModuleSource>(
         KeyProgress::TypeSize(site, around, declared, submodule) => {
             type_counted(alloc, scene, &site, &around, declared, submodule, value)
         }
+        KeyProgress::TypePlanned(name) => planned_around(alloc, scene, &name, value),
         KeyProgress::BodyAround(site, what, declared, name) => {
             body_around(alloc, scene, &site, &what, declared, &name, value)
         }

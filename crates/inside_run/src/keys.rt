@@ -23,10 +23,11 @@ use crate::reading::read;
 use crate::scene::{ModuleSource, Stands, submodule_in};
 use inside_keys::found::Found;
 use inside_keys::key::{Module, What};
+use inside_keys::planned::Planned;
 use inside_keys::sizes::has_vector;
 use inside_parts::fault::InsideError;
 use inside_parts::gates::gates_of;
-use ned_trees::declarations::{Submodule, TypeDeclaration};
+use ned_trees::declarations::{SubmoduleBody, TypeDeclaration};
 use sim_values::NoMemory;
 use sim_values::model_fault::ModelFault;
 use sim_values::text::Text;
@@ -61,80 +62,91 @@ fn declared_size<'m, S: ModuleSource>(
     site: &Module,
     name: &Text,
     declared: &'m TypeDeclaration,
-    submodule: Option<&'m Submodule>,
+    body: Option<&'m SubmoduleBody>,
 ) -> Result<Moved<'m>, InsideError>
     ensures moves { Moves (S.setting scene.now) result
         (values.sized_or_open (S.setting scene.now) (gate_size_posed (S.setting scene.now) site.now
-        declared.now (values.body_by (option_copied submodule.entry)) name.now)) }
+        declared.now (values.body_or_none (option_copied body.entry)) name.now)) }
     ensures costs { Costs (S.setting scene.now)
         (posed_weight (gate_size_posed (S.setting scene.now) site.now declared.now
-        (values.body_by (option_copied submodule.entry)) name.now)) result }
+        (values.body_or_none (option_copied body.entry)) name.now)) result }
 {
-    match gate_size(alloc, scene, site, name, declared, submodule)? {
+    match gate_size(alloc, scene, site, name, declared, body)? {
         Some(posed) => begin_posed(alloc, Some(posed)),
         None => Ok(Moved::Done(Found::Value(Value::Whole(0)))),
     }
 }
 
-/// The declared size of a gate of a module of that type, which that submodule declares.
+/// The declared size of a gate of a module of that type, which is given that body.
 fn declared_gate<'m, S: ModuleSource>(
     alloc: Global,
     scene: &'m S,
     site: &Module,
     name: &Text,
     declared: &'m TypeDeclaration,
-    submodule: Option<&'m Submodule>,
+    body: Option<&'m SubmoduleBody>,
 ) -> Result<Moved<'m>, InsideError>
     ensures moves { Moves (S.setting scene.now) result (values.declared_asking (S.setting scene.now)
-        site.now declared.now name.now (values.body_by (option_copied submodule.entry))) }
+        site.now declared.now name.now (values.body_or_none (option_copied body.entry))) }
     ensures costs { Costs (S.setting scene.now)
         (posed_weight (gate_size_posed (S.setting scene.now) site.now declared.now
-        (values.body_by (option_copied submodule.entry)) name.now)) result }
+        (values.body_or_none (option_copied body.entry)) name.now)) result }
 {
     if !is_gate_vector(alloc, declared, name)? {
         return Err(InsideError::Fault(ModelFault::NoGate));
     }
-    declared_size(alloc, scene, site, name, declared, submodule)
+    declared_size(alloc, scene, site, name, declared, body)
 }
 
-/// A parameter of a module of that type, which that submodule declares.
+/// A parameter of a module of that type, which is given that body.
 fn parameter_of<'m, S: ModuleSource>(
     alloc: Global,
     scene: &'m S,
     site: &Module,
     name: &Text,
     declared: &'m TypeDeclaration,
-    submodule: Option<&'m Submodule>,
+    body: Option<&'m SubmoduleBody>,
 ) -> Result<Moved<'m>, InsideError>
     ensures moves { Moves (S.setting scene.now)
         result (values.posed_asking (parameter_posed (S.setting scene.now) site.now declared.now
-        (values.body_by (option_copied submodule.entry)) name.now)) }
+        (values.body_or_none (option_copied body.entry)) name.now)) }
     ensures costs { Costs (S.setting scene.now)
         (posed_weight (parameter_posed (S.setting scene.now) site.now declared.now
-        (values.body_by (option_copied submodule.entry)) name.now)) result }
+        (values.body_or_none (option_copied body.entry)) name.now)) result }
 {
-    let posed = parameter(alloc, scene, site, name, declared, submodule)?;
+    let posed = parameter(alloc, scene, site, name, declared, body)?;
     begin_posed(alloc, posed)
 }
 
-/// A parameter or a declared size of a module of that type, which that submodule declares.
+/// A parameter or a declared size of a module of that type, which is given that body.
 pub fn with_body<'m, S: ModuleSource>(
     alloc: Global,
     scene: &'m S,
     site: &Module,
     what: &What,
     declared: &'m TypeDeclaration,
-    submodule: Option<&'m Submodule>,
+    body: Option<&'m SubmoduleBody>,
 ) -> Result<Moved<'m>, InsideError>
     ensures moves { Moves (S.setting scene.now) result (bodied (S.setting scene.now) site.now
-        what.now declared.now (values.body_by (option_copied submodule.entry))) }
+        what.now declared.now (values.body_or_none (option_copied body.entry))) }
     ensures costs { Costs (S.setting scene.now) (body_weight (S.setting scene.now) site.now what.now
-        declared.now (values.body_by (option_copied submodule.entry))) result }
+        declared.now (values.body_or_none (option_copied body.entry))) result }
 {
     match what {
-        What::Param(name) => parameter_of(alloc, scene, site, name, declared, submodule),
-        What::Declared(name) => declared_gate(alloc, scene, site, name, declared, submodule),
+        What::Param(name) => parameter_of(alloc, scene, site, name, declared, body),
+        What::Declared(name) => declared_gate(alloc, scene, site, name, declared, body),
         _ => Err(InsideError::Fault(ModelFault::Value(ValueFault::Unassigned))),
+    }
+}
+
+/// What a module that no type declares is given: one that was created what its plan says.
+fn planned_body(planned: Option<&Planned>) -> Option<&SubmoduleBody>
+    ensures { values.body_or_none (option_copied result)
+        ≡ values.planned_body (option_copied planned.entry) }
+{
+    match planned {
+        Some(planned) => Some(&planned.body),
+        None => None,
     }
 }
 
@@ -149,7 +161,8 @@ fn begin_with_body<'m, S: ModuleSource>(
     ensures moves { Moves (S.setting scene.now) result (values.body_then (S.setting scene.now) site
         (bodied (S.setting scene.now) site what declared.now)) }
     ensures costs { Costs (S.setting scene.now)
-        (1 + body_weight (S.setting scene.now) site what declared.now values.no_body
+        (1 + body_weight (S.setting scene.now) site what declared.now
+        (values.planned_body ((S.setting scene.now).planned site))
         + around_weight (S.setting scene.now) site what declared.now
         ((S.setting scene.now).stands site).name) result }
 {
@@ -160,7 +173,10 @@ fn begin_with_body<'m, S: ModuleSource>(
             let name = stands.name.copy(alloc)?;
             Ok(Moved::Asks(key, KeyProgress::BodyAround(site, what, declared, name)))
         }
-        None => with_body(alloc, scene, &site, &what, declared, None),
+        None => {
+            let body = planned_body(scene.planned(&site));
+            with_body(alloc, scene, &site, &what, declared, body)
+        }
     }
 }
 
@@ -222,7 +238,42 @@ pub fn numbered<'m>(number: Option<usize>) -> Result<Moved<'m>, InsideError>
     }
 }
 
-/// The type of a module: its nesting comes first.
+/// The type of a module that was created in that one, as planned.
+fn begin_planned<'m>(
+    alloc: Global,
+    planned: &Planned,
+    around: Option<&Module>,
+) -> Result<Moved<'m>, InsideError>
+    ensures { (s : ModuleRules)
+        → Moves s result (values.type_planned s planned.now (option_copied around.entry)) }
+{
+    let Some(around) = around else {
+        return Err(InsideError::Fault(ModelFault::UnknownType));
+    };
+    let key = around.key(alloc, What::Type)?;
+    let name = planned.type_name.copy(alloc)?;
+    Ok(Moved::Asks(key, KeyProgress::TypePlanned(name)))
+}
+
+/// The type of a module that no type declares: of the network, or of one that was created in that
+/// one.
+fn begin_undeclared<'m, S: ModuleSource>(
+    alloc: Global,
+    scene: &'m S,
+    site: &Module,
+    around: Option<&Module>,
+) -> Result<Moved<'m>, InsideError>
+    ensures { Moves (S.setting scene.now)
+        result (values.type_undeclared (S.setting scene.now) site.now (option_copied around.entry)
+        ((S.setting scene.now).planned site.now)) }
+{
+    match scene.planned(site) {
+        Some(planned) => begin_planned(alloc, planned, around),
+        None => numbered(scene.root(site)),
+    }
+}
+
+/// The type of a module: the nesting of one that a type declares comes first.
 pub fn begin_type<'m, S: ModuleSource>(
     alloc: Global,
     scene: &'m S,
@@ -242,7 +293,7 @@ pub fn begin_type<'m, S: ModuleSource>(
             let (site, around) = (site.copy(alloc)?, around.copy(alloc)?);
             Ok(Moved::Asks(key, KeyProgress::TypeAround(site, around, name)))
         }
-        None => numbered(scene.root(site)),
+        None => begin_undeclared(alloc, scene, site, stands.around.as_ref()),
     }
 }
 

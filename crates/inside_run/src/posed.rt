@@ -10,7 +10,7 @@ ghost use Rattle.inside_keys.specs.Checks.{checked};
 ghost use Rattle.inside_keys.specs.Given as given;
 ghost use Rattle.inside_keys.specs.Places.{meant_under};
 ghost use Rattle.inside_keys.specs.Settings.{ModuleRules, index_at, place_in};
-ghost use Rattle.inside_keys.specs.Values.{body_by, kept, posed_asking};
+ghost use Rattle.inside_keys.specs.Values.{body_or_none, kept, posed_asking};
 ghost use Rattle.inside_keys.specs.declared.found.Found.TheVariants as found_as;
 ghost use Rattle.inside_run.specs.Going.{Moves, goes_on};
 ghost use Rattle.inside_run.specs.Posing.{maybe_posed};
@@ -29,7 +29,8 @@ use inside_keys::place::{Binding, ExpressionPlace, Section};
 use inside_parts::fault::InsideError;
 use inside_parts::stack::Stack;
 use ned_trees::declarations::{
-    Declaration, GateLine, GateSize, ParameterValue, SectionLine, Submodule, TypeDeclaration,
+    Declaration, GateLine, GateSize, ParameterValue, SectionLine, Submodule, SubmoduleBody,
+    TypeDeclaration,
 };
 use ned_trees::expressions::Expression;
 use ned_types::flat::{declaration_named, last_value};
@@ -279,22 +280,22 @@ pub fn chosen<'m>(given: Option<Given<'m>>, entry: Option<&'m EntryValue>) -> Op
     }
 }
 
-/// The lines of a submodule's body; none where there is no submodule.
-fn body_lines(submodule: Option<&Submodule>) -> &[SectionLine]
-    ensures { result.now ≡ (body_by (option_copied submodule.entry)).lines }
+/// The lines of a body; none where there is none.
+fn body_lines(body: Option<&SubmoduleBody>) -> &[SectionLine]
+    ensures { result.now ≡ (body_or_none (option_copied body.entry)).lines }
 {
-    match submodule {
-        Some(submodule) => submodule.body.lines.as_slice(),
+    match body {
+        Some(body) => body.lines.as_slice(),
         None => &[],
     }
 }
 
-/// The gates in a submodule's body; none where there is no submodule.
-fn body_gates(submodule: Option<&Submodule>) -> &[GateLine]
-    ensures { result.now ≡ (body_by (option_copied submodule.entry)).gates }
+/// The gates in a body; none where there is none.
+fn body_gates(body: Option<&SubmoduleBody>) -> &[GateLine]
+    ensures { result.now ≡ (body_or_none (option_copied body.entry)).gates }
 {
-    match submodule {
-        Some(submodule) => submodule.body.gates.as_slice(),
+    match body {
+        Some(body) => body.gates.as_slice(),
         None => &[],
     }
 }
@@ -302,16 +303,13 @@ fn body_gates(submodule: Option<&Submodule>) -> &[GateLine]
 /// What the NED text gives a parameter: the body goes before the lines of the type.
 fn given_to<'m>(
     declared: &'m TypeDeclaration,
-    submodule: Option<&'m Submodule>,
+    body: Option<&'m SubmoduleBody>,
     name: &[u8],
 ) -> Option<Given<'m>>
     ensures { given_by result
-        ≡ given.given_to declared.now (body_by (option_copied submodule.entry)) name.now }
+        ≡ given.given_to declared.now (body_or_none (option_copied body.entry)) name.now }
 {
-    match given_in(
-        WrittenSection::OfBody,
-        last_value(name, body_lines(submodule)),
-    ) {
+    match given_in(WrittenSection::OfBody, last_value(name, body_lines(body))) {
         Some(given) => Some(given),
         None => given_in(
             WrittenSection::OfType,
@@ -347,15 +345,15 @@ fn written<'m, S: ModuleSource>(
     site: &Module,
     name: &Text,
     declared: &'m TypeDeclaration,
-    submodule: Option<&'m Submodule>,
+    body: Option<&'m SubmoduleBody>,
 ) -> Result<Option<Written<'m>>, NoMemory>
     ensures { IfOk result (λ found. maybe_written found ≡ first_given
-        (given.given_to declared.now (body_by (option_copied submodule.entry)) name.now)
+        (given.given_to declared.now (body_or_none (option_copied body.entry)) name.now)
         ((S.setting scene.now).entry (given.parameter_path site.now name.now))) }
 {
     let path = parameter_path(alloc, site, name)?;
     let entry = scene.entry(alloc, path.as_bytes())?;
-    Ok(chosen(given_to(declared, submodule, name.as_bytes()), entry))
+    Ok(chosen(given_to(declared, body, name.as_bytes()), entry))
 }
 
 /// What gives a parameter its value that is declared so.
@@ -365,14 +363,14 @@ fn parameter_declared<'m, S: ModuleSource>(
     site: &Module,
     name: &Text,
     declared: &'m TypeDeclaration,
-    submodule: Option<&'m Submodule>,
+    body: Option<&'m SubmoduleBody>,
     declaration: &Declaration,
 ) -> Result<Option<Posable<'m>>, NoMemory>
     ensures { IfOk result
         (λ posed. maybe_posed posed ≡ given.parameter_by (S.setting scene.now) site.now declared.now
-        (body_by (option_copied submodule.entry)) name.now (Some declaration.now)) }
+        (body_or_none (option_copied body.entry)) name.now (Some declaration.now)) }
 {
-    let Some(written) = written(alloc, scene, site, name, declared, submodule)? else {
+    let Some(written) = written(alloc, scene, site, name, declared, body)? else {
         return Ok(None);
     };
     let place = place_in(alloc, scene, site, section_of(written.section))?;
@@ -384,23 +382,22 @@ fn parameter_declared<'m, S: ModuleSource>(
     }))
 }
 
-/// What gives a parameter of a module its value, which is of that type, and declared by that
-/// submodule.
+/// What gives a parameter of a module its value, which is of that type, and is given that body.
 pub fn parameter<'m, S: ModuleSource>(
     alloc: Global,
     scene: &'m S,
     site: &Module,
     name: &Text,
     declared: &'m TypeDeclaration,
-    submodule: Option<&'m Submodule>,
+    body: Option<&'m SubmoduleBody>,
 ) -> Result<Option<Posable<'m>>, NoMemory>
     ensures { IfOk result (λ posed. maybe_posed posed ≡ given.parameter_posed (S.setting scene.now)
-        site.now declared.now (body_by (option_copied submodule.entry)) name.now) }
+        site.now declared.now (body_or_none (option_copied body.entry)) name.now) }
 {
     let Some(declaration) = declaration_named(name.as_bytes(), declared.lines.as_slice()) else {
         return Ok(None);
     };
-    parameter_declared(alloc, scene, site, name, declared, submodule, declaration)
+    parameter_declared(alloc, scene, site, name, declared, body, declaration)
 }
 
 /// The size that a line gives a gate.
@@ -442,12 +439,12 @@ pub fn gate_size<'m, S: ModuleSource>(
     site: &Module,
     name: &Text,
     declared: &'m TypeDeclaration,
-    submodule: Option<&'m Submodule>,
+    body: Option<&'m SubmoduleBody>,
 ) -> Result<Option<Posable<'m>>, NoMemory>
     ensures { IfOk result (λ posed. maybe_posed posed ≡ given.gate_size_posed (S.setting scene.now)
-        site.now declared.now (body_by (option_copied submodule.entry)) name.now) }
+        site.now declared.now (body_or_none (option_copied body.entry)) name.now) }
 {
-    match last_size(name.as_bytes(), body_gates(submodule)) {
+    match last_size(name.as_bytes(), body_gates(body)) {
         Some(size) => maybe(
             alloc,
             scene,

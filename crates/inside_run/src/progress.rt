@@ -91,6 +91,9 @@ pub enum KeyProgress<'m> {
     TypeCondition(Module, Module, &'m TypeDeclaration, &'m Submodule),
     /// How many elements the vector has of which the first module is one, for the same.
     TypeSize(Module, Module, &'m TypeDeclaration, &'m Submodule),
+    /// The type of the module around, in which a module was created whose type has that name there,
+    /// and is wanted.
+    TypePlanned(Text),
     /// The type of the module around, for what it says in the body of the module, which is of that
     /// type.
     BodyAround(Module, What, &'m TypeDeclaration, Text),

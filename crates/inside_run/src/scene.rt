@@ -9,6 +9,7 @@ ghost use Rattle.ned_types.specs.Flat.{submodule_named};
 
 use ini_trees::entry::EntryValue;
 use inside_keys::key::Module;
+use inside_keys::planned::Planned;
 use inside_parts::gates::TypeGates;
 use inside_parts::names::Names;
 use ned_channels::built_in::BuiltInChannels;
@@ -29,6 +30,24 @@ pub struct Stands {
     /// It is what the type of the module around declares under that name; or else it was created
     /// while the model ran.
     pub is_declared: bool,
+}
+
+impl Stands {
+    /// The same.
+    pub fn copy(&self, alloc: Global) -> Result<Stands, NoMemory>
+        ensures { IfOk result (λ copy. copy ≡ self.now) }
+    {
+        let around = match &self.around {
+            Some(around) => Some(around.copy(alloc)?),
+            None => None,
+        };
+        Ok(Stands {
+            around,
+            name: self.name.copy(alloc)?,
+            index: self.index,
+            is_declared: self.is_declared,
+        })
+    }
 }
 
 /// What a model tells of its modules.
@@ -64,7 +83,11 @@ pub trait ModuleSource {
     fn standing(&self, alloc: Global, site: &Module) -> Result<Stands, NoMemory>
         ensures { IfOk result (λ found. standing_by found ≡ (setting self.now).stands site.now) };
 
-    /// The number of the type of the network, or of a module that was created.
+    /// What a module was created as, where it was created while the model ran.
+    fn planned(&self, site: &Module) -> Option<&Planned>
+        ensures { option_copied result ≡ (setting self.now).planned site.now };
+
+    /// The number of the type of the network.
     fn root(&self, site: &Module) -> Option<usize>
         ensures same { result ≡ (setting self.now).root site.now }
         ensures small { IfSome result (λ number. number < 2 ^ 63) };

@@ -269,6 +269,65 @@ fn told<'m, S: ModuleSource>(
     }
 }
 
+// ---- modules that were created
+
+/// The type of that number, where it is one of modules.
+fn type_of_modules<'m>(
+    number: usize,
+    declared: Option<&TypeDeclaration>,
+) -> Result<Moved<'m>, InsideError>
+    requires { number < 2 ^ 63 }
+    ensures moves { (s : ModuleRules)
+        → Moves s result (values.type_of_modules s number (option_copied declared.entry)) }
+    ensures costs { (s : ModuleRules) → Costs s 0 result }
+{
+    match declared {
+        Some(declared) => {
+            if is_of_modules(declared.kind) {
+                numbered(Some(number))
+            } else {
+                Err(InsideError::Fault(ModelFault::UnknownType))
+            }
+        }
+        None => Err(InsideError::Fault(ModelFault::UnknownType)),
+    }
+}
+
+/// The type that a name means in the text of a type, where it is one of modules.
+fn created_found<'m, S: ModuleSource>(
+    alloc: Global,
+    scene: &S,
+    around: &TypeDeclaration,
+    name: &Text,
+) -> Result<Moved<'m>, InsideError>
+    ensures moves { Moves (S.setting scene.now) result (values.created_found (S.setting scene.now)
+        (values.type_meant (S.setting scene.now) around.now name.now)) }
+    ensures costs { Costs (S.setting scene.now) 0 result }
+{
+    match type_meant(alloc, scene, around, name)? {
+        Some(number) => type_of_modules(number, type_at(scene, number)),
+        None => Err(InsideError::Fault(ModelFault::UnknownType)),
+    }
+}
+
+/// The type of a module that was created in one of that type, by the name that its plan has.
+pub fn created_type<'m, S: ModuleSource>(
+    alloc: Global,
+    scene: &S,
+    around: &TypeDeclaration,
+    name: &Text,
+) -> Result<Moved<'m>, InsideError>
+    ensures moves { Moves (S.setting scene.now) result
+        (values.created_type (S.setting scene.now) around.now name.now) }
+    ensures costs { Costs (S.setting scene.now) 0 result }
+{
+    if is_dotted_name(name.as_bytes()) {
+        created_found(alloc, scene, around, name)
+    } else {
+        Err(InsideError::Fault(ModelFault::UnknownType))
+    }
+}
+
 // ---- the expression
 
 /// Goes on with an expression that names a type until it needs a value, or has its own.

@@ -3,7 +3,7 @@ use Rattle.std.proofs.Common.{◌≡◌, Bool, true, false, ◌&&◌, List, [], 
 use Rattle.model_questions.specs.declared.answer.Answer.TheVariants as answer
 use Rattle.model_questions.specs.declared.answer.AskedQuestion.{AskedQuestion}
 use Rattle.model_questions.specs.declared.answer.Question.{Question}
-use Rattle.model_questions.specs.declared.answer.Question.TheVariants.{Root, Build, Param, GateSize, Hop, HopBack, BeyondLimit, InjectionBefore}
+use Rattle.model_questions.specs.declared.answer.Question.TheVariants.{Root, TypeOf, Build, Param, GateSize, Hop, HopBack, BeyondLimit, InjectionBefore}
 use Rattle.model_injections.specs.declared.injection.Injection.{Injection}
 use Rattle.model_questions.specs.Answers.{Answers, answer_of, is_beyond}
 use Rattle.model_questions.specs.declared.record.Record.{Record}
@@ -15,6 +15,7 @@ use Rattle.model_agreement.specs.Common.{is_about, are_about, IsCommon}
 -- both give them the same answers
 pub alike : (m n : Answers) (c : Common) (rs : List Record) (q : Question) → IsCommon m n c → is_about c q ≡ true → answer_of m rs q ≡ answer_of n rs q
 alike m n c rs Root h e = h.modules_are e rs Root refl
+alike m n c rs (TypeOf id) h e = h.modules_are e rs (TypeOf id) refl
 alike m n c rs (Build id) h e = h.modules_are e rs (Build id) refl
 alike m n c rs (Param id name) h e = h.modules_are e rs (Param id name) refl
 alike m n c rs (GateSize id name) h e = h.modules_are e rs (GateSize id name) refl

@@ -150,6 +150,7 @@ fault_is _ _ e = cc
 
 answer_is : (a b : Answer) → same_answer a b ≡ true → a ≡ b
 answer_is (answer.Root a) (answer.Root b) e = ap answer.Root ((bytes_eq-Decides a b).0 e)
+answer_is (answer.Class a) (answer.Class b) e = ap answer.Class (class_is a b e)
 answer_is (answer.Inside a) (answer.Inside b) e = ap answer.Inside (inside_is a b e)
 answer_is (answer.Value a) (answer.Value b) e = ap answer.Value (value_is a b e)
 answer_is (answer.Gate a) (answer.Gate b) e = ap answer.Gate (gate_is a b e)
@@ -255,6 +256,7 @@ fault_same fault.TooManyModules = refl
 
 answer_same : (a : Answer) → same_answer a a ≡ true
 answer_same (answer.Root a) = (bytes_eq-Decides a a).1 refl
+answer_same (answer.Class a) = class_same a
 answer_same (answer.Inside a) = inside_same a
 answer_same (answer.Value a) = value_same a
 answer_same (answer.Gate a) = gate_same a

@@ -1,12 +1,10 @@
 -- Models of the same types, network and entries that count have values that rest on the same.
-use Rattle.std.proofs.Common.{◌≡◌, ◌∙◌, ℕ, List, Option, ap, refl, sym}
+use Rattle.std.proofs.Common.{◌≡◌, ◌∙◌, ℕ, List, Option, None, ap, refl, sym}
 use Rattle.std.specs.Option.{option_and_then}
 use Rattle.ini_trees.specs.declared.entry.EntryValue.{EntryValue}
 use Rattle.ini_trees.specs.declared.lines.IniEntry.{IniEntry}
-use Rattle.ini_trees.specs.declared.lines.IniLine.{IniLine}
 use Rattle.ini_trees.specs.Entries.{last_name, network_entry, value_for}
 use Rattle.ini_trees.specs.Sections.{entries_along}
-use Rattle.inside_keys.specs.declared.key.Module.{Module}
 use Rattle.inside_keys.specs.Settings.{ModuleRules}
 use Rattle.model_data.specs.declared.model.Model.{Model}
 use Rattle.model_data.specs.Models.{as_network, entries_in, network_of}
@@ -22,6 +20,7 @@ abbrev setting_by : List TypeDeclaration → Option TypeDeclaration → (List �
 setting_by types network entry = record {
   stands = standing_of;
   root = λ site. option_and_then (number_of types) network;
+  planned = λ site. None;
   is_too_deep = λ site. is_too_deep site.path;
   entry = entry;
   types = types;

@@ -1,10 +1,10 @@
 -- What two models have in common.
-use Rattle.std.specs.Prelude.{◌≡◌, Bool, true, false, ◌&&◌, List, [], ◌∷◌}
+use Rattle.std.specs.Prelude.{◌≡◌, Bool, true, ◌&&◌, List, [], ◌∷◌}
 use Rattle.model_questions.specs.declared.answer.AskedQuestion.{AskedQuestion}
 use Rattle.model_questions.specs.declared.answer.Question.{Question}
-use Rattle.model_questions.specs.declared.answer.Question.TheVariants.{Root, Build, Param, GateSize}
-use Rattle.model_questions.specs.declared.answer.Question.TheVariants.{Hop, HopBack, BeyondLimit}
-use Rattle.model_questions.specs.declared.answer.Question.TheVariants.{InjectionBefore}
+use Rattle.model_questions.specs.declared.answer.Question.TheVariants.{Root, TypeOf, Build, Param}
+use Rattle.model_questions.specs.declared.answer.Question.TheVariants.{GateSize, Hop, HopBack}
+use Rattle.model_questions.specs.declared.answer.Question.TheVariants.{BeyondLimit, InjectionBefore}
 use Rattle.model_questions.specs.declared.record.Record.{Record}
 use Rattle.model_questions.specs.Answers.{Answers, answer_of}
 use Rattle.model_questions.specs.Questions.{is_of_modules}
@@ -20,6 +20,7 @@ pub record IsCommon (m n : Answers) (c : Common) : Type 0 where
 -- whether a question is about what is common alone
 abbrev pub is_about : Common → Question → Bool
 is_about c Root = c.modules
+is_about c (TypeOf id) = c.modules
 is_about c (Build id) = c.modules
 is_about c (Param id name) = c.modules
 is_about c (GateSize id name) = c.modules

@@ -135,6 +135,8 @@ same_fault fault.TooManyModules _ = false
 abbrev pub same_answer : Answer → Answer → Bool
 same_answer (answer.Root a) (answer.Root b) = bytes_eq a b
 same_answer (answer.Root a) _ = false
+same_answer (answer.Class a) (answer.Class b) = same_class a b
+same_answer (answer.Class a) _ = false
 same_answer (answer.Inside a) (answer.Inside b) = same_inside a b
 same_answer (answer.Inside a) _ = false
 same_answer (answer.Value a) (answer.Value b) = same_value a b

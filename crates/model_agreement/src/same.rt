@@ -235,6 +235,7 @@ fn compared(one: &Answer, other: &Answer) -> bool
 {
     match (one, other) {
         (Answer::Root(a), Answer::Root(b)) => a.is(b.as_bytes()),
+        (Answer::Class(a), Answer::Class(b)) => same_class(a, b),
         (Answer::Inside(a), Answer::Inside(b)) => same_inside(a.as_slice(), b.as_slice()),
         (Answer::Value(a), Answer::Value(b)) => same_value(a, b),
         (Answer::Gate(a), Answer::Gate(b)) => same_gate(a, b),

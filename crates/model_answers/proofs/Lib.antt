@@ -1,3 +1,7 @@
+mod Classes
+mod Created
 mod Halves
+mod Lines
 mod Names
+mod NoGates
 mod Placing

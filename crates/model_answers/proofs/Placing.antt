@@ -1,5 +1,5 @@
 -- What comes of an inside, where the module and what is around it are known, and where it is kept.
-use Rattle.std.proofs.Common.{◌≡◌, ◌<◌, ◌^◌, ℕ, Bool, true, false, List, length, Option, Some, None, Result, Ok, Err, ap, sym, refl, ◌∙◌, arith}
+use Rattle.std.proofs.Common.{◌≡◌, ◌<◌, ◌^◌, Bool, true, false, length, Option, Some, None, Result, Ok, Err, ap, sym, refl, ◌∙◌, arith}
 use Rattle.std.proofs.lemmas.Bool.{true≢false}
 use Rattle.param_following.specs.Asking.{Done, Ask, outcome, with_value}
 use Rattle.param_following.specs.Edits.{answer_of}
@@ -20,13 +20,11 @@ use Rattle.inside_run.proofs.Alike.{known_alike}
 use Rattle.inside_run.proofs.Exact.{exact}
 use Rattle.inside_run.specs.Same.{equal}
 use Rattle.model_answers.specs.Insides.{inside_found}
-use Rattle.model_answers.specs.Keyed.{module_at}
 
-pub found_at : (s : ModuleRules) (path : List ℕ) (site : Module) (around : Option Module) (stands : Whereabouts) → site ≡ module_at path → stands ≡ s.stands site → around ≡ stands.around
-    → placed (value_at s) site around (asking_of s (key site what.Inside)) ≡ inside_found s path
-found_at s path site around stands e f g =
+pub found_at : (s : ModuleRules) (site : Module) (around : Option Module) (stands : Whereabouts) → stands ≡ s.stands site → around ≡ stands.around
+    → placed (value_at s) site around (asking_of s (key site what.Inside)) ≡ inside_found s site
+found_at s site around stands f g =
     ap (λ (a : Option Module). placed (value_at s) site a (asking_of s (key site what.Inside))) (g ∙ ap (λ (t : Whereabouts). t.around) f)
-    ∙ ap (λ (m : Module). placed (value_at s) m (s.stands m).around (asking_of s (key m what.Inside))) e
 
 abbrev is_ok : Option (Result Found ModelFault) → Bool
 is_ok (Some (Ok v)) = true
@@ -51,11 +49,11 @@ module _ (s : ModuleRules) (m : Module) (around : Option Module) (knows : Key �
       go later (Some u) e h = ap (λ r. placed_by (blamed m around k) r (λ v. placed (value_at s) m around (rest v))) (right k u e) ∙ later u h
 
 -- an inside that is kept is what comes of it
-pub kept_placed : (s : ModuleRules) (es : Entries Key Found) (path : List ℕ) (k : Key) (f : Found) → IsKept (rules_of s) es → length es < 2 ^ 63
-    → k ≡ key (module_at path) what.Inside → known equal es k ≡ Some f → inside_found s path ≡ Ok f
-kept_placed s es path k f kept small same found =
+pub kept_placed : (s : ModuleRules) (es : Entries Key Found) (m : Module) (k : Key) (f : Found) → IsKept (rules_of s) es → length es < 2 ^ 63
+    → k ≡ key m what.Inside → known equal es k ≡ Some f → inside_found s m ≡ Ok f
+kept_placed s es m k f kept small same found =
     let there = ap (known same_key es) (sym same) ∙ known_alike es k ∙ found in
-    placed_of s (module_at path) (s.stands (module_at path)).around (known same_key es)
+    placed_of s m (s.stands m).around (known same_key es)
     (λ j u e. kept_value (rules_of s) (exact s) es j u kept (omega (arith, small)) e)
-    (asking_of s (key (module_at path) what.Inside)) f
-    (closed (rules_of s) (exact s) es kept (key (module_at path) what.Inside) f there)
+    (asking_of s (key m what.Inside)) f
+    (closed (rules_of s) (exact s) es kept (key m what.Inside) f there)

@@ -1,6 +1,6 @@
 -- What is inside of the modules of a model, the sizes of their gates, and where these lead.
 use Rattle.std.specs.Prelude.{ℕ, List, [], ◌∷◌, ◌++◌, Option, Some, None, Result, Ok, Err}
-use Rattle.std.specs.Prelude.{option_map, slice_get, if◌then◌else◌}
+use Rattle.std.specs.Prelude.{option_map, if◌then◌else◌}
 use Rattle.std.specs.Result.{result_ok}
 use Rattle.module_api.specs.declared.call.Gate.{Gate}
 use Rattle.ned_trees.specs.declared.connections.Half.{Half}
@@ -48,36 +48,36 @@ child_path path lines p = (child (module_at path) (name_of_part lines p) p.index
 
 -- a fault where a part has a gate that has to be connected and isn't, with the module's own path as
 -- of all its connections, or else the submodules
-abbrev pub connected_answer : ModuleRules → List ℕ → TypeDeclaration → Inside → Option ℕ → Answer
-connected_answer s path t i None = answer.Inside (built_parts s.types t.submodules i.parts.parts)
-connected_answer s path t i (Some n) = answer.Fault path Unconnected
+abbrev pub connected_answer : ModuleRules → key_module.Module → TypeDeclaration → Inside → Option ℕ
+    → Answer
+connected_answer s m t i None = answer.Inside (built_parts s.types t.submodules i.parts.parts)
+connected_answer s m t i (Some n) = answer.Fault m.path Unconnected
 
-abbrev pub built_answer : ModuleRules → List ℕ → TypeDeclaration
+abbrev pub built_answer : ModuleRules → key_module.Module → TypeDeclaration
     → Result Found (List ℕ × ModelFault) → Answer
-built_answer s path t (Ok (found.Inside i)) =
-    connected_answer s path t i (unconnected t (settings.type_gates s) i)
-built_answer s path t (Ok (found.Value v)) = answer.Absent
-built_answer s path t (Ok (found.Carrier c)) = answer.Absent
-built_answer s path t (Err f) = answer.Fault f.0 f.1
+built_answer s m t (Ok (found.Inside i)) =
+    connected_answer s m t i (unconnected t (settings.type_gates s) i)
+built_answer s m t (Ok (found.Value v)) = answer.Absent
+built_answer s m t (Ok (found.Carrier c)) = answer.Absent
+built_answer s m t (Err f) = answer.Fault f.0 f.1
 
--- the inside of the module of that path, or its first fault with the path that it is told with
-abbrev pub inside_found : ModuleRules → List ℕ → Result Found (List ℕ × ModelFault)
-inside_found s path = placed (value_at s) (module_at path) (s.stands (module_at path)).around
-    (asking_of s (key (module_at path) what.Inside))
+-- the inside of a module, or its first fault with the path that it is told with
+abbrev pub inside_found : ModuleRules → key_module.Module → Result Found (List ℕ × ModelFault)
+inside_found s m = placed (value_at s) m (s.stands m).around (asking_of s (key m what.Inside))
 
-abbrev pub inside_by : ModuleRules → List ℕ → TypeDeclaration → TypeKind → Answer
-inside_by s path t Network = built_answer s path t (inside_found s path)
-inside_by s path t Module = built_answer s path t (inside_found s path)
-inside_by s path t Simple = answer.Absent
-inside_by s path t Channel = answer.Absent
-inside_by s path t ModuleInterface = answer.Absent
-inside_by s path t ChannelInterface = answer.Absent
+abbrev pub inside_by : ModuleRules → key_module.Module → TypeDeclaration → TypeKind → Answer
+inside_by s m t Network = built_answer s m t (inside_found s m)
+inside_by s m t Module = built_answer s m t (inside_found s m)
+inside_by s m t Simple = answer.Absent
+inside_by s m t Channel = answer.Absent
+inside_by s m t ModuleInterface = answer.Absent
+inside_by s m t ChannelInterface = answer.Absent
 
--- WHAT IS INSIDE of the compound module of that path and type: its submodules in the order in which
--- they are created, or its first fault; after all else comes the first of its parts with a gate
--- that has to be connected and isn't
-abbrev pub inside_answer : ModuleRules → List ℕ → Option TypeDeclaration → Answer
-inside_answer s path t = typed t (λ u. inside_by s path u u.kind)
+-- WHAT IS INSIDE of a compound module of that type: its submodules in the order in which they are
+-- created, or its first fault; after all else comes the first of its parts with a gate that has to
+-- be connected and isn't
+abbrev pub inside_answer : ModuleRules → key_module.Module → Option TypeDeclaration → Answer
+inside_answer s m t = typed t (λ u. inside_by s m u u.kind)
 
 -- ---- a module among the parts of the module around it
 
@@ -97,9 +97,9 @@ abbrev pub maybe_inside : Option (Result Found ModelFault) → Option Inside
 maybe_inside None = None
 maybe_inside (Some found) = inside_in found
 
--- the inside of the module of that path, where it has one
-abbrev pub inside_of : ModuleRules → List ℕ → Option Inside
-inside_of s path = inside_in (value_of s path what.Inside)
+-- the inside of a module, where it has one
+abbrev pub inside_of : ModuleRules → key_module.Module → Option Inside
+inside_of s m = inside_in (value_of s m what.Inside)
 
 abbrev pub seat_at : TypeDeclaration → Inside → ℕ → Seat
 seat_at t i part = record { of_type = t; inside = i; part = part }
@@ -115,12 +115,12 @@ seat_typed stands (Some t) i = seat_among stands t i
 
 abbrev pub seat_by : ModuleRules → Whereabouts → Option key_module.Module → Option Seat
 seat_by s stands None = None
-seat_by s stands (Some around) = seat_typed stands (type_of s around.path) (inside_of s around.path)
+seat_by s stands (Some around) = seat_typed stands (type_of s around) (inside_of s around)
 
--- the part that the module of that path is, in the inside of the module around it; the network is
--- none
-abbrev pub seat_of : ModuleRules → List ℕ → Option Seat
-seat_of s path = seat_by s (s.stands (module_at path)) (declarer s (module_at path))
+-- the part that a module is, in the inside of the module around it; the network is none, and what
+-- was created while the run went on
+abbrev pub seat_of : ModuleRules → key_module.Module → Option Seat
+seat_of s m = seat_by s (s.stands m) (declarer s m)
 
 -- ---- gates
 
@@ -135,8 +135,8 @@ maybe_size None = None
 maybe_size (Some found) = size_in found
 
 -- the declared size of a gate vector
-abbrev pub declared_size : ModuleRules → List ℕ → List ℕ → Option ℕ
-declared_size s path g = size_in (value_of s path (what.Declared g))
+abbrev pub declared_size : ModuleRules → key_module.Module → List ℕ → Option ℕ
+declared_size s m g = size_in (value_of s m (what.Declared g))
 
 -- the finished size of a gate vector of a module that stands there
 abbrev pub seated_size : ModuleRules → Option Seat → List ℕ → Option ℕ
@@ -161,16 +161,18 @@ sized_gates vector_size (g ∷ gs) = with_size g (size_of vector_size g) ++ size
 abbrev pub gates_of_type : TypeDeclaration → List TypeGate
 gates_of_type t = (type_gates.gates_of t.gates).gates
 
--- nothing is connected around the network, whose sizes are the declared ones
-abbrev pub gates_in : ModuleRules → List ℕ → Option key_module.Module → List TypeGate → List Gate
-gates_in s path None gs = sized_gates (declared_size s path) gs
-gates_in s path (Some around) gs = sized_gates (seated_size s (seat_of s path)) gs
+-- the model connects nothing around the network and around what was created while the run went on:
+-- their sizes are the declared ones
+abbrev pub gates_in : ModuleRules → key_module.Module → Option key_module.Module → List TypeGate
+    → List Gate
+gates_in s m None gs = sized_gates (declared_size s m) gs
+gates_in s m (Some around) gs = sized_gates (seated_size s (seat_of s m)) gs
 
--- THE GATES of the module of that path and type, in the order of their declaration, each with its
--- direction and size, which is 1 of a single gate. One that has no size is left out.
-abbrev pub gates_answer : ModuleRules → List ℕ → Option TypeDeclaration → List Gate
-gates_answer s path None = []
-gates_answer s path (Some t) = gates_in s path (declarer s (module_at path)) (gates_of_type t)
+-- THE GATES of a module of that type, in the order of their declaration, each with its direction
+-- and size, which is 1 of a single gate. One that has no size is left out.
+abbrev pub gates_answer : ModuleRules → key_module.Module → Option TypeDeclaration → List Gate
+gates_answer s m None = []
+gates_answer s m (Some t) = gates_in s m (declarer s m) (gates_of_type t)
 
 -- ---- hops
 
@@ -187,19 +189,20 @@ next_inwards s t way g index None = None
 next_inwards s t way g index (Some i) =
     next_in (settings.type_gates s) t.submodules i.parts i.wiring FromInside way g index
 
-abbrev pub next_by : ModuleRules → List ℕ → TypeDeclaration → Way → Half → List ℕ → ℕ
+abbrev pub next_by : ModuleRules → key_module.Module → TypeDeclaration → Way → Half → List ℕ → ℕ
     → Option NextGate
-next_by s path t way half g index =
-    if is_outwards way half then next_outwards s way g index (seat_of s path)
-    else next_inwards s t way g index (inside_of s path)
+next_by s m t way half g index =
+    if is_outwards way half then next_outwards s way g index (seat_of s m)
+    else next_inwards s t way g index (inside_of s m)
 
-abbrev pub hop_by : ModuleRules → List ℕ → TypeDeclaration → Way → ℕ
+abbrev pub hop_by : ModuleRules → key_module.Module → TypeDeclaration → Way → ℕ
     → Option (List ℕ × Half) → Answer
-hop_by s path t way index None = answer.Absent
-hop_by s path t way index (Some h) = answer.Next (next_by s path t way h.1 h.0 index)
+hop_by s m t way index None = answer.Absent
+hop_by s m t way index (Some h) = answer.Next (next_by s m t way h.1 h.0 index)
 
--- THE NEXT GATE after a gate of the module of that path and type, or the one from which messages
--- come to it: none where it is not connected
-abbrev pub hop_answer : ModuleRules → Way → List ℕ → Option TypeDeclaration → List ℕ → ℕ → Answer
-hop_answer s way path t name index =
-    typed t (λ u. hop_by s path u way index (half_named name (gates_of_type u)))
+-- THE NEXT GATE after a gate of a module of that type, or the one from which messages come to it:
+-- none where it is not connected
+abbrev pub hop_answer : ModuleRules → Way → key_module.Module → Option TypeDeclaration → List ℕ → ℕ
+    → Answer
+hop_answer s way m t name index =
+    typed t (λ u. hop_by s m u way index (half_named name (gates_of_type u)))

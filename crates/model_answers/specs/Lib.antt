@@ -1,4 +1,6 @@
+pub mod Lines
 pub mod Keyed
 pub mod Insides
 pub mod Reading
 pub mod Answering
+pub mod ClassExamples

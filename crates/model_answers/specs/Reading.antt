@@ -1,6 +1,6 @@
 -- Values of keys, read where they stand.
-use Rattle.std.specs.Prelude.{◌≡◌, ℕ, List, Option, Some, None, Result, Ok, Err, option_map}
-use Rattle.std.specs.Prelude.{slice_get}
+use Rattle.std.specs.Prelude.{◌≡◌, true, [], Option, Some, None, IfSome, Result, Ok, Err}
+use Rattle.std.specs.Prelude.{is_some, slice_get}
 use Rattle.std.specs.Borrow.{Bor}
 use Rattle.ned_trees.specs.declared.declarations.TypeDeclaration.{TypeDeclaration}
 use Rattle.param_engine.specs.Tables.{Entries, IsKept, said, value_at}
@@ -9,23 +9,27 @@ use Rattle.inside_keys.specs.declared.found.Found.{Found}
 use Rattle.inside_keys.specs.declared.key.Key.{Key}
 use Rattle.inside_keys.specs.Settings.{ModuleRules}
 use Rattle.inside_keys.specs.Values.{rules_of}
+use Rattle.model_settings.specs.Created.{rules_by}
 use Rattle.model_settings.specs.Standings.{setting_of}
 use Rattle.inside_run.specs.Scenes.{standing_by}
 use Rattle.model_answers.specs.Insides.{Seat, maybe_inside, seat_at, seat_typed}
 use Rattle.model_answers.specs.declared.keyed.Typed.{Typed}
 use Rattle.model_answers.specs.declared.seats.PartAt as code_seat
 use Rattle.model_answers.specs.declared.seats.Sought.{Sought}
-use Rattle.model_questions.specs.declared.record.Record.{Record}
-use Rattle.model_questions.specs.Records.{path_of, place_of, record_there}
+use Rattle.model_data.specs.declared.model.Model.{Model}
+use Rattle.model_questions.specs.Records.{Lineage, record_there}
+use Rattle.model_answers.specs.Lines.{creations_in, site_of}
+use Rattle.model_answers.specs.declared.placed.ModelValues.{ModelValues}
+use Rattle.model_answers.specs.declared.placed.PlacedModule.{PlacedModule}
 use Rattle.model_answers.specs.declared.reading.Sources.{Sources}
 use Rattle.model_answers.specs.declared.reading.Spot.{Spot}
 use Rattle.model_answers.specs.declared.reading.Spot.TheVariants.{Kept, Own}
 
--- what the values of the model rest on
+-- what the values rest on that are asked for
 abbrev pub settings_of : Sources → ModuleRules
-settings_of s = setting_of s.setting.now
+settings_of s = rules_by s.setting.now
 
--- what is kept are values of the model
+-- what is kept are such values
 abbrev pub IsRight : Sources → Type 0
 IsRight s = IsKept (rules_of (settings_of s)) s.kept.now.entries
 
@@ -71,7 +75,25 @@ sought_seat from own None = None
 sought_seat from own (Some k) =
     seat_typed (standing_by k.stands) (type_by k.of_type) (maybe_inside (spotted from own k.inside))
 
--- the path of the module of that id, where there is one
-abbrev pub path_at : List Record → ℕ → Option (List ℕ)
-path_at records id =
-    option_map (λ (r : Record). path_of records id) (record_there (place_of records id))
+-- ---- modules of a run, as the code has them
+
+-- what is kept are values of the model, where no module was created while it ran
+abbrev pub AreOfModel : ModelValues → Type 0
+AreOfModel v = IsKept (rules_of (setting_of v.setting.now)) v.kept.now.entries
+
+-- it is the module of that line, with what its values rest on
+pub record StandsAt (p : PlacedModule) (m : Model) (line : Lineage) : Type 0 where
+  pub there : is_some (record_there line) ≡ true
+  pub site_is : p.site ≡ site_of line
+  pub model_is : p.setting.model.now ≡ m
+  pub created_is : p.setting.created ≡ creations_in line
+
+-- the module of a line, where there is one
+abbrev pub IsPlaced : Option PlacedModule → Model → Lineage → Type 0
+IsPlaced None m line = line ≡ []
+IsPlaced (Some p) m line = StandsAt p m line
+
+-- what is kept for it are values of the model, where these modules were created
+pub record IsReadable (p : PlacedModule) : Type 0 where
+  pub kept_are : IfSome p.kept (λ t. IsKept (rules_of (rules_by p.setting)) t.now.entries)
+  pub fresh_are : IsKept (rules_of (rules_by p.setting)) p.fresh.entries

@@ -14,9 +14,9 @@ ghost use Rattle.model_answers.specs.Reading.{maybe_copied, maybe_seat, settings
 
 use crate::keyed::{Typed, type_of};
 use crate::reading::{Sources, own_table, said, value_of};
-use crate::seats::{PartAt, declarer_of, inside_in, seat_of, seek, stands_of};
+use crate::seats::{PartAt, declarer_of, inside_in, seat_of, seek};
 use inside_keys::found::{Found, Inside};
-use inside_keys::key::{Key, What};
+use inside_keys::key::{Key, Module, What};
 use inside_parts::fault::InsideError;
 use inside_parts::gates::{TypeGate, TypeGates};
 use inside_run::scene::ModuleSource;
@@ -59,22 +59,22 @@ fn size_in(found: Option<Result<&Found, ModelFault>>) -> Result<Option<u32>, NoM
     }
 }
 
-/// The declared size of a gate vector of the module of that path.
+/// The declared size of a gate vector of a module.
 fn declared_size(
     alloc: Global,
     from: Sources<'_>,
     own: &mut Table<Key, Found>,
-    path: &[u8],
+    site: &Module,
     name: &Text,
 ) -> Result<Option<u32>, NoMemory>
     requires right { IsRight from }
     requires own { IsKept (rules_of (settings_of from)) own.old.entries }
     ensures size { IfOk result
-        (λ size. size ≡ insides.declared_size (settings_of from.entry) path.now name.now) }
+        (λ size. size ≡ insides.declared_size (settings_of from.entry) site.now name.now) }
     ensures kept { IsKept (rules_of (settings_of from.entry)) own.new.entries }
 {
     let what = What::Declared(name.copy(alloc)?);
-    let found = value_of(alloc, from, own, path, what)?;
+    let found = value_of(alloc, from, own, site, what)?;
     size_in(said(from, own, found))
 }
 
@@ -157,44 +157,44 @@ fn push_all_seated(
     Ok(())
 }
 
-/// Adds a gate of a module of that path, which nothing is around.
+/// Adds a gate of a module around which the model connects nothing.
 fn push_declared(
     gates: &mut Items<Gate>,
     alloc: Global,
     from: Sources<'_>,
     own: &mut Table<Key, Found>,
-    path: &[u8],
+    site: &Module,
     gate: &TypeGate,
 ) -> Result<(), NoMemory>
     requires right { IsRight from }
     requires own { IsKept (rules_of (settings_of from)) own.old.entries }
     ensures pushed { OnOk result (gates.new ≡ gates.old ++ insides.with_size gate.now
-        (insides.size_of (insides.declared_size (settings_of from.entry) path.now) gate.now)) }
+        (insides.size_of (insides.declared_size (settings_of from.entry) site.now) gate.now)) }
     ensures kept { IsKept (rules_of (settings_of from.entry)) own.new.entries }
 {
     if !gate.kind.is_vector {
         return push_gate(gates, alloc, gate, Some(1));
     }
-    let size = declared_size(alloc, from, own, path, &gate.name)?;
+    let size = declared_size(alloc, from, own, site, &gate.name)?;
     push_gate(gates, alloc, gate, size)
 }
 
-/// Adds these gates of a module of that path, which nothing is around.
+/// Adds these gates of a module around which the model connects nothing.
 fn push_all_declared(
     gates: &mut Items<Gate>,
     alloc: Global,
     from: Sources<'_>,
     own: &mut Table<Key, Found>,
-    path: &[u8],
+    site: &Module,
     of_type: &[TypeGate],
 ) -> Result<(), NoMemory>
     requires right { IsRight from }
     requires own { IsKept (rules_of (settings_of from)) own.old.entries }
     ensures { OnOk result (gates.new ≡ gates.old ++ insides.sized_gates
-        (insides.declared_size (settings_of from.entry) path.now) of_type.now) }
+        (insides.declared_size (settings_of from.entry) site.now) of_type.now) }
 {
     for gate in of_type {
-        push_declared(gates, alloc, from, own, path, gate)?;
+        push_declared(gates, alloc, from, own, site, gate)?;
     }
     Ok(())
 }
@@ -211,64 +211,90 @@ fn gates_at<'a>(gates: &'a [TypeGates], of_type: Typed<'a>) -> &'a [TypeGate]
     }
 }
 
-/// The part that the module of that path is, in the inside of the module around it.
+/// These gates with the sizes that the connections leave them with, of the part where a module has its
+/// seat.
+fn all_seated(
+    alloc: Global,
+    from: Sources<'_>,
+    seat: Option<PartAt<'_>>,
+    of_type: &[TypeGate],
+) -> Result<Items<Gate>, NoMemory>
+    ensures { IfOk result (λ gates. gates ≡ insides.sized_gates
+        (insides.seated_size (settings_of from.entry) (maybe_seat seat.entry)) of_type.now) }
+{
+    let mut gates = Items::new(alloc);
+    push_all_seated(&mut gates, alloc, from, seat, of_type)?;
+    Ok(gates)
+}
+
+/// The gates of a module with the sizes that the connections around it leave them with.
 fn gates_seated(
     alloc: Global,
     from: Sources<'_>,
     own: &mut Table<Key, Found>,
-    path: &[u8],
+    site: &Module,
     of_type: &[TypeGate],
 ) -> Result<Items<Gate>, NoMemory>
     requires right { IsRight from }
     requires own { IsKept (rules_of (settings_of from)) own.old.entries }
     ensures { IfOk result (λ gates. gates ≡ insides.sized_gates
         (insides.seated_size (settings_of from.entry)
-        (insides.seat_of (settings_of from.entry) path.now)) of_type.now) }
+        (insides.seat_of (settings_of from.entry) site.now)) of_type.now) }
 {
-    let mut gates = Items::new(alloc);
-    match seek(alloc, from, own, path)? {
+    match seek(alloc, from, own, site)? {
         Some(sought) => {
             let seat = seat_of(from, own, &sought)?;
-            push_all_seated(&mut gates, alloc, from, seat, of_type)?;
+            let gates = all_seated(alloc, from, seat, of_type)?;
+            Ok(gates)
         }
-        None => push_all_seated(&mut gates, alloc, from, None, of_type)?,
+        None => {
+            let gates = all_seated(alloc, from, None, of_type)?;
+            Ok(gates)
+        }
     }
-    Ok(gates)
 }
 
-/// All gates of the module of that path that have these of its type.
+/// All gates of a module that has these of its type.
+#[tactic(auto, using(crate::proofs::NoGates::no_gates_in))]
 fn gates_in(
     alloc: Global,
     from: Sources<'_>,
     own: &mut Table<Key, Found>,
-    path: &[u8],
+    site: &Module,
     of_type: &[TypeGate],
 ) -> Result<Items<Gate>, NoMemory>
     requires right { IsRight from }
     requires own { IsKept (rules_of (settings_of from)) own.old.entries }
-    ensures { IfOk result (λ gates. gates ≡ insides.gates_in (settings_of from.entry) path.now
-        (declarer (settings_of from.entry) (keyed.module_at path.now)) of_type.now) }
+    ensures { IfOk result (λ gates. gates ≡ insides.gates_in (settings_of from.entry) site.now
+        (declarer (settings_of from.entry) site.now) of_type.now) }
 {
-    let stands = stands_of(alloc, from, path)?;
+    if of_type.is_empty() {
+        return Ok(Items::new(alloc));
+    }
+    let stands = from.setting.standing(alloc, site)?;
     if declarer_of(&stands).is_some() {
-        return gates_seated(alloc, from, own, path, of_type);
+        return gates_seated(alloc, from, own, site, of_type);
     }
     let mut gates = Items::new(alloc);
-    push_all_declared(&mut gates, alloc, from, own, path, of_type)?;
+    push_all_declared(&mut gates, alloc, from, own, site, of_type)?;
     Ok(gates)
 }
 
-/// All gates of the module of that path, in the order of their declaration.
-pub fn gates_answer(alloc: Global, from: Sources<'_>, path: &[u8]) -> Result<Items<Gate>, NoMemory>
+/// All gates of a module, in the order of their declaration.
+pub fn gates_answer(
+    alloc: Global,
+    from: Sources<'_>,
+    site: &Module,
+) -> Result<Items<Gate>, NoMemory>
     requires { IsRight from }
-    ensures { IfOk result (λ gates. gates ≡ insides.gates_answer (settings_of from.entry) path.now
-        (keyed.type_of (settings_of from.entry) path.now)) }
+    ensures { IfOk result (λ gates. gates ≡ insides.gates_answer (settings_of from.entry) site.now
+        (keyed.type_of (settings_of from.entry) site.now)) }
 {
     let mut own = own_table(alloc, from);
-    match type_of(alloc, from, &mut own, path)? {
+    match type_of(alloc, from, &mut own, site)? {
         Some(of_type) => {
             let of_type = gates_at(from.setting.gates(), of_type);
-            gates_in(alloc, from, &mut own, path, of_type)
+            gates_in(alloc, from, &mut own, site, of_type)
         }
         None => Ok(Items::new(alloc)),
     }
@@ -333,12 +359,12 @@ fn next_inwards(
     )
 }
 
-/// The next gate outwards of the module of that path.
+/// The next gate outwards of a module.
 fn outwards(
     alloc: Global,
     from: Sources<'_>,
     own: &mut Table<Key, Found>,
-    path: &[u8],
+    site: &Module,
     way: Way,
     gate: &Text,
     index: u32,
@@ -346,9 +372,9 @@ fn outwards(
     requires right { IsRight from }
     requires own { IsKept (rules_of (settings_of from)) own.old.entries }
     ensures { IfOk result (λ next. next ≡ insides.next_outwards (settings_of from.entry) way
-        gate.now index (insides.seat_of (settings_of from.entry) path.now)) }
+        gate.now index (insides.seat_of (settings_of from.entry) site.now)) }
 {
-    match seek(alloc, from, own, path)? {
+    match seek(alloc, from, own, site)? {
         Some(sought) => {
             let seat = seat_of(from, own, &sought)?;
             next_outwards(alloc, from, seat, way, gate, index)
@@ -357,12 +383,12 @@ fn outwards(
     }
 }
 
-/// The next gate inwards of the module of that path and type.
+/// The next gate inwards of a module of that type.
 fn inwards(
     alloc: Global,
     from: Sources<'_>,
     own: &mut Table<Key, Found>,
-    path: &[u8],
+    site: &Module,
     declared: &TypeDeclaration,
     way: Way,
     gate: &Text,
@@ -371,20 +397,20 @@ fn inwards(
     requires right { IsRight from }
     requires own { IsKept (rules_of (settings_of from)) own.old.entries }
     ensures { IfOk result (λ next. next ≡ insides.next_inwards (settings_of from.entry) declared.now
-        way gate.now index (insides.inside_of (settings_of from.entry) path.now)) }
+        way gate.now index (insides.inside_of (settings_of from.entry) site.now)) }
 {
-    let found = value_of(alloc, from, own, path, What::Inside)?;
+    let found = value_of(alloc, from, own, site, What::Inside)?;
     let inside = inside_in(said(from, own, found));
     next_inwards(alloc, from, declared, inside, way, gate, index)
 }
 
-/// The next gate after a half of a gate of the module of that path and type, or the one from which
+/// The next gate after a half of a gate of a module of that type, or the one from which
 /// messages come to it.
 fn next_by(
     alloc: Global,
     from: Sources<'_>,
     own: &mut Table<Key, Found>,
-    path: &[u8],
+    site: &Module,
     declared: &TypeDeclaration,
     way: Way,
     half: Half,
@@ -393,32 +419,32 @@ fn next_by(
 ) -> Result<Option<NextGate>, NoMemory>
     requires right { IsRight from }
     requires own { IsKept (rules_of (settings_of from)) own.old.entries }
-    ensures { IfOk result (λ next. next ≡ insides.next_by (settings_of from.entry) path.now
+    ensures { IfOk result (λ next. next ≡ insides.next_by (settings_of from.entry) site.now
         declared.now way half gate.now index) }
 {
     if is_outwards(way, half) {
-        outwards(alloc, from, own, path, way, gate, index)
+        outwards(alloc, from, own, site, way, gate, index)
     } else {
-        inwards(alloc, from, own, path, declared, way, gate, index)
+        inwards(alloc, from, own, site, declared, way, gate, index)
     }
 }
 
-/// The next gate after a gate of the module of that path, or the one from which messages come to
+/// The next gate after a gate of a module, or the one from which messages come to
 /// it.
 pub fn hop_answer(
     alloc: Global,
     from: Sources<'_>,
-    path: &[u8],
+    site: &Module,
     way: Way,
     name: &[u8],
     index: u32,
 ) -> Result<Answer, NoMemory>
     requires { IsRight from }
-    ensures { IfOk result (λ found. found ≡ insides.hop_answer (settings_of from.entry) way path.now
-        (keyed.type_of (settings_of from.entry) path.now) name.now index) }
+    ensures { IfOk result (λ found. found ≡ insides.hop_answer (settings_of from.entry) way site.now
+        (keyed.type_of (settings_of from.entry) site.now) name.now index) }
 {
     let mut own = own_table(alloc, from);
-    let Some(of_type) = type_of(alloc, from, &mut own, path)? else {
+    let Some(of_type) = type_of(alloc, from, &mut own, site)? else {
         return Ok(Answer::Absent);
     };
     let gates = gates_at(from.setting.gates(), of_type);
@@ -426,7 +452,7 @@ pub fn hop_answer(
         Some((gate, half)) => {
             let declared = of_type.declared;
             let next = next_by(
-                alloc, from, &mut own, path, declared, way, half, gate, index,
+                alloc, from, &mut own, site, declared, way, half, gate, index,
             )?;
             Ok(Answer::Next(next))
         }

@@ -48,19 +48,19 @@ pub fn child_path(
 fn connected_answer(
     alloc: Global,
     from: Sources<'_>,
-    path: &[u8],
+    site: &Module,
     declared: &TypeDeclaration,
     inside: &Inside,
 ) -> Result<Answer, NoMemory>
     ensures { IfOk result (λ found. found
-        ≡ insides.connected_answer (settings_of from.entry) path.now declared.now inside.now
+        ≡ insides.connected_answer (settings_of from.entry) site.now declared.now inside.now
         (unconnected declared.now (type_gates (settings_of from.entry)) inside.now)) }
 {
     let lines = declared.submodules.as_slice();
     let parts = inside.parts.parts.as_slice();
     match unconnected(alloc, declared, from.setting.gates(), inside)? {
         Some(_) => {
-            let path = Text::from_bytes(alloc, path)?;
+            let path = site.path.copy(alloc)?;
             Ok(Answer::Fault(path, ModelFault::Unconnected))
         }
         None => Ok(Answer::Inside(built_parts(alloc, from.setting.types(), lines, parts)?)),
@@ -71,50 +71,47 @@ fn connected_answer(
 fn built_answer(
     alloc: Global,
     from: Sources<'_>,
-    path: &[u8],
+    site: &Module,
     declared: &TypeDeclaration,
     found: Result<Found, (Text, ModelFault)>,
 ) -> Result<Answer, NoMemory>
     ensures { IfOk result (λ answer. answer
-        ≡ insides.built_answer (settings_of from.entry) path.now declared.now found) }
+        ≡ insides.built_answer (settings_of from.entry) site.now declared.now found) }
 {
     match found {
-        Ok(Found::Inside(inside)) => connected_answer(alloc, from, path, declared, &inside),
+        Ok(Found::Inside(inside)) => connected_answer(alloc, from, site, declared, &inside),
         Ok(Found::Value(_)) | Ok(Found::Carrier(_)) => Ok(Answer::Absent),
         Err((path, fault)) => Ok(Answer::Fault(path, fault)),
     }
 }
 
-/// The inside of the module of that path, or its first fault with its path.
+/// The inside of a module, or its first fault with its path.
 #[tactic(auto, using(crate::proofs::Placing::found_at))]
 fn inside_found(
     alloc: Global,
     from: Sources<'_>,
     own: &mut Table<Key, Found>,
-    path: &[u8],
+    site: &Module,
 ) -> Result<Result<Found, (Text, ModelFault)>, NoMemory>
     requires { IsKept (rules_of (settings_of from)) own.old.entries }
     ensures { IfOk result
-        (λ found. found ≡ insides.inside_found (settings_of from.entry) path.now) }
+        (λ found. found ≡ insides.inside_found (settings_of from.entry) site.now) }
 {
-    let site = module_of(alloc, path)?;
-    let stands = from.setting.standing(alloc, &site)?;
-    placed(alloc, from.setting, own, &site, stands.around.as_ref())
+    let stands = from.setting.standing(alloc, site)?;
+    placed(alloc, from.setting, own, site, stands.around.as_ref())
 }
 
-/// The inside of the module of that path, where it is kept.
+/// The inside of a module, where it is kept.
 fn kept_inside<'a>(
     alloc: Global,
     from: Sources<'a>,
-    path: &[u8],
+    site: &Module,
 ) -> Result<Option<&'a Inside>, NoMemory>
     requires { IsRight from }
     ensures { IfOk result (λ kept. IfSome kept (λ i.
-        insides.inside_found (settings_of from.entry) path.now ≡ Ok (found_as.Inside i.now))) }
+        insides.inside_found (settings_of from.entry) site.now ≡ Ok (found_as.Inside i.now))) }
 {
-    let site = module_of(alloc, path)?;
-    let what = What::Inside;
-    let key = Key { site, what };
+    let key = site.key(alloc, What::Inside)?;
     let _count = from.kept.len();
     match from.kept.find(&key) {
         Some((_, Found::Inside(inside))) => Ok(Some(inside)),
@@ -122,39 +119,39 @@ fn kept_inside<'a>(
     }
 }
 
-/// What is inside of the compound module of that path and type.
+/// What is inside of a compound module of that type.
 fn built_in(
     alloc: Global,
     from: Sources<'_>,
     own: &mut Table<Key, Found>,
-    path: &[u8],
+    site: &Module,
     declared: &TypeDeclaration,
 ) -> Result<Answer, NoMemory>
     requires right { IsRight from }
     requires own { IsKept (rules_of (settings_of from)) own.old.entries }
-    ensures { IfOk result (λ answer. answer ≡ insides.built_answer (settings_of from.entry) path.now
-        declared.now (insides.inside_found (settings_of from.entry) path.now)) }
+    ensures { IfOk result (λ answer. answer ≡ insides.built_answer (settings_of from.entry) site.now
+        declared.now (insides.inside_found (settings_of from.entry) site.now)) }
 {
-    if let Some(inside) = kept_inside(alloc, from, path)? {
-        return connected_answer(alloc, from, path, declared, inside);
+    if let Some(inside) = kept_inside(alloc, from, site)? {
+        return connected_answer(alloc, from, site, declared, inside);
     }
-    let found = inside_found(alloc, from, own, path)?;
-    built_answer(alloc, from, path, declared, found)
+    let found = inside_found(alloc, from, own, site)?;
+    built_answer(alloc, from, site, declared, found)
 }
 
-/// What is inside of the compound module of that path, or its first fault.
-pub fn inside_answer(alloc: Global, from: Sources<'_>, path: &[u8]) -> Result<Answer, NoMemory>
+/// What is inside of a compound module, or its first fault.
+pub fn inside_answer(alloc: Global, from: Sources<'_>, site: &Module) -> Result<Answer, NoMemory>
     requires { IsRight from }
     ensures { IfOk result (λ answer. answer ≡ insides.inside_answer (settings_of from.entry)
-        path.now (keyed.type_of (settings_of from.entry) path.now)) }
+        site.now (keyed.type_of (settings_of from.entry) site.now)) }
 {
     let mut own = own_table(alloc, from);
-    let Some(of_type) = type_of(alloc, from, &mut own, path)? else {
+    let Some(of_type) = type_of(alloc, from, &mut own, site)? else {
         return Ok(Answer::Absent);
     };
     match of_type.declared.kind {
         TypeKind::Network | TypeKind::Module => {
-            built_in(alloc, from, &mut own, path, of_type.declared)
+            built_in(alloc, from, &mut own, site, of_type.declared)
         }
         TypeKind::Simple
         | TypeKind::Channel

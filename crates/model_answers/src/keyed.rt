@@ -1,8 +1,10 @@
 //! Types of modules, values of parameters, and what is wrong with the network.
 
 ghost use Rattle.std.specs.Prelude.{◌≡◌, ◌++◌, ◌∷◌, [], IfOk, IfSome, OnOk, Some};
+ghost use Rattle.std.specs.List.{list_any};
 ghost use Rattle.std.specs.Option.{option_copied};
 ghost use Rattle.std.specs.Result.{result_ok};
+ghost use Rattle.ned_types.specs.Flat.{or_else};
 ghost use Rattle.param_engine.specs.Tables.{IsKept};
 ghost use Rattle.inside_keys.specs.Asked.{numbered_by};
 ghost use Rattle.inside_keys.specs.Values.{rules_of};
@@ -13,23 +15,27 @@ ghost use Rattle.model_answers.specs.Reading.{maybe_copied, result_copied, setti
 ghost use Rattle.model_answers.specs.Reading.{IsNumbered, IsRight};
 ghost use Rattle.model_questions.specs.Answers.{is_declared, with_value, with_values};
 
-use crate::reading::{Sources, own_table, said, value_of};
+use crate::reading::{Sources, module_of, own_table, said, value_of};
 use inside_keys::found::Found;
-use inside_keys::key::{Key, What};
+use inside_keys::key::{Key, Module, What};
+use inside_keys::planned::Planned;
 use inside_keys::sizes::misplaced;
 use inside_parts::fault::InsideError;
-use inside_parts::gates::{TypeGate, gates_of};
+use inside_parts::gates::{TypeGate, TypeGates, gates_of};
 use inside_run::scene::ModuleSource;
 use inside_walk::submodules::number;
+use model_inside::built::class_to_build;
 use model_questions::answer::Answer;
 use module_api::call::Parameter;
 use ned_trees::declarations::{SectionLine, TypeDeclaration};
 use ned_types::flat::declaration_named;
+use ned_types::given::name_in;
 use param_engine::table::Table;
 use sim_values::NoMemory;
 use sim_values::model_fault::ModelFault;
 use sim_values::text::Text;
 use sim_values::value::Value;
+use sim_values::value_fault::ValueFault;
 use sqlite_items::Items;
 use std::alloc::Global;
 
@@ -77,23 +83,39 @@ fn typed_at(types: &[TypeDeclaration], number: Option<usize>) -> Option<Typed<'_
     }
 }
 
-/// The type of the module of that path.
+/// The number of the type of a module.
+pub fn type_number(
+    alloc: Global,
+    from: Sources<'_>,
+    own: &mut Table<Key, Found>,
+    site: &Module,
+) -> Result<Option<usize>, NoMemory>
+    requires right { IsRight from }
+    requires own { IsKept (rules_of (settings_of from)) own.old.entries }
+    ensures value { IfOk result (λ number. number
+        ≡ keyed.number_in (keyed.value_of (settings_of from.entry) site.now of.Type)) }
+    ensures kept { IsKept (rules_of (settings_of from.entry)) own.new.entries }
+{
+    let found = value_of(alloc, from, own, site, What::Type)?;
+    number_in(said(from, own, found))
+}
+
+/// The type of a module.
 pub fn type_of<'a>(
     alloc: Global,
     from: Sources<'a>,
     own: &mut Table<Key, Found>,
-    path: &[u8],
+    site: &Module,
 ) -> Result<Option<Typed<'a>>, NoMemory>
     requires right { IsRight from }
     requires own { IsKept (rules_of (settings_of from)) own.old.entries }
     ensures value { IfOk result
-        (λ found. type_by found ≡ keyed.type_of (settings_of from.entry) path.now) }
+        (λ found. type_by found ≡ keyed.type_of (settings_of from.entry) site.now) }
     ensures there { IfOk result
         (λ found. IfSome found (λ t. IsNumbered (settings_of from.entry) t)) }
     ensures kept { IsKept (rules_of (settings_of from.entry)) own.new.entries }
 {
-    let found = value_of(alloc, from, own, path, What::Type)?;
-    let number = number_in(said(from, own, found))?;
+    let number = type_number(alloc, from, own, site)?;
     Ok(typed_at(from.setting.types(), number))
 }
 
@@ -115,24 +137,24 @@ fn answer_by(
     }
 }
 
-/// The value of a parameter of the module of that path.
+/// The value of a parameter of a module.
 pub fn value_answer(
     alloc: Global,
     from: Sources<'_>,
     own: &mut Table<Key, Found>,
-    path: &[u8],
+    site: &Module,
     name: &[u8],
 ) -> Result<Answer, NoMemory>
     requires right { IsRight from }
     requires own { IsKept (rules_of (settings_of from)) own.old.entries }
-    ensures value { IfOk result (λ found. found ≡ keyed.value_answer path.now
-        (keyed.value_of (settings_of from.entry) path.now (of.Param name.now))) }
+    ensures value { IfOk result (λ found. found ≡ keyed.value_answer site.now.path
+        (keyed.value_of (settings_of from.entry) site.now (of.Param name.now))) }
     ensures kept { IsKept (rules_of (settings_of from.entry)) own.new.entries }
 {
     let what = What::Param(Text::from_bytes(alloc, name)?);
-    let found = value_of(alloc, from, own, path, what)?;
+    let found = value_of(alloc, from, own, site, what)?;
     match said(from, own, found) {
-        Some(found) => answer_by(alloc, path, found),
+        Some(found) => answer_by(alloc, site.path.as_bytes(), found),
         None => Ok(Answer::Absent),
     }
 }
@@ -147,48 +169,49 @@ fn is_declared(name: &[u8], lines: &[SectionLine]) -> bool
     }
 }
 
-/// The value of a parameter of the module of that path, where its type declares one of that name.
+/// The value of a parameter of a module, where its type declares one of that name.
 pub fn param_answer(
     alloc: Global,
     from: Sources<'_>,
-    path: &[u8],
+    site: &Module,
     name: &[u8],
 ) -> Result<Answer, NoMemory>
     requires { IsRight from }
-    ensures { IfOk result (λ found. found ≡ keyed.declared_answer (settings_of from.entry) path.now
-        (keyed.type_of (settings_of from.entry) path.now) name.now) }
+    ensures { IfOk result (λ found. found ≡ keyed.declared_answer (settings_of from.entry) site.now
+        (keyed.type_of (settings_of from.entry) site.now) name.now) }
 {
     let mut own = own_table(alloc, from);
-    let Some(of_type) = type_of(alloc, from, &mut own, path)? else {
+    let Some(of_type) = type_of(alloc, from, &mut own, site)? else {
         return Ok(Answer::Absent);
     };
     if !is_declared(name, of_type.declared.lines.as_slice()) {
         return Ok(Answer::Absent);
     }
-    value_answer(alloc, from, &mut own, path, name)
+    value_answer(alloc, from, &mut own, site, name)
 }
 
-/// Adds a parameter of the module of that path, where it has a value.
+/// Adds a parameter of a module, where it has a value.
 fn push_parameter(
     parameters: &mut Items<Parameter>,
     alloc: Global,
     from: Sources<'_>,
     own: &mut Table<Key, Found>,
-    path: &[u8],
+    site: &Module,
     name: &[u8],
 ) -> Result<(), NoMemory>
     requires right { IsRight from }
     requires own { IsKept (rules_of (settings_of from)) own.old.entries }
     ensures pushed { OnOk result (parameters.new ≡ parameters.old
-        ++ with_value name.now (keyed.value_in (settings_of from.entry) path.now name.now) []) }
+        ++ with_value name.now (keyed.value_in (settings_of from.entry) site.now name.now) []) }
     ensures kept { IsKept (rules_of (settings_of from.entry)) own.new.entries }
 {
-    match value_answer(alloc, from, own, path, name)? {
+    match value_answer(alloc, from, own, site, name)? {
         Answer::Value(value) => parameters.push(Parameter {
             name: Text::from_bytes(alloc, name)?,
             value,
         })?,
         Answer::Root(_)
+        | Answer::Class(_)
         | Answer::Inside(_)
         | Answer::Gate(_)
         | Answer::Next(_)
@@ -206,13 +229,13 @@ fn push_line(
     alloc: Global,
     from: Sources<'_>,
     own: &mut Table<Key, Found>,
-    path: &[u8],
+    site: &Module,
     line: &SectionLine,
 ) -> Result<(), NoMemory>
     requires right { IsRight from }
     requires own { IsKept (rules_of (settings_of from)) own.old.entries }
     ensures pushed { OnOk result (parameters.new ≡ parameters.old ++ with_values
-        (keyed.value_in (settings_of from.entry) path.now) (keyed.names_in (line.now ∷ []))) }
+        (keyed.value_in (settings_of from.entry) site.now) (keyed.names_in (line.now ∷ []))) }
     ensures kept { IsKept (rules_of (settings_of from.entry)) own.new.entries }
 {
     let SectionLine::Declaration(declaration) = line else {
@@ -223,7 +246,7 @@ fn push_line(
         alloc,
         from,
         own,
-        path,
+        site,
         declaration.name.as_bytes(),
     )
 }
@@ -234,37 +257,37 @@ fn push_lines(
     alloc: Global,
     from: Sources<'_>,
     own: &mut Table<Key, Found>,
-    path: &[u8],
+    site: &Module,
     lines: &[SectionLine],
 ) -> Result<(), NoMemory>
     requires right { IsRight from }
     requires own { IsKept (rules_of (settings_of from)) own.old.entries }
     ensures { OnOk result (parameters.new ≡ parameters.old ++ with_values
-        (keyed.value_in (settings_of from.entry) path.now) (keyed.names_in lines.now)) }
+        (keyed.value_in (settings_of from.entry) site.now) (keyed.names_in lines.now)) }
 {
     for line in lines {
-        push_line(parameters, alloc, from, own, path, line)?;
+        push_line(parameters, alloc, from, own, site, line)?;
     }
     Ok(())
 }
 
-/// All parameters of the module of that path that have values, in the order of their declaration.
+/// All parameters of a module that have values, in the order of their declaration.
 pub fn parameters_by(
     alloc: Global,
     from: Sources<'_>,
-    path: &[u8],
+    site: &Module,
 ) -> Result<Items<Parameter>, NoMemory>
     requires { IsRight from }
     ensures { IfOk result (λ parameters. parameters ≡ keyed.parameters_by (settings_of from.entry)
-        path.now (keyed.type_of (settings_of from.entry) path.now)) }
+        site.now (keyed.type_of (settings_of from.entry) site.now)) }
 {
     let mut parameters = Items::new(alloc);
     let mut own = own_table(alloc, from);
-    let Some(of_type) = type_of(alloc, from, &mut own, path)? else {
+    let Some(of_type) = type_of(alloc, from, &mut own, site)? else {
         return Ok(parameters);
     };
     let lines = of_type.declared.lines.as_slice();
-    push_lines(&mut parameters, alloc, from, &mut own, path, lines)?;
+    push_lines(&mut parameters, alloc, from, &mut own, site, lines)?;
     Ok(parameters)
 }
 
@@ -280,21 +303,21 @@ fn fault_in(found: Option<Result<&Found, ModelFault>>) -> Option<ModelFault>
     }
 }
 
-/// The fault of something of the module of that path, if it has one.
+/// The fault of something of a module, if it has one.
 fn fault_of(
     alloc: Global,
     from: Sources<'_>,
     own: &mut Table<Key, Found>,
-    path: &[u8],
+    site: &Module,
     what: What,
 ) -> Result<Option<ModelFault>, NoMemory>
     requires right { IsRight from }
     requires own { IsKept (rules_of (settings_of from)) own.old.entries }
     ensures value { IfOk result
-        (λ fault. fault ≡ keyed.fault_in (keyed.value_of (settings_of from.entry) path.now what)) }
+        (λ fault. fault ≡ keyed.fault_in (keyed.value_of (settings_of from.entry) site.now what)) }
     ensures kept { IsKept (rules_of (settings_of from.entry)) own.new.entries }
 {
-    let found = value_of(alloc, from, own, path, what)?;
+    let found = value_of(alloc, from, own, site, what)?;
     Ok(fault_in(said(from, own, found)))
 }
 
@@ -303,40 +326,40 @@ fn fault_of_line(
     alloc: Global,
     from: Sources<'_>,
     own: &mut Table<Key, Found>,
-    path: &[u8],
+    site: &Module,
     line: &SectionLine,
 ) -> Result<Option<ModelFault>, NoMemory>
     requires right { IsRight from }
     requires own { IsKept (rules_of (settings_of from)) own.old.entries }
     ensures value { IfOk result
-        (λ fault. fault ≡ keyed.fault_of_line (settings_of from.entry) path.now line.now) }
+        (λ fault. fault ≡ keyed.fault_of_line (settings_of from.entry) site.now line.now) }
     ensures kept { IsKept (rules_of (settings_of from.entry)) own.new.entries }
 {
     match line {
         SectionLine::Declaration(declaration) => {
             let what = What::Param(declaration.name.copy(alloc)?);
-            fault_of(alloc, from, own, path, what)
+            fault_of(alloc, from, own, site, what)
         }
         _ => Ok(None),
     }
 }
 
-/// The first fault of the parameters that these lines declare of the module of that path.
+/// The first fault of the parameters of a module that these lines declare.
 fn fault_of_lines(
     alloc: Global,
     from: Sources<'_>,
     own: &mut Table<Key, Found>,
-    path: &[u8],
+    site: &Module,
     lines: &[SectionLine],
 ) -> Result<Option<ModelFault>, NoMemory>
     requires right { IsRight from }
     requires own { IsKept (rules_of (settings_of from)) own.old.entries }
     ensures value { IfOk result
-        (λ fault. fault ≡ keyed.fault_of_lines (settings_of from.entry) path.now lines.now) }
+        (λ fault. fault ≡ keyed.fault_of_lines (settings_of from.entry) site.now lines.now) }
     ensures kept { OnOk result (IsKept (rules_of (settings_of from.entry)) own.new.entries) }
 {
     for line in lines {
-        if let Some(fault) = fault_of_line(alloc, from, own, path, line)? {
+        if let Some(fault) = fault_of_line(alloc, from, own, site, line)? {
             return Ok(Some(fault));
         }
     }
@@ -348,20 +371,20 @@ fn fault_of_size(
     alloc: Global,
     from: Sources<'_>,
     own: &mut Table<Key, Found>,
-    path: &[u8],
+    site: &Module,
     gate: &TypeGate,
 ) -> Result<Option<ModelFault>, NoMemory>
     requires right { IsRight from }
     requires own { IsKept (rules_of (settings_of from)) own.old.entries }
     ensures value { IfOk result
-        (λ fault. fault ≡ keyed.fault_of_size (settings_of from.entry) path.now gate.now) }
+        (λ fault. fault ≡ keyed.fault_of_size (settings_of from.entry) site.now gate.now) }
     ensures kept { IsKept (rules_of (settings_of from.entry)) own.new.entries }
 {
     if !gate.kind.is_vector {
         return Ok(None);
     }
     let what = What::Declared(gate.name.copy(alloc)?);
-    fault_of(alloc, from, own, path, what)
+    fault_of(alloc, from, own, site, what)
 }
 
 /// The first fault of the declared sizes of these gates.
@@ -369,16 +392,16 @@ fn fault_of_sizes(
     alloc: Global,
     from: Sources<'_>,
     own: &mut Table<Key, Found>,
-    path: &[u8],
+    site: &Module,
     gates: &[TypeGate],
 ) -> Result<Option<ModelFault>, NoMemory>
     requires right { IsRight from }
     requires own { IsKept (rules_of (settings_of from)) own.old.entries }
     ensures { IfOk result
-        (λ fault. fault ≡ keyed.fault_of_sizes (settings_of from.entry) path.now gates.now) }
+        (λ fault. fault ≡ keyed.fault_of_sizes (settings_of from.entry) site.now gates.now) }
 {
     for gate in gates {
-        if let Some(fault) = fault_of_size(alloc, from, own, path, gate)? {
+        if let Some(fault) = fault_of_size(alloc, from, own, site, gate)? {
             return Ok(Some(fault));
         }
     }
@@ -390,17 +413,17 @@ fn fault_of_misplaced(
     alloc: Global,
     from: Sources<'_>,
     own: &mut Table<Key, Found>,
-    path: &[u8],
+    site: &Module,
     name: Option<&Text>,
 ) -> Result<Option<ModelFault>, NoMemory>
     requires right { IsRight from }
     requires own { IsKept (rules_of (settings_of from)) own.old.entries }
     ensures value { IfOk result (λ fault. fault ≡ keyed.fault_of_misplaced (settings_of from.entry)
-        path.now (option_copied name.entry)) }
+        site.now (option_copied name.entry)) }
     ensures kept { OnOk result (IsKept (rules_of (settings_of from.entry)) own.new.entries) }
 {
     match name {
-        Some(name) => fault_of(alloc, from, own, path, What::Declared(name.copy(alloc)?)),
+        Some(name) => fault_of(alloc, from, own, site, What::Declared(name.copy(alloc)?)),
         None => Ok(None),
     }
 }
@@ -410,20 +433,20 @@ fn fault_of_gates(
     alloc: Global,
     from: Sources<'_>,
     own: &mut Table<Key, Found>,
-    path: &[u8],
+    site: &Module,
     declared: &TypeDeclaration,
+    gates: &TypeGates,
 ) -> Result<Option<ModelFault>, NoMemory>
     requires right { IsRight from }
     requires own { IsKept (rules_of (settings_of from)) own.old.entries }
-    ensures { IfOk result (λ fault. fault ≡ keyed.fault_of_gates (settings_of from.entry) path.now
-        declared.now (type_gates.gates_of declared.now.gates)) }
+    ensures { IfOk result (λ fault. fault
+        ≡ keyed.fault_of_gates (settings_of from.entry) site.now declared.now gates.now) }
 {
-    let gates = gates_of(alloc, declared.gates.as_slice())?;
-    let misplaced = misplaced(&gates, declared.gates.as_slice());
-    if let Some(fault) = fault_of_misplaced(alloc, from, own, path, misplaced)? {
+    let misplaced = misplaced(gates, declared.gates.as_slice());
+    if let Some(fault) = fault_of_misplaced(alloc, from, own, site, misplaced)? {
         return Ok(Some(fault));
     }
-    fault_of_sizes(alloc, from, own, path, gates.gates.as_slice())
+    fault_of_sizes(alloc, from, own, site, gates.gates.as_slice())
 }
 
 /// The first fault of the network of that type: of its parameters, and then of the sizes of its
@@ -438,11 +461,12 @@ fn fault_of_network(
         (λ fault. fault ≡ keyed.fault_of_network (settings_of from.entry) network.now) }
 {
     let mut own = own_table(alloc, from);
-    let path = network.name.as_bytes();
-    if let Some(fault) = fault_of_lines(alloc, from, &mut own, path, network.lines.as_slice())? {
+    let site = module_of(alloc, network.name.as_bytes())?;
+    if let Some(fault) = fault_of_lines(alloc, from, &mut own, &site, network.lines.as_slice())? {
         return Ok(Some(fault));
     }
-    fault_of_gates(alloc, from, &mut own, path, network)
+    let gates = gates_of(alloc, network.gates.as_slice())?;
+    fault_of_gates(alloc, from, &mut own, &site, network, &gates)
 }
 
 /// Which network is run, or its first fault.
@@ -463,5 +487,133 @@ pub fn root_answer(
     match fault {
         Some(fault) => Ok(Answer::Fault(name, fault)),
         None => Ok(Answer::Root(name)),
+    }
+}
+
+// ---- modules that were created
+
+/// Whether a line names what is no parameter that these lines declare.
+fn is_undeclared(lines: &[SectionLine], line: &SectionLine) -> bool
+    ensures { result ≡ keyed.is_undeclared lines.now line.now }
+{
+    !is_declared(name_in(line), lines)
+}
+
+/// Whether one of these lines does.
+fn has_undeclared(lines: &[SectionLine], given: &[SectionLine]) -> bool
+    ensures { result ≡ list_any (λ l. keyed.is_undeclared lines.now l) given.now }
+{
+    given.iter().any(|line| is_undeclared(lines, line))
+}
+
+/// What is wrong with a plan, whatever its values are.
+fn fault_of_plan(
+    declared: &TypeDeclaration,
+    gates: &TypeGates,
+    planned: &Planned,
+) -> Option<ModelFault>
+    ensures { result ≡ keyed.fault_of_plan declared.now gates.now planned.now }
+{
+    if has_undeclared(declared.lines.as_slice(), planned.body.lines.as_slice()) {
+        return Some(ModelFault::Value(ValueFault::Mismatch));
+    }
+    match misplaced(gates, planned.body.gates.as_slice()) {
+        Some(_) => Some(ModelFault::NoGate),
+        None => None,
+    }
+}
+
+/// The first fault of the parameters of a module of that type, and then of the sizes of its gates.
+fn fault_of_values(
+    alloc: Global,
+    from: Sources<'_>,
+    own: &mut Table<Key, Found>,
+    site: &Module,
+    declared: &TypeDeclaration,
+    gates: &TypeGates,
+) -> Result<Option<ModelFault>, NoMemory>
+    requires right { IsRight from }
+    requires own { IsKept (rules_of (settings_of from)) own.old.entries }
+    ensures { IfOk result (λ fault. fault ≡ or_else
+        (keyed.fault_of_lines (settings_of from.entry) site.now declared.now.lines)
+        (keyed.fault_of_gates (settings_of from.entry) site.now declared.now gates.now)) }
+{
+    if let Some(fault) = fault_of_lines(alloc, from, own, site, declared.lines.as_slice())? {
+        return Ok(Some(fault));
+    }
+    fault_of_gates(alloc, from, own, site, declared, gates)
+}
+
+/// The first fault of a module of that type that was created so.
+fn fault_of_created(
+    alloc: Global,
+    from: Sources<'_>,
+    own: &mut Table<Key, Found>,
+    site: &Module,
+    declared: &TypeDeclaration,
+    planned: &Planned,
+) -> Result<Option<ModelFault>, NoMemory>
+    requires right { IsRight from }
+    requires own { IsKept (rules_of (settings_of from)) own.old.entries }
+    ensures { IfOk result (λ fault. fault
+        ≡ keyed.fault_of_created (settings_of from.entry) site.now declared.now
+        (type_gates.gates_of declared.now.gates) planned.now) }
+{
+    let gates = gates_of(alloc, declared.gates.as_slice())?;
+    if let Some(fault) = fault_of_plan(declared, &gates, planned) {
+        return Ok(Some(fault));
+    }
+    fault_of_values(alloc, from, own, site, declared, &gates)
+}
+
+/// The class of a module of that type, or that fault.
+fn class_without(
+    alloc: Global,
+    site: &Module,
+    declared: &TypeDeclaration,
+    fault: Option<ModelFault>,
+) -> Result<Answer, NoMemory>
+    ensures { IfOk result
+        (λ answer. answer ≡ keyed.class_without site.now declared.now fault) }
+{
+    match fault {
+        Some(fault) => Ok(Answer::Fault(site.path.copy(alloc)?, fault)),
+        None => Ok(Answer::Class(class_to_build(alloc, declared)?)),
+    }
+}
+
+/// The class of a module that was created so, or its first fault.
+fn class_of(
+    alloc: Global,
+    from: Sources<'_>,
+    site: &Module,
+    planned: &Planned,
+) -> Result<Answer, NoMemory>
+    requires { IsRight from }
+    ensures { IfOk result (λ answer. answer ≡ keyed.class_by (settings_of from.entry) site.now
+        planned.now (keyed.fault_in (keyed.value_of (settings_of from.entry) site.now of.Type))
+        (keyed.type_of (settings_of from.entry) site.now)) }
+{
+    let mut own = own_table(alloc, from);
+    if let Some(fault) = fault_of(alloc, from, &mut own, site, What::Type)? {
+        return Ok(Answer::Fault(site.path.copy(alloc)?, fault));
+    }
+    let Some(of_type) = type_of(alloc, from, &mut own, site)? else {
+        return Ok(Answer::Absent);
+    };
+    let declared = of_type.declared;
+    let fault = fault_of_created(alloc, from, &mut own, site, declared, planned)?;
+    class_without(alloc, site, declared, fault)
+}
+
+/// The class of a module, where it was created while the run went on.
+pub fn class_answer(alloc: Global, from: Sources<'_>, site: &Module) -> Result<Answer, NoMemory>
+    requires { IsRight from }
+    ensures { IfOk result (λ answer. answer ≡ keyed.class_answer (settings_of from.entry) site.now
+        ((settings_of from.entry).planned site.now)) }
+{
+    match from.setting.planned(site) {
+        Some(planned) => class_of(alloc, from, site, planned),
+        None => Ok(Answer::Absent),
     }
 }

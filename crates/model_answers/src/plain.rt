@@ -4,13 +4,13 @@ ghost use Rattle.std.specs.Prelude.{◌≡◌, IfOk};
 ghost use Rattle.std.specs.Option.{option_copied};
 ghost use Rattle.model_answers.specs.Answering.{answers_of, type_at};
 ghost use Rattle.model_answers.specs.Keyed as keyed;
-ghost use Rattle.model_answers.specs.Reading.{IsRight};
+ghost use Rattle.model_answers.specs.Reading.{AreOfModel};
 ghost use Rattle.model_settings.specs.Standings.{setting_of};
 ghost use Rattle.model_questions.specs.Answers.{answer_of, gates_of, parameters_of};
 
 use crate::answering::{answer, gates_of, parameters_of, type_at, type_of_path, value_of_path};
 use crate::evaluated::EvaluatedModel;
-use crate::reading::Sources;
+use crate::placed::ModelValues;
 use inside_keys::found::Found;
 use inside_keys::key::Key;
 use model_data::model::Model;
@@ -78,11 +78,11 @@ impl<'m> PlainAnswers<'m> {
     }
 
     /// The model, and what is kept.
-    fn sources(&self) -> Sources<'_>
+    fn values(&self) -> ModelValues<'_>
         ensures model { result.setting.now ≡ self.now }
-        ensures right { IsRight result }
+        ensures right { AreOfModel result }
     {
-        Sources {
+        ModelValues {
             setting: &self.setting,
             kept: self.kept,
         }
@@ -98,7 +98,7 @@ impl<'m> PlainAnswers<'m> {
         ensures { IfOk result
             (λ found. found ≡ answer_of (answers_of self.now) records.now question.now) }
     {
-        answer(alloc, self.sources(), records, question)
+        answer(alloc, self.values(), records, question)
     }
 
     /// All parameters of the module of that id and their values, in the order of their declaration.
@@ -111,7 +111,7 @@ impl<'m> PlainAnswers<'m> {
         ensures { IfOk result
             (λ parameters. parameters ≡ parameters_of (answers_of self.now) records.now id) }
     {
-        parameters_of(alloc, self.sources(), records, id)
+        parameters_of(alloc, self.values(), records, id)
     }
 
     /// All gates of the module of that id, in the order of their declaration.
@@ -123,7 +123,7 @@ impl<'m> PlainAnswers<'m> {
     ) -> Result<Items<Gate>, NoMemory>
         ensures { IfOk result (λ gates. gates ≡ gates_of (answers_of self.now) records.now id) }
     {
-        gates_of(alloc, self.sources(), records, id)
+        gates_of(alloc, self.values(), records, id)
     }
 
     /// The type of the module of that id.
@@ -135,7 +135,7 @@ impl<'m> PlainAnswers<'m> {
     ) -> Result<Option<&TypeDeclaration>, NoMemory>
         ensures { IfOk result (λ found. option_copied found ≡ type_at self.now records.now id) }
     {
-        type_at(alloc, self.sources(), records, id)
+        type_at(alloc, self.values(), records, id)
     }
 
     /// The type of the module of that path.
@@ -145,17 +145,18 @@ impl<'m> PlainAnswers<'m> {
         path: &[u8],
     ) -> Result<Option<&TypeDeclaration>, NoMemory>
         ensures { IfOk result
-            (λ found. option_copied found ≡ keyed.type_of (setting_of self.now) path.now) }
+            (λ found. option_copied found
+            ≡ keyed.type_of (setting_of self.now) (keyed.module_at path.now)) }
     {
-        type_of_path(alloc, self.sources(), path)
+        type_of_path(alloc, self.values(), path)
     }
 
     /// The value of a parameter of the module of that path, or its fault.
     pub fn value_at_path(&self, alloc: Global, path: &[u8], name: &[u8]) -> Result<Answer, NoMemory>
-        ensures { IfOk result
-            (λ found. found ≡ keyed.value_in (setting_of self.now) path.now name.now) }
+        ensures { IfOk result (λ found. found
+            ≡ keyed.value_in (setting_of self.now) (keyed.module_at path.now) name.now) }
     {
-        value_of_path(alloc, self.sources(), path, name)
+        value_of_path(alloc, self.values(), path, name)
     }
 
     /// The time after which no event is executed, in picoseconds.

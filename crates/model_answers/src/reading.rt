@@ -12,17 +12,18 @@ ghost use Rattle.model_answers.specs.Reading.{IsRight};
 use inside_keys::found::Found;
 use inside_keys::key::{Key, Module, What};
 use inside_run::values;
-use model_settings::setting::ModelSetting;
+use model_settings::created::RunSetting;
 use param_engine::table::Table;
 use sim_values::NoMemory;
 use sim_values::model_fault::ModelFault;
 use sim_values::text::Text;
 use std::alloc::Global;
 
-/// A model, and values that are kept.
+/// What a model says of its modules, with those of a line that were created, and values that are
+/// kept of these.
 #[derive(Clone, Copy)]
 pub struct Sources<'a> {
-    pub setting: &'a ModelSetting<'a>,
+    pub setting: &'a RunSetting<'a>,
     pub kept: &'a Table<Key, Found>,
 }
 
@@ -91,7 +92,7 @@ pub fn said<'a>(
     }
 }
 
-/// The module of that path.
+/// The module of that path, where none was created while the model ran.
 pub fn module_of(alloc: Global, path: &[u8]) -> Result<Module, NoMemory>
     ensures { IfOk result (λ m. m ≡ keyed.module_at path.now) }
 {
@@ -101,20 +102,20 @@ pub fn module_of(alloc: Global, path: &[u8]) -> Result<Module, NoMemory>
     })
 }
 
-/// Where the value of something of the module of that path stands, or its fault.
+/// Where the value of something of a module stands, or its fault.
 pub fn value_of(
     alloc: Global,
     from: Sources<'_>,
     own: &mut Table<Key, Found>,
-    path: &[u8],
+    site: &Module,
     what: What,
 ) -> Result<Result<Spot, ModelFault>, NoMemory>
     requires right { IsRight from }
     requires own { IsKept (rules_of (settings_of from)) own.old.entries }
     ensures value { IfOk result (λ found. spotted from.entry own.new.entries found
-        ≡ Some (keyed.value_of (settings_of from.entry) path.now what)) }
+        ≡ Some (keyed.value_of (settings_of from.entry) site.now what)) }
     ensures kept { IsKept (rules_of (settings_of from.entry)) own.new.entries }
 {
-    let site = module_of(alloc, path)?;
-    find(alloc, from, own, Key { site, what })
+    let key = site.key(alloc, what)?;
+    find(alloc, from, own, key)
 }

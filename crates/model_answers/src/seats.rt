@@ -14,7 +14,7 @@ ghost use Rattle.model_answers.specs.Reading.{maybe_copied, maybe_seat, settings
 ghost use Rattle.model_answers.specs.Reading.{type_by, IsNumbered, IsRight};
 
 use crate::keyed::{Typed, type_of};
-use crate::reading::{Sources, Spot, module_of, said, value_of};
+use crate::reading::{Sources, Spot, said, value_of};
 use inside_keys::found::{Found, Inside};
 use inside_keys::key::{Key, Module, What};
 use inside_parts::fault::InsideError;
@@ -45,15 +45,6 @@ pub struct Sought<'a> {
     pub inside: Result<Spot, ModelFault>,
 }
 
-/// Where the module of that path stands.
-pub fn stands_of(alloc: Global, from: Sources<'_>, path: &[u8]) -> Result<Stands, NoMemory>
-    ensures { IfOk result (λ stands. standing_by stands
-        ≡ (settings_of from.entry).stands (keyed.module_at path.now)) }
-{
-    let site = module_of(alloc, path)?;
-    from.setting.standing(alloc, &site)
-}
-
 /// The module whose type declares one that stands there.
 pub fn declarer_of(stands: &Stands) -> Option<&Module>
     ensures { option_copied result ≡ declarer_of (standing_by stands.now) }
@@ -76,13 +67,13 @@ pub fn inside_in<'a>(found: Option<Result<&'a Found, ModelFault>>) -> Option<&'a
     }
 }
 
-/// Looks for a module that stands there, in a module of that path.
+/// Looks for a module that stands there, in that one.
 fn seek_in<'a>(
     alloc: Global,
     from: Sources<'a>,
     own: &mut Table<Key, Found>,
     stands: Stands,
-    around: &[u8],
+    around: &Module,
 ) -> Result<Sought<'a>, NoMemory>
     requires right { IsRight from }
     requires own { IsKept (rules_of (settings_of from)) own.old.entries }
@@ -102,27 +93,28 @@ fn seek_in<'a>(
     })
 }
 
-/// Looks for the module of that path in the module around it; none is around the network.
+/// Looks for a module in the one whose type declares it; no type declares the network, and what was
+/// created while the run went on.
 pub fn seek<'a>(
     alloc: Global,
     from: Sources<'a>,
     own: &mut Table<Key, Found>,
-    path: &[u8],
+    site: &Module,
 ) -> Result<Option<Sought<'a>>, NoMemory>
     requires right { IsRight from }
     requires own { IsKept (rules_of (settings_of from)) own.old.entries }
     ensures sought { IfOk result (λ sought. sought_seat from.entry own.new.entries sought
-        ≡ insides.seat_of (settings_of from.entry) path.now) }
+        ≡ insides.seat_of (settings_of from.entry) site.now) }
     ensures there { IfOk result (λ sought.
         IfSome sought (λ s. IfSome s.of_type (λ t. IsNumbered (settings_of from.entry) t))) }
     ensures kept { IsKept (rules_of (settings_of from.entry)) own.new.entries }
 {
-    let stands = stands_of(alloc, from, path)?;
+    let stands = from.setting.standing(alloc, site)?;
     let around = match declarer_of(&stands) {
-        Some(around) => around.path.copy(alloc)?,
+        Some(around) => around.copy(alloc)?,
         None => return Ok(None),
     };
-    Ok(Some(seek_in(alloc, from, own, stands, around.as_bytes())?))
+    Ok(Some(seek_in(alloc, from, own, stands, &around)?))
 }
 
 /// The part of an inside that a module is which stands there, where the submodules have these

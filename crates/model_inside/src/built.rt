@@ -15,7 +15,7 @@ use sqlite_items::Items;
 use std::alloc::Global;
 
 /// The class that a module of the type has, none for a compound module.
-fn class_to_build(alloc: Global, declared: &TypeDeclaration) -> Result<Option<Text>, NoMemory>
+pub fn class_to_build(alloc: Global, declared: &TypeDeclaration) -> Result<Option<Text>, NoMemory>
     ensures { IfOk result (λ class. class ≡ class_to_build declared.now) }
 {
     match declared.kind {

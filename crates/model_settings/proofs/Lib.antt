@@ -1,2 +1,3 @@
+pub mod Before
 mod Once
 mod Paths

@@ -55,9 +55,9 @@ index_in own = index_behind own (bracket_of own)
 abbrev pub around_of : Module → Option Module
 around_of m = option_map (λ path. record { created = m.created; path = path }) (before_last m.path)
 
--- WHERE A MODULE STANDS: what is before the last dot of its path is the module around, after it are
--- its name and its index. The network's path has no dot. Each is declared: none is created while a
--- model runs yet.
+-- WHERE A MODULE STANDS that was not created while the model ran: what is before the last dot of
+-- its path is the module around, after it are its name and its index. The network's path has no
+-- dot. Each is declared by the type of the module around.
 abbrev pub standing_of : Module → Whereabouts
 standing_of m = record {
   around = around_of m;
@@ -83,11 +83,12 @@ names_of_types types = map (λ (t : TypeDeclaration). t.name) types
 abbrev pub number_of : List TypeDeclaration → TypeDeclaration → Option ℕ
 number_of types t = position_of t.name (names_of_types types)
 
--- ALL THAT THE VALUES OF A MODEL REST ON
+-- ALL THAT THE VALUES OF A MODEL REST ON, where no module was created while it ran
 unfoldable pub setting_of : Model → ModuleRules
 setting_of m = record {
   stands = standing_of;
   root = λ site. option_and_then (number_of m.types) (network_of m);
+  planned = λ site. None;
   is_too_deep = λ site. is_too_deep site.path;
   entry = λ path. value_for path (entries_in m);
   types = m.types;

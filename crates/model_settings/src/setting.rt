@@ -12,6 +12,7 @@ use ini_trees::entries::value_for;
 use ini_trees::entry::EntryValue;
 use ini_trees::speaks::last_name;
 use inside_keys::key::Module;
+use inside_keys::planned::Planned;
 use inside_parts::gates::{TypeGates, gates_of};
 use inside_parts::names::Names;
 use inside_run::scene::{ModuleSource, Stands};
@@ -201,6 +202,12 @@ impl<'m> ModuleSource for ModelSetting<'m> {
             index: wide(index_in(own)),
             is_declared: true,
         })
+    }
+
+    #[tactic(auto, unfolding(crate::specs::Standings::setting_of))]
+    fn planned(&self, site: &Module) -> Option<&Planned> {
+        let (_model, _site) = (self.model, site);
+        None
     }
 
     #[tactic(auto, unfolding(crate::specs::Standings::setting_of))]

@@ -3,3 +3,4 @@ pub mod Noted
 pub mod Hearers
 pub mod Reading
 pub mod Unwanted
+mod Wanting

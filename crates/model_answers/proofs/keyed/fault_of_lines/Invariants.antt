@@ -7,6 +7,6 @@ use Rattle.model_answers.proofs.keyed.fault_of_lines.Given as goal
 
 abbrev pub invariant-loop-line : goal.invariant-loop-line
 invariant-loop-line l = record {
-  same : fault_of_lines (settings_of l.from) l.path (drop l.line-index l.lines) ≡ fault_of_lines (settings_of l.from) l.path l.lines;
+  same : fault_of_lines (settings_of l.from) l.site (drop l.line-index l.lines) ≡ fault_of_lines (settings_of l.from) l.site l.lines;
   kept : IsKept (rules_of (settings_of l.from)) l.own.entries;
 }

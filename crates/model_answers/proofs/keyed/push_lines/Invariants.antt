@@ -8,7 +8,7 @@ use Rattle.model_answers.proofs.keyed.push_lines.Given as goal
 
 abbrev pub invariant-loop-line : goal.invariant-loop-line
 invariant-loop-line l = record {
-  pushed : l.parameters ++ with_values (value_in (settings_of l.from) l.path) (names_in (drop l.line-index l.lines))
-      ≡ l.fn.parameters ++ with_values (value_in (settings_of l.from) l.path) (names_in l.lines);
+  pushed : l.parameters ++ with_values (value_in (settings_of l.from) l.site) (names_in (drop l.line-index l.lines))
+      ≡ l.fn.parameters ++ with_values (value_in (settings_of l.from) l.site) (names_in l.lines);
   kept : IsKept (rules_of (settings_of l.from)) l.own.entries;
 }
