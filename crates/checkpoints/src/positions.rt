@@ -167,9 +167,10 @@ impl Positions {
         at(self.held.as_slice(), number - 1)
     }
 
-    /// Whether the last one is of so many events.
+    /// Whether the last one is of so many events. Their counts rise.
     pub fn ends_at(&self, event: u64) -> bool
-        ensures { result ≡ ends_at event (counts_of self.now.stored) }
+        ensures ends { result ≡ ends_at event (counts_of self.now.stored) }
+        ensures rising { AreRising self.now.stored }
     {
         match self.counts.last() {
             Some(last) => *last == event,

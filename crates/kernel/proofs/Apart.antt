@@ -3,7 +3,7 @@ use Rattle.std.proofs.Common.{◌≡◌, ℕ, List, [], ◌∷◌, refl, sym, ap
 use Rattle.sim_time.specs.Time.{time_sum}
 use Rattle.module_api.specs.declared.reply.Action.{Action}
 use Rattle.module_api.specs.Names.{is_scalar_name}
-use Rattle.module_api.specs.declared.reply.Action.TheVariants.{Emit, RecordScalar, Send, SendDelayed, SendDirect, ScheduleAt, ScheduleAfter, Cancel, Delete, Connect, Disconnect, End, Fail}
+use Rattle.module_api.specs.declared.reply.Action.TheVariants.{Emit, RecordScalar, Send, SendDelayed, SendDirect, ScheduleAt, ScheduleAfter, Cancel, Create, Delete, Connect, Disconnect, End, Fail}
 use Rattle.module_api.specs.declared.reply.Read.{Read}
 use Rattle.module_api.specs.declared.reply.Appointment.{Appointment}
 use Rattle.module_api.specs.declared.reply.Schedule.{Schedule}
@@ -57,6 +57,7 @@ deed_apart ms id (ScheduleAt a) w = appointed_apart ms id a w
 deed_apart ms id (ScheduleAfter s) w = scheduled_apart ms id s w (time_sum w.clock s.delay)
 deed_apart ms id (Cancel timer) w = refl
 deed_apart ms id (Fail text) w = refl
+deed_apart ms id (Create c) w = refl
 deed_apart ms id (Delete path finish) w = refl
 deed_apart ms id (Connect from to link) w = refl
 deed_apart ms id (Disconnect place) w = refl

@@ -5,7 +5,7 @@ use Rattle.std.proofs.lemmas.List.{length-map}
 use Rattle.module_api.specs.Meaning.{Module}
 use Rattle.module_tree.specs.Boxes.{Seated, AreRising, last_after, last_id}
 use Rattle.model_questions.specs.declared.record.Record.{Record}
-use Rattle.run_semantics.specs.Run.{Part, standing, with_class, parts_from, unstarted}
+use Rattle.run_semantics.specs.Run.{Part, needs_of, standing, with_class, parts_from, unstarted}
 use Rattle.run_semantics.specs.Subtree.{among}
 use Rattle.run_semantics.specs.World.{World}
 use Rattle.kernel.specs.Seats.{needs}
@@ -16,7 +16,7 @@ use Rattle.kernel.proofs.Rising.{Rise, rise_filter, rise_later}
 use Rattle.kernel.proofs.Waiting.{wanted_next}
 
 -- the first part of a greater id
-abbrev behind : ℕ → List Part → Option Part
+abbrev pub behind : ℕ → List Part → Option Part
 behind id [] = None
 behind id (p ∷ ps) = if nat_lt id p.id then Some p else behind id ps
 
@@ -45,6 +45,9 @@ parts_rise k below (r ∷ rs) h = by r.class (parts_rise (suc k) below rs (omega
 -- so do those of the modules that need boxes
 pub needs_rise : (w : World) → Rise 1 (1 + length w.records) (needs w)
 needs_rise w = rise_filter (λ (p : Part). among p.id (unstarted w)) 1 (1 + length w.records) (parts_from 1 w.records) (parts_rise 1 (1 + length w.records) w.records (omega arith))
+
+pub needed_rise : (ids : List ℕ) (w : World) → Rise 1 (1 + length w.records) (needs_of ids w)
+needed_rise ids w = rise_filter (λ (p : Part). among p.id ids) 1 (1 + length w.records) (parts_from 1 w.records) (parts_rise 1 (1 + length w.records) w.records (omega arith))
 
 -- those after an id are those of the records that are left after as many
 left_behind : (k n id : ℕ) (rs : List Record) → id ≡ k + n → behind id (parts_from (suc k) rs) ≡ slice_get (parts_from (suc id) (drop n rs)) 0
@@ -112,3 +115,16 @@ module _ {A : Type 0} (means : A → Module) where
       ∙ ap (slice_get (parts_from 1 rs)) same
       ∙ sym (wanted_next (1 + length rs) n (parts_from 1 rs) (parts_rise 1 (1 + length rs) rs (omega arith)))
       ∙ ap (λ held. first_without held (parts_from 1 rs)) (sym first)
+
+  -- THE NEXT of any modules by rising ids that is wanted, where the boxes are those of the first of
+  -- them
+  pub behind_last : (below above last : ℕ) (ps : List Part) (ss : List (Seated A)) → Rise 1 below ps → AreRising 0 above ss → standing (map instance_of (map (seat means) ss)) ≡ take (length (map (seat means) ss)) ps → last ≡ unwrap_or (last_id ss) 0
+      → behind last ps ≡ first_without (standing (map instance_of (map (seat means) ss))) ps
+  behind_last below above last ps ss r q first is =
+      let n : ℕ = length (map (seat means) ss) in
+      let many : n ≡ length ss = length-map ss (seat means) in
+      ap (λ i. behind i ps) (is ∙ sym (last_or ss))
+      ∙ sym (next_behind 0 1 below above ps ss r (omega arith) q (first ∙ ap (λ k. take k ps) many))
+      ∙ ap (slice_get ps) (sym many)
+      ∙ sym (wanted_next below n ps r)
+      ∙ ap (λ held. first_without held ps) (sym first)

@@ -2,9 +2,9 @@ pub mod Apart
 pub mod Backwards
 pub mod Behind
 pub mod Calling
+pub mod Creations
 pub mod Last
 pub mod Dropped
-pub mod Levels
 pub mod Lookups
 pub mod Rising
 pub mod Starting
@@ -15,3 +15,9 @@ pub mod Waiting
 pub mod Shown
 mod Following
 pub mod Sendings
+mod Calls
+mod Rooms
+mod Taken
+mod Picked
+mod Wanted
+mod Begun

@@ -6,7 +6,8 @@ use Rattle.channels.specs.declared.travels.Travel.TheVariants.{Arrival, Lost}
 use Rattle.channels.specs.Travel.{travel}
 use Rattle.module_api.specs.declared.message.Outgoing.{Outgoing}
 use Rattle.module_api.specs.declared.reply.Action.{Action}
-use Rattle.module_api.specs.declared.reply.Action.TheVariants.{Emit, RecordScalar, Send, SendDelayed, SendDirect, ScheduleAt, ScheduleAfter, Cancel, Delete, Connect, Disconnect, End, Fail}
+use Rattle.module_api.specs.declared.reply.Action.TheVariants.{Emit, RecordScalar, Send, SendDelayed, SendDirect, ScheduleAt, ScheduleAfter, Cancel, Create, Delete, Connect, Disconnect, End, Fail}
+use Rattle.module_api.specs.declared.reply.Creation.{Creation}
 use Rattle.module_api.specs.declared.reply.Flight.{Flight}
 use Rattle.module_api.specs.declared.reply.GatePlace.{GatePlace}
 use Rattle.module_api.specs.declared.reply.Link.{Link}
@@ -161,18 +162,19 @@ connected_is ms m id from to link core core' turn e = flow_is ms turn core' _ _ 
 pub disconnected_is : (ms : List Instance) (m : Answers) (id : ℕ) (place : GatePlace) (core core' : World) (turn : EventFlow) → flow_of turn core' ≡ disconnected m id place core → flow_of turn (with_modules ms core') ≡ disconnected m id place (with_modules ms core)
 disconnected_is ms m id place core core' turn e = flow_is ms turn core' _ _ e (disconnected_apart ms m id place core)
 
--- what neither sends, joins, frees nor deletes is a deed
-pub other_is_deed : (b : Behaviour) (m : Answers) (id : ℕ) (action : Action) (w : World) → ((gate : OwnGate) (message : Outgoing) → action ≡ Send gate message → ⊥) → ((gate : OwnGate) (message : Outgoing) (delay : ℕ) → action ≡ SendDelayed gate message delay → ⊥) → ((place : GatePlace) (message : Outgoing) (flight : Flight) → action ≡ SendDirect place message flight → ⊥) → ((from to : GatePlace) (link : Option Link) → action ≡ Connect from to link → ⊥) → ((place : GatePlace) → action ≡ Disconnect place → ⊥) → ((path : List ℕ) (finish : Bool) → action ≡ Delete path finish → ⊥) → perform b m id action w ≡ deed id action w
-other_is_deed b m id (Emit signal value) w f g h i j k = refl
-other_is_deed b m id (RecordScalar name value) w f g h i j k = refl
-other_is_deed b m id (Send gate message) w f g h i j k = absurd (f gate message refl)
-other_is_deed b m id (SendDelayed gate message delay) w f g h i j k = absurd (g gate message delay refl)
-other_is_deed b m id (SendDirect place message flight) w f g h i j k = absurd (h place message flight refl)
-other_is_deed b m id (ScheduleAt a) w f g h i j k = refl
-other_is_deed b m id (ScheduleAfter s) w f g h i j k = refl
-other_is_deed b m id (Cancel timer) w f g h i j k = refl
-other_is_deed b m id (Delete path finish) w f g h i j k = absurd (k path finish refl)
-other_is_deed b m id (Connect from to link) w f g h i j k = absurd (i from to link refl)
-other_is_deed b m id (Disconnect place) w f g h i j k = absurd (j place refl)
-other_is_deed b m id End w f g h i j k = refl
-other_is_deed b m id (Fail text) w f g h i j k = refl
+-- what neither sends, creates, joins, frees nor deletes is a deed
+pub other_is_deed : (b : Behaviour) (m : Answers) (id : ℕ) (action : Action) (w : World) → ((gate : OwnGate) (message : Outgoing) → action ≡ Send gate message → ⊥) → ((gate : OwnGate) (message : Outgoing) (delay : ℕ) → action ≡ SendDelayed gate message delay → ⊥) → ((place : GatePlace) (message : Outgoing) (flight : Flight) → action ≡ SendDirect place message flight → ⊥) → ((from to : GatePlace) (link : Option Link) → action ≡ Connect from to link → ⊥) → ((place : GatePlace) → action ≡ Disconnect place → ⊥) → ((path : List ℕ) (finish : Bool) → action ≡ Delete path finish → ⊥) → ((c : Creation) → action ≡ Create c → ⊥) → perform b m id action w ≡ deed id action w
+other_is_deed b m id (Emit signal value) w f g h i j k l = refl
+other_is_deed b m id (RecordScalar name value) w f g h i j k l = refl
+other_is_deed b m id (Send gate message) w f g h i j k l = absurd (f gate message refl)
+other_is_deed b m id (SendDelayed gate message delay) w f g h i j k l = absurd (g gate message delay refl)
+other_is_deed b m id (SendDirect place message flight) w f g h i j k l = absurd (h place message flight refl)
+other_is_deed b m id (ScheduleAt a) w f g h i j k l = refl
+other_is_deed b m id (ScheduleAfter s) w f g h i j k l = refl
+other_is_deed b m id (Cancel timer) w f g h i j k l = refl
+other_is_deed b m id (Create c) w f g h i j k l = absurd (l c refl)
+other_is_deed b m id (Delete path finish) w f g h i j k l = absurd (k path finish refl)
+other_is_deed b m id (Connect from to link) w f g h i j k l = absurd (i from to link refl)
+other_is_deed b m id (Disconnect place) w f g h i j k l = absurd (j place refl)
+other_is_deed b m id End w f g h i j k l = refl
+other_is_deed b m id (Fail text) w f g h i j k l = refl

@@ -1,19 +1,19 @@
 -- The start of modules, in code and in the definitions.
-use Rattle.std.proofs.Common.{◌≡◌, ℕ, zero, suc, ◌+◌, ◌-◌, ◌≤◌, ◌<◌, ◌==◌, nat_lt, max, Bool, true, false, cond, List, [], ◌∷◌, Option, Some, None, is_some, not, unwrap_or, refl, sym, ap, ◌∙◌, add-one, arith, drop, get_or, length, map}
+pub use Rattle.kernel_sending.proofs.Loops.{stops, each_step, each_on, each_ends}
+use Rattle.std.proofs.Common.{◌≡◌, ℕ, suc, ◌+◌, ◌-◌, ◌≤◌, ◌<◌, ◌==◌, nat_lt, max, Bool, true, false, cond, List, [], ◌∷◌, Option, Some, None, is_some, not, unwrap_or, refl, sym, ap, ◌∙◌, arith, drop, get_or, length, map}
 use Rattle.std.proofs.lemmas.Bool.Decides.{nat_tests}
 use Rattle.module_api.specs.Behaviour.{Behaviour}
 use Rattle.module_api.specs.declared.call.CallReason.TheVariants as prompt
 use Rattle.module_api.specs.Meaning.{Module}
 use Rattle.model_questions.specs.Answers.{Answers}
-use Rattle.run_semantics.specs.declared.outcome.EventFlow.{EventFlow}
-use Rattle.run_semantics.specs.declared.outcome.EventFlow.TheVariants.{GoOn, Stop, Break}
 use Rattle.run_semantics.specs.declared.traces.Instance.{Instance}
 use Rattle.run_semantics.specs.World.{World}
-use Rattle.run_semantics.specs.Perform.{Flow, On, Stopped, Broken, ◌>>=◌, flow_of, for_each}
+use Rattle.run_semantics.specs.Perform.{Flow, On, Stopped, Broken, ◌>>=◌}
 use Rattle.run_semantics.specs.Event.{call_module, instance_in}
 use Rattle.run_semantics.specs.Run.{Part, first_unknown, placed, prepared, settled, stages_in, most_stages, initialize, one_stage, stages_from, start, start_all, started, unless_unknown, unstarted, with_started}
 use Rattle.run_semantics.specs.Subtree.{outer_first}
 use Rattle.kernel_boxes.specs.Seats.{BoxAt, instance_of, module_in, AreOfKinds}
+use Rattle.kernel_sending.proofs.Loops.{next_left, none_left}
 use Rattle.kernel.specs.Seats.{needs, stages_of}
 use Rattle.kernel.specs.Setups.{boxed, ready}
 
@@ -47,42 +47,6 @@ initialize-past b m stage id stages w told h = rw (ap (nat_lt stage) (sym told) 
 -- one that has it
 pub initialize-called : (b : Behaviour) (m : Answers) (stage id stages : ℕ) (w : World) (fl : Flow) → stages ≡ stages_in b (instance_in id w.modules) → stage < stages → fl ≡ call_module b m id (prompt.Initialize stage) w → fl ≡ initialize b m stage id w
 initialize-called b m stage id stages w fl told h f = rw (ap (nat_lt stage) (sym told) ∙ before stage stages h) f
-
--- ---- loops
-
--- a turn that doesn't go on is the last
-pub stops : (turn : EventFlow) (w : World) (k : World → Flow) → (turn ≡ GoOn → ⊥) → (flow_of turn w >>= k) ≡ flow_of turn w
-stops GoOn w k h = absurd (h refl)
-stops Stop w k h = refl
-stops (Break path f) w k h = refl
-
--- the first of those that are left, and the others
-drop_step : {X : Type 0} (xs : List X) (i : ℕ) (d : X) → i < length xs → drop i xs ≡ get_or xs i d ∷ drop (suc i) xs
-drop_step [] i d h = absurd (omega (arith, h))
-drop_step (x ∷ xs) zero d h = refl
-drop_step (x ∷ xs) (suc i) d h = drop_step xs i d (omega (arith, h))
-
-next_left : {X : Type 0} (xs : List X) (i : ℕ) (d : X) → i < length xs → drop i xs ≡ get_or xs i d ∷ drop (i + 1) xs
-next_left xs i d h = rw add-one (drop_step xs i d h)
-
-none_left : {X : Type 0} (xs : List X) (i : ℕ) → length xs ≤ i → drop i xs ≡ []
-none_left [] zero h = refl
-none_left [] (suc i) h = refl
-none_left (x ∷ xs) zero h = absurd (omega (arith, h))
-none_left (x ∷ xs) (suc i) h = none_left xs i (omega (arith, h))
-
--- one more, in a loop
-pub each_step : {X : Type 0} (part : X → World → Flow) (xs : List X) (i : ℕ) (d : X) (w : World) (fl whole : Flow) → i < length xs → fl ≡ part (get_or xs i d) w → for_each part (drop i xs) w ≡ whole → (fl >>= for_each part (drop (i + 1) xs)) ≡ whole
-each_step part xs i d w fl whole h step done =
-    ap (λ (f : Flow). f >>= for_each part (drop (i + 1) xs)) step ∙ (ap (λ ys. for_each part ys w) (sym (next_left xs i d h)) ∙ done)
-
--- the same, of an element that a loop reads
-pub each_on : {X : Type 0} (part : X → World → Flow) (xs : List X) (i : ℕ) (x : X) (w : World) (fl whole : Flow) → i < length xs → x ≡ get_or xs i x → fl ≡ part x w → for_each part (drop i xs) w ≡ whole → (fl >>= for_each part (drop (i + 1) xs)) ≡ whole
-each_on part xs i x w fl whole h is step done = each_step part xs i x w fl whole h (step ∙ ap (λ y. part y w) is) done
-
--- no more
-pub each_ends : {X : Type 0} (part : X → World → Flow) (xs : List X) (i : ℕ) (w : World) → length xs ≤ i → for_each part (drop i xs) w ≡ On w
-each_ends part xs i w h = ap (λ ys. for_each part ys w) (none_left xs i h)
 
 -- ---- the greatest number of stages
 
@@ -139,11 +103,19 @@ started_as b m v e = by (prepared m) e
     by (Broken w path f) h = cc
 
 -- its calls, by what is known of their order and their stages
-pub started_is : (b : Behaviour) (m : Answers) (v u : World) (ids calls xs ys zs : List ℕ) (most : ℕ) (fl : Flow) → fl ≡ stages_from b m ys 0 most u → u ≡ with_started ids v → most ≡ most_stages b v.modules xs → xs ≡ calls → ys ≡ calls
-    → calls ≡ outer_first v.records zs 1 → zs ≡ ids → ids ≡ unstarted v → fl ≡ started b m (unstarted v) (outer_first v.records (unstarted v) 1) v
-started_is b m v u ids calls xs ys zs most fl e marked stages one two order same fresh =
-    let all : calls ≡ outer_first v.records (unstarted v) 1 = order ∙ ap (λ is. outer_first v.records is 1) (same ∙ fresh) in
+pub modules_begun : (b : Behaviour) (m : Answers) (v u : World) (ids calls xs ys : List ℕ) (first most : ℕ) (fl : Flow) → fl ≡ stages_from b m ys 0 most u → u ≡ with_started ids v → most ≡ most_stages b v.modules xs → xs ≡ calls → ys ≡ calls → calls ≡ outer_first v.records ids first
+    → fl ≡ started b m ids (outer_first v.records ids first) v
+modules_begun b m v u ids calls xs ys first most fl e marked stages one two order =
+    let all : List ℕ = outer_first v.records ids first in
     e
-    ∙ ap (λ is. stages_from b m is 0 most u) (two ∙ all)
-    ∙ ap (λ n. stages_from b m (outer_first v.records (unstarted v) 1) 0 n u) (stages ∙ ap (most_stages b v.modules) (one ∙ all))
-    ∙ ap (stages_from b m (outer_first v.records (unstarted v) 1) 0 (most_stages b v.modules (outer_first v.records (unstarted v) 1))) (marked ∙ ap (λ is. with_started is v) fresh)
+    ∙ ap (λ is. stages_from b m is 0 most u) (two ∙ order)
+    ∙ ap (λ n. stages_from b m all 0 n u) (stages ∙ ap (most_stages b v.modules) (one ∙ order))
+    ∙ ap (stages_from b m all 0 (most_stages b v.modules all)) marked
+
+-- how many stages they have at most
+pub most_told : (b : Behaviour) (v : World) (ids calls xs : List ℕ) (first most : ℕ) → most ≡ most_stages b v.modules xs → xs ≡ calls → calls ≡ outer_first v.records ids first → most_stages b v.modules (outer_first v.records ids first) ≡ most
+most_told b v ids calls xs first most stages one order = sym (stages ∙ ap (most_stages b v.modules) (one ∙ order))
+
+-- all that live, at first
+pub all_begun : (b : Behaviour) (m : Answers) (v : World) (ids xs : List ℕ) (fl : Flow) → fl ≡ started b m xs (outer_first v.records xs 1) v → xs ≡ ids → ids ≡ unstarted v → fl ≡ started b m (unstarted v) (outer_first v.records (unstarted v) 1) v
+all_begun b m v ids xs fl e same fresh = e ∙ ap (λ (is : List ℕ). started b m is (outer_first v.records is 1) v) (same ∙ fresh)

@@ -6,7 +6,7 @@ use Rattle.kernel_boxes.specs.Seats.{BoxAt, module_in}
 use Rattle.kernel_boxes.proofs.Seating.{means_in, seat}
 use Rattle.kernel.specs.Seats.{with_seat}
 
-none_there : {A B : Type 0} (f : A → B) (o : Option A) → option_map f o ≡ None → o ≡ None
+pub none_there : {A B : Type 0} (f : A → B) (o : Option A) → option_map f o ≡ None → o ≡ None
 none_there f None e = refl
 none_there f (Some x) e = cc
 

@@ -74,7 +74,7 @@ first_beside : (w : World) (ps : List Pending) → beside (first_of w ps) ≡ w
 first_beside w [] = refl
 first_beside w (p ∷ rest) = refl
 
-next_beside : (n : Next) (w : World) → beside (upcoming_of n w) ≡ w
+pub next_beside : (n : Next) (w : World) → beside (upcoming_of n w) ≡ w
 next_beside next.First w = first_beside w w.pending
 next_beside (next.Arrival p) w = refl
 next_beside next.Nothing w = refl
@@ -87,7 +87,7 @@ begins_counted limit n w after look p h =
     (ap (λ (u : World). u.next) h.begins ∙ ap (λ (u : World). u.next) same, ap (λ (u : World). u.count) h.begins ∙ ap (λ (u : World). u.count + 1) same)
 
 -- what comes, with these modules
-abbrev upcoming_with : List Instance → Upcoming → Upcoming
+abbrev pub upcoming_with : List Instance → Upcoming → Upcoming
 upcoming_with ms (Comes w p rest) = Comes (with_modules ms w) p rest
 upcoming_with ms (Nothing w) = Nothing (with_modules ms w)
 
@@ -95,7 +95,7 @@ first_with : (ms : List Instance) (w : World) (ps : List Pending) → first_of (
 first_with ms w [] = refl
 first_with ms w (p ∷ rest) = refl
 
-next_with : (ms : List Instance) (n : Next) (w : World) → upcoming_of n (with_modules ms w) ≡ upcoming_with ms (upcoming_of n w)
+pub next_with : (ms : List Instance) (n : Next) (w : World) → upcoming_of n (with_modules ms w) ≡ upcoming_with ms (upcoming_of n w)
 next_with ms next.First w = first_with ms w w.pending
 next_with ms (next.Arrival p) w = refl
 next_with ms next.Nothing w = refl

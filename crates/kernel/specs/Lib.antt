@@ -4,3 +4,4 @@ pub mod Kernels
 pub mod Calls
 pub mod Looks
 pub mod Setups
+pub mod Starts

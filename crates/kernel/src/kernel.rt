@@ -2,6 +2,7 @@
 
 ghost use Rattle.std.specs.Prelude.{◌≡◌, ◌+◌, ◌^◌, ◌<◌, ◌≤◌, OnOk, OnErr, IfOk, IfSome, None, []};
 ghost use Rattle.std.specs.Prelude.{length, max, slice_get, drop, option_map, IfErr};
+ghost use Rattle.std.specs.Option.{option_copied};
 ghost use Rattle.module_api.specs.Meaning.{Answered, IsSameModule};
 ghost use Rattle.module_tree.specs.Boxes.{nothing};
 ghost use Rattle.run_question_log.specs.Entries.{noted_in};
@@ -10,10 +11,17 @@ ghost use Rattle.run_semantics.specs.Perform.{flow_of, On, perform, act, act_all
 ghost use Rattle.run_semantics.specs.Event.{call_module, call_of, instance_in, with_state};
 ghost use Rattle.run_semantics.specs.declared.occasions.Occasion.TheVariants as occasions;
 ghost use Rattle.model_questions.specs.Answers.{parameters_of};
+ghost use Rattle.model_questions.specs.Records.{record_at};
 ghost use Rattle.run_semantics.specs.Upcoming.{target_of, upcoming};
 ghost use Rattle.kernel_call_views.specs.Tables.{AreShown};
 ghost use Rattle.kernel_actions.specs.Upcoming.{looked, upcoming_of};
-ghost use Rattle.kernel.specs.Looks.{LooksOn};
+ghost use Rattle.kernel.specs.Looks.{LooksOn, StartsNone};
+ghost use Rattle.kernel.specs.Starts.{AreFirstOf, HasFewCalls, HasItsModules, IsUnknownFirst, KeepsRoom};
+ghost use Rattle.kernel.specs.Starts.{class_in, next_in, starts_next, wanted_of};
+ghost use Rattle.run_semantics.specs.Event.{happens};
+ghost use Rattle.run_semantics.specs.Run.{needs_of, start_modules, started, starting, wanted};
+ghost use Rattle.run_semantics.specs.Run.{wanted_for};
+ghost use Rattle.run_semantics.specs.Subtree.{outer_first};
 ghost use Rattle.run_semantics.specs.Run.{Running, Part, stage_of, standing, settled};
 ghost use Rattle.run_semantics.specs.Run.{prepared, parts_from, initialize, most_stages};
 ghost use Rattle.run_semantics.specs.Run.{one_stage, stages_from, stages_in, start, next_stage};
@@ -35,8 +43,9 @@ ghost use Rattle.kernel.specs.Kernels.{boxes_in, world_in, ran_in, HasKinds, IsC
 ghost use Rattle.kernel.specs.Kernels.{KeepsBoxes};
 
 use crate::finishing::{MAX_ACTIONS, follow_last};
-use crate::from_model::{ask_injection, call_shown, prepare, read_fault};
+use crate::from_model::{ask_injection, call_shown, read_fault};
 use crate::request::Request;
+use event_set::pending::{Happening, Pending};
 use kernel_actions::classes::is_among;
 use kernel_actions::core_part::Core;
 use kernel_actions::events::{arrival, message_of};
@@ -46,9 +55,11 @@ use kernel_boxes::boxes_saved::{load_one, save_all};
 use kernel_boxes::dropping::drop_those;
 use kernel_boxes::going_back::{drop_others, first_lacking};
 use kernel_call_views::{CallView, CallViews};
+use kernel_sending::building::prepare;
+use kernel_sending::creating::create;
 use kernel_sending::joining::{connect, disconnect};
 use kernel_sending::sending::{send, send_direct};
-use model_questions::record::{Record, path_of};
+use model_questions::record::{Record, path_of, record_at};
 use module_api::call::{Call, CallReason};
 use module_api::catalogue::Catalogue;
 use module_api::reply::{Action, Reply};
@@ -63,6 +74,7 @@ use run_semantics::traces::{Emission, Instance, Scalar};
 use sim_time::SimTime;
 use sim_values::NoMemory;
 use sim_values::text::Text;
+use sqlite_items::Items;
 use std::alloc::{AllocFailed, Global};
 use std::marker::PhantomData;
 use std::mem::swap;
@@ -191,6 +203,19 @@ impl<C: Catalogue> Kernel<C> {
         Ok(self.settle(turn))
     }
 
+    /// What is asked for: a box of that kind for the module of that id.
+    fn request(&self, alloc: Global, id: u32, kind: &[u8]) -> Result<Request, NoMemory>
+        ensures { let world = world_in SimpleModule-box self.now in
+            IfOk result (λ request.
+            request ≡ request_for world (record { id = id; kind = kind.now })) }
+    {
+        Ok(Request {
+            kind: Text::from_bytes(alloc, kind)?,
+            path: path_of(alloc, self.core.records(), id)?,
+            id,
+        })
+    }
+
     /// The first module that needs a box and has none yet, and its class.
     fn missing_part(&self, waiting: &Tree<Box<dyn SimpleModule>>) -> Option<(u32, &[u8])>
         requires unstarted { IsUnstarted (world_in SimpleModule-box self.now) }
@@ -219,11 +244,8 @@ impl<C: Catalogue> Kernel<C> {
         let Some((id, kind)) = self.missing_part(waiting) else {
             return Ok(None);
         };
-        Ok(Some(Request {
-            kind: Text::from_bytes(alloc, kind)?,
-            path: path_of(alloc, self.core.records(), id)?,
-            id,
-        }))
+        let request = self.request(alloc, id, kind)?;
+        Ok(Some(request))
     }
 
     /// The id of the first module that needs a box and has none of those that wait.
@@ -273,6 +295,7 @@ impl<C: Catalogue> Kernel<C> {
             }
             Action::Connect(from, to, link) => connect(core, alloc, model, id, from, to, link),
             Action::Disconnect(place) => disconnect(core, alloc, model, id, place),
+            Action::Create(creation) => create(core, alloc, model, id, creation),
             Action::Delete(path, finish) => {
                 self.delete(alloc, model, id, path.as_bytes(), *finish)
             }
@@ -667,6 +690,7 @@ impl<C: Catalogue> Kernel<C> {
     }
 
     /// Initializes the module of that id, where it has that stage.
+    #[tactic(auto, using(kernel_actions::proofs::Lasting::growth_same))]
     fn initialize<A: Answers>(
         &mut self,
         alloc: Global,
@@ -683,6 +707,8 @@ impl<C: Catalogue> Kernel<C> {
         ensures step { let before = world_in SimpleModule-box self.old in
             IfOk result (λ turn. flow_of turn (world_in SimpleModule-box self.new)
             ≡ initialize C.behaviour A.answers stage id before) }
+        ensures grown { IsGrownFrom (world_in SimpleModule-box self.old)
+            (world_in SimpleModule-box self.new) }
         ensures shown { AreShown A.answers (world_in SimpleModule-box self.new).records shown.new }
     {
         if stage >= self.stages_in(id) {
@@ -710,6 +736,8 @@ impl<C: Catalogue> Kernel<C> {
         ensures step { let before = world_in SimpleModule-box self.old in
             IfOk result (λ turn. flow_of turn (world_in SimpleModule-box self.new)
             ≡ one_stage C.behaviour A.answers stage ids.now before) }
+        ensures grown { IsGrownFrom (world_in SimpleModule-box self.old)
+            (world_in SimpleModule-box self.new) }
         ensures shown { AreShown A.answers (world_in SimpleModule-box self.new).records shown.new }
     {
         for id in ids {
@@ -743,14 +771,17 @@ impl<C: Catalogue> Kernel<C> {
         most: u8,
         ids: &[u32],
     ) -> Result<EventFlow, NoMemory>
-        requires next { (world_in SimpleModule-box self.old).next ≡ 0 }
-        requires kinds { HasKinds C.behaviour SimpleModule-box self.old }
+        requires callable { IsCallable C.behaviour SimpleModule-box (2 ^ 83) self.old }
         requires shown { AreShown A.answers (world_in SimpleModule-box self.old).records shown.old }
         ensures kinds { HasKinds C.behaviour SimpleModule-box self.new }
-        ensures next { OnOk result ((world_in SimpleModule-box self.new).next ≤ 2 ^ 82) }
+        ensures next { let before = world_in SimpleModule-box self.old in
+            OnOk result ((world_in SimpleModule-box self.new).next ≤ before.next + 2 ^ 82) }
         ensures step { let before = world_in SimpleModule-box self.old in
             IfOk result (λ turn. flow_of turn (world_in SimpleModule-box self.new)
             ≡ stages_from C.behaviour A.answers ids.now 0 most before) }
+        ensures few { most ≤ 255 }
+        ensures grown { IsGrownFrom (world_in SimpleModule-box self.old)
+            (world_in SimpleModule-box self.new) }
         ensures shown { AreShown A.answers (world_in SimpleModule-box self.new).records shown.new }
     {
         for stage in 0..most {
@@ -760,6 +791,40 @@ impl<C: Catalogue> Kernel<C> {
             }
         }
         Ok(EventFlow::GoOn)
+    }
+
+    /// A start of these modules, which have their boxes: they count as started, and are initialized,
+    /// from the first of them inwards.
+    #[tactic(auto, using(kernel_actions::proofs::Lasting::growth_same))]
+    fn begin_modules<A: Answers>(
+        &mut self,
+        alloc: Global,
+        model: &mut A,
+        shown: &mut CallViews,
+        ids: &[u32],
+        first: u32,
+    ) -> Result<EventFlow, NoMemory>
+        requires callable { IsCallable C.behaviour SimpleModule-box (2 ^ 83) self.old }
+        requires shown { AreShown A.answers (world_in SimpleModule-box self.old).records shown.old }
+        ensures kinds { HasKinds C.behaviour SimpleModule-box self.new }
+        ensures next { let before = world_in SimpleModule-box self.old in
+            OnOk result ((world_in SimpleModule-box self.new).next ≤ before.next + 2 ^ 82) }
+        ensures few { let before = world_in SimpleModule-box self.old in
+            OnOk result (HasFewCalls before ids.now first
+            → KeepsRoom before (world_in SimpleModule-box self.new)) }
+        ensures step { let before = world_in SimpleModule-box self.old in
+            IfOk result (λ turn. flow_of turn (world_in SimpleModule-box self.new)
+            ≡ started C.behaviour A.answers ids.now (outer_first before.records ids.now first)
+            before) }
+        ensures grown { IsGrownFrom (world_in SimpleModule-box self.old)
+            (world_in SimpleModule-box self.new) }
+        ensures shown { AreShown A.answers (world_in SimpleModule-box self.new).records shown.new }
+    {
+        let calls = self.core.calls_from(alloc, ids, first)?;
+        let most = self.most_stages(calls.as_slice());
+        self.core.mark_started(ids)?;
+        let turn = self.stages(alloc, model, shown, most, calls.as_slice())?;
+        Ok(turn)
     }
 
     /// Initializes all modules, where each has its box.
@@ -781,10 +846,7 @@ impl<C: Catalogue> Kernel<C> {
             OnOk result (AreShown A.answers left.records shown.new) }
     {
         let ids = self.core.unstarted(alloc)?;
-        let calls = self.core.calls_of_network(alloc, ids.as_slice())?;
-        let most = self.most_stages(calls.as_slice());
-        self.core.mark_started(ids)?;
-        let turn = self.stages(alloc, model, shown, most, calls.as_slice())?;
+        let turn = self.begin_modules(alloc, model, shown, ids.as_slice(), 1)?;
         Ok(self.settle(turn))
     }
 
@@ -851,9 +913,10 @@ impl<C: Catalogue> Kernel<C> {
         look: &mut Look,
     ) -> Result<Option<Next>, NoMemory>
         requires count { (world_in SimpleModule-box self.now).count + 1 < 2 ^ 64 }
-        ensures { let world = world_in SimpleModule-box self.now in
+        ensures looks { let world = world_in SimpleModule-box self.now in
             IfOk result (λ next.
             LooksOn A.answers (looked world look.old) next (looked world look.new)) }
+        ensures arrives { IfOk result (λ next. IfSome next StartsNone) }
     {
         let Some(injection) = ask_injection(&self.core, alloc, model, look)? else {
             return Ok(Some(Next::First));
@@ -868,8 +931,9 @@ impl<C: Catalogue> Kernel<C> {
     /// What comes next, and what was asked to know it.
     fn upcoming<A: Answers>(&self, alloc: Global, model: &A) -> Result<(Look, Next), NoMemory>
         requires count { (world_in SimpleModule-box self.now).count + 1 < 2 ^ 64 }
-        ensures { let world = world_in SimpleModule-box self.now in
+        ensures comes { let world = world_in SimpleModule-box self.now in
             IfOk result (λ r. upcoming A.answers world ≡ upcoming_of r.1 (looked world r.0)) }
+        ensures arrives { IfOk result (λ r. StartsNone r.1) }
     {
         let mut look = self.core.look(alloc);
         // Each look but the last delivers an injection.
@@ -882,9 +946,83 @@ impl<C: Catalogue> Kernel<C> {
         Ok((look, Next::Nothing))
     }
 
+    /// Starts modules that were created together, with ids from the first to the last: each simple
+    /// one has its box, of those that waited. None waits from then on.
+    #[tactic(auto, using(kernel_actions::proofs::Lasting::growth_same))]
+    fn start_created<A: Answers>(
+        &mut self,
+        alloc: Global,
+        model: &mut A,
+        shown: &mut CallViews,
+        waiting: &mut Tree<Box<dyn SimpleModule>>,
+        first: u32,
+        last: u32,
+    ) -> Result<EventFlow, NoMemory>
+        requires callable { IsCallable C.behaviour SimpleModule-box (2 ^ 83) self.old }
+        requires modules { HasItsModules (world_in SimpleModule-box self.old) }
+        requires fresh { let before = world_in SimpleModule-box self.old in
+            AreFresh C.behaviour (needs_of (starting first last before) before)
+            (seats_held SimpleModule-box waiting.old) }
+        requires shown { AreShown A.answers (world_in SimpleModule-box self.old).records shown.old }
+        ensures kinds { HasKinds C.behaviour SimpleModule-box self.new }
+        ensures none { OnOk result (seats_held SimpleModule-box waiting.new ≡ []) }
+        ensures room { OnOk result (KeepsRoom (world_in SimpleModule-box self.old)
+            (world_in SimpleModule-box self.new)) }
+        ensures step { let before = world_in SimpleModule-box self.old in
+            IfOk result (λ turn. flow_of turn (world_in SimpleModule-box self.new)
+            ≡ start_modules C.behaviour A.answers (starting first last before) first before) }
+        ensures grown { IsGrownFrom (world_in SimpleModule-box self.old)
+            (world_in SimpleModule-box self.new) }
+        ensures shown { AreShown A.answers (world_in SimpleModule-box self.new).records shown.new }
+    {
+        let ids = self.core.starting(alloc, first, last)?;
+        self.boxes.take_in(waiting)?;
+        let turn = self.begin_modules(alloc, model, shown, ids.as_slice(), first)?;
+        Ok(turn)
+    }
+
+    /// What happens in an event that has begun: modules that were created are started, with the
+    /// boxes that waited, or a module is called.
+    #[tactic(auto, using(kernel_actions::proofs::Lasting::growth_same))]
+    fn happen<A: Answers>(
+        &mut self,
+        alloc: Global,
+        model: &mut A,
+        shown: &mut CallViews,
+        waiting: &mut Tree<Box<dyn SimpleModule>>,
+        event: Pending,
+    ) -> Result<EventFlow, NoMemory>
+        requires callable { IsCallable C.behaviour SimpleModule-box (2 ^ 83) self.old }
+        requires modules { HasItsModules (world_in SimpleModule-box self.old) }
+        requires fresh { let before = world_in SimpleModule-box self.old in
+            AreFresh C.behaviour (wanted_for event event.what before)
+            (seats_held SimpleModule-box waiting.old) }
+        requires shown { AreShown A.answers (world_in SimpleModule-box self.old).records shown.old }
+        ensures kinds { HasKinds C.behaviour SimpleModule-box self.new }
+        ensures none { OnOk result (seats_held SimpleModule-box waiting.new ≡ []) }
+        ensures room { OnOk result (KeepsRoom (world_in SimpleModule-box self.old)
+            (world_in SimpleModule-box self.new)) }
+        ensures step { let before = world_in SimpleModule-box self.old in
+            IfOk result (λ turn. flow_of turn (world_in SimpleModule-box self.new)
+            ≡ happens C.behaviour A.answers event event.what before) }
+        ensures grown { IsGrownFrom (world_in SimpleModule-box self.old)
+            (world_in SimpleModule-box self.new) }
+        ensures shown { AreShown A.answers (world_in SimpleModule-box self.new).records shown.new }
+    {
+        let id = event.id;
+        if let Happening::Start(last) = event.what {
+            let turn = self.start_created(alloc, model, shown, waiting, id, last)?;
+            return Ok(turn);
+        }
+        let prompt = CallReason::Message(message_of(alloc, event));
+        let turn = self.call_module(alloc, model, shown, id, prompt)?;
+        Ok(turn)
+    }
+
     /// The next event, or how the run ends. The caller has looked up once what stays the same for
     /// all events: the model's time limit, in picoseconds, and what calls show of modules, which is
-    /// taken from the table, or found and put in there.
+    /// taken from the table, or found and put in there. The boxes that wait are those of the modules
+    /// that the event starts; none waits from then on.
     #[tactic(auto, using(kernel_actions::proofs::Lasting::growth_same))]
     pub fn step<A: Answers>(
         &mut self,
@@ -892,13 +1030,19 @@ impl<C: Catalogue> Kernel<C> {
         model: &mut A,
         limit: Option<u64>,
         shown: &mut CallViews,
+        waiting: &mut Tree<Box<dyn SimpleModule>>,
     ) -> Result<Option<Outcome>, NoMemory>
         requires room { HasRoom (world_in SimpleModule-box self.old) }
         requires count { (world_in SimpleModule-box self.old).count + 1 < 2 ^ 64 }
         requires kinds { HasKinds C.behaviour SimpleModule-box self.old }
         requires limit { limit ≡ A.answers.time_limit }
+        requires modules { HasItsModules (world_in SimpleModule-box self.old) }
+        requires fresh { AreFresh C.behaviour
+            (wanted A.answers (world_in SimpleModule-box self.old))
+            (seats_held SimpleModule-box waiting.old) }
         requires shown { AreShown A.answers (world_in SimpleModule-box self.old).records shown.old }
         ensures kinds { HasKinds C.behaviour SimpleModule-box self.new }
+        ensures none { OnOk result (seats_held SimpleModule-box waiting.new ≡ []) }
         ensures room { OnOk result (HasRoom (world_in SimpleModule-box self.new)) }
         ensures step { IfOk result (λ over. stage_of over (world_in SimpleModule-box self.new)
             ≡ next_stage C.behaviour A.answers (Running (world_in SimpleModule-box self.old))) }
@@ -912,9 +1056,112 @@ impl<C: Catalogue> Kernel<C> {
         let (look, next) = self.upcoming(alloc, model)?;
         match self.core.begin(alloc, limit, look, next)? {
             Ok(event) => {
-                let id = event.id;
-                let prompt = CallReason::Message(message_of(alloc, event));
-                let turn = self.call_module(alloc, model, shown, id, prompt)?;
+                let turn = self.happen(alloc, model, shown, waiting, event)?;
+                Ok(self.settle(turn))
+            }
+            Err(outcome) => Ok(Some(outcome)),
+        }
+    }
+
+    // ---- boxes that are wanted between events
+
+    /// The modules that the next event starts.
+    fn coming<A: Answers>(
+        &self,
+        alloc: Global,
+        model: &A,
+        limit: Option<u64>,
+    ) -> Result<Items<u32>, NoMemory>
+        requires count { (world_in SimpleModule-box self.now).count + 1 < 2 ^ 64 }
+        requires limit { limit ≡ A.answers.time_limit }
+        ensures { IfOk result (λ ids.
+            ids ≡ starts_next A.answers (world_in SimpleModule-box self.now)) }
+    {
+        if self.core.is_ended() {
+            return Ok(Items::new(alloc));
+        }
+        let (_look, next) = self.upcoming(alloc, model)?;
+        match next {
+            Next::First => {
+                let ids = self.core.first_starts(alloc, limit)?;
+                Ok(ids)
+            }
+            _ => Ok(Items::new(alloc)),
+        }
+    }
+
+    /// What is asked for where these modules are started, by rising ids: a box for the first simple
+    /// one of a greater id.
+    fn request_behind(
+        &self,
+        alloc: Global,
+        ids: &[u32],
+        last: u32,
+    ) -> Result<Option<Request>, NoMemory>
+        ensures { let world = world_in SimpleModule-box self.now in
+            IfOk result (λ request.
+            request ≡ option_map (request_for world) (next_in world.records last ids.now)) }
+    {
+        let Some((id, kind)) = part_among(self.core.records(), ids, last) else {
+            return Ok(None);
+        };
+        let request = self.request(alloc, id, kind)?;
+        Ok(Some(request))
+    }
+
+    /// What the run asks for before its next event: a box for the first of the modules that the
+    /// event starts which has none of those that wait. They were supplied by rising ids.
+    pub fn missing_next<A: Answers>(
+        &self,
+        alloc: Global,
+        model: &A,
+        limit: Option<u64>,
+        waiting: &Tree<Box<dyn SimpleModule>>,
+    ) -> Result<Option<Request>, NoMemory>
+        requires count { (world_in SimpleModule-box self.now).count + 1 < 2 ^ 64 }
+        requires limit { limit ≡ A.answers.time_limit }
+        requires first { let needed = wanted A.answers (world_in SimpleModule-box self.now) in
+            AreFirstOf C.behaviour needed (seats_held SimpleModule-box waiting.now) }
+        ensures { let world = world_in SimpleModule-box self.now in
+            let held = standing (instances_held SimpleModule-box waiting.now) in
+            IfOk result (λ request. request ≡ wanted_of world (wanted A.answers world) held) }
+    {
+        // Mostly the next event starts none, and that is seen at once.
+        if !self.core.is_start_first() {
+            return Ok(None);
+        }
+        let ids = self.coming(alloc, model, limit)?;
+        let last = waiting.last().unwrap_or(0);
+        let request = self.request_behind(alloc, ids.as_slice(), last)?;
+        Ok(request)
+    }
+
+    /// The next event, which starts modules, where there is no box for the module of that id: the
+    /// first of them whose class the catalogue doesn't know. It has that fault, and nothing else
+    /// is done in it.
+    #[tactic(auto, using(kernel_actions::proofs::Lasting::growth_same))]
+    pub fn step_declined<A: Answers>(
+        &mut self,
+        alloc: Global,
+        model: &mut A,
+        limit: Option<u64>,
+        id: u32,
+    ) -> Result<Option<Outcome>, NoMemory>
+        requires count { (world_in SimpleModule-box self.old).count + 1 < 2 ^ 64 }
+        requires limit { limit ≡ A.answers.time_limit }
+        requires unknown { IsUnknownFirst C.behaviour
+            (wanted A.answers (world_in SimpleModule-box self.old)) id }
+        ensures boxes { boxes_in SimpleModule-box self.new ≡ boxes_in SimpleModule-box self.old }
+        ensures step { IfOk result (λ over. stage_of over (world_in SimpleModule-box self.new)
+            ≡ next_stage C.behaviour A.answers (Running (world_in SimpleModule-box self.old))) }
+        ensures grown { IsGrownFrom (world_in SimpleModule-box self.old)
+            (world_in SimpleModule-box self.new) }
+    {
+        let (look, next) = self.upcoming(alloc, model)?;
+        let begun = self.core.begin(alloc, limit, look, next)?;
+        match begun {
+            Ok(_) => {
+                let turn = self.core.broken(alloc, id, RunFault::UnknownClass)?;
                 Ok(self.settle(turn))
             }
             Err(outcome) => Ok(Some(outcome)),
@@ -1142,6 +1389,34 @@ fn part_behind(records: &[Record], id: u32) -> Option<(u32, &[u8])>
         }
     }
     None
+}
+
+/// The first of these modules that is simple and has a greater id: its id and its class.
+fn part_among<'a>(records: &'a [Record], ids: &[u32], last: u32) -> Option<(u32, &'a [u8])>
+    ensures { option_map (λ part. record { id = part.0; kind = part.1.now }) result
+        ≡ next_in records.now last ids.now }
+{
+    for id in ids {
+        if *id > last {
+            if let Some(kind) = class_of(records, *id) {
+                return Some((*id, kind));
+            }
+        }
+    }
+    None
+}
+
+/// The class of the module of that id, where it is a simple one.
+fn class_of(records: &[Record], id: u32) -> Option<&[u8]>
+    ensures { option_copied result ≡ class_in (record_at records.now id) }
+{
+    match record_at(records, id) {
+        Some(found) => match &found.class {
+            Some(kind) => Some(kind.as_bytes()),
+            None => None,
+        },
+        None => None,
+    }
 }
 
 /// Calls a box for what the call names.

@@ -1,21 +1,25 @@
 -- What is in the lists of a world that only grow stays there, whatever an event or the end did
 -- before memory ran out.
-use Rattle.std.proofs.Common.{◌≡◌, IfOk, OnErr, Result, Ok, Err, append-nil, append_assoc, ℕ, suc, ◌+◌, ◌≤◌, ◌<◌, Bool, true, false, List, [], ◌∷◌, ◌++◌, Option, Some, None, refl, sym, ap, ◌∙◌, arith, subst, drop, get_or, length, slice_get, option_copied, Bor, if◌then◌else◌, ℤ, nat_lt}
+use Rattle.std.proofs.Common.{map, length-append, ◌≡◌, IfOk, OnErr, Result, Ok, Err, append-nil, append_assoc, ℕ, suc, ◌+◌, ◌≤◌, ◌<◌, Bool, true, false, List, [], ◌∷◌, ◌++◌, Option, Some, None, refl, sym, ap, ◌∙◌, arith, subst, drop, get_or, length, slice_get, option_copied, Bor, if◌then◌else◌, ℤ, nat_lt}
 use Rattle.std.proofs.Math.ListN.{drop_of_length-le}
 use Rattle.std.proofs.Math.Seq.{drop-cons}
 use Rattle.sim_values.specs.declared.NoMemory.{NoMemory}
 use Rattle.sim_time.specs.Time.{time_sum}
 use Rattle.module_api.specs.declared.reply.Action.{Action}
-use Rattle.module_api.specs.declared.reply.Action.TheVariants.{Emit, RecordScalar, Send, SendDelayed, SendDirect, ScheduleAt, ScheduleAfter, Cancel, Delete, Connect, Disconnect, End, Fail}
+use Rattle.module_api.specs.declared.reply.Action.TheVariants.{Emit, RecordScalar, Send, SendDelayed, SendDirect, ScheduleAt, ScheduleAfter, Cancel, Create, Delete, Connect, Disconnect, End, Fail}
 use Rattle.module_api.specs.declared.reply.Appointment.{Appointment}
 use Rattle.module_api.specs.declared.reply.Schedule.{Schedule}
 use Rattle.module_api.specs.Names.{is_scalar_name}
 use Rattle.event_set.specs.Timers.{has_timer}
 use Rattle.run_semantics.specs.declared.outcome.RunFault.TheVariants as fault
 use Rattle.run_semantics.specs.declared.outcome.EventFlow.{EventFlow}
+use Rattle.model_questions.specs.declared.answer.Built.{Built}
+use Rattle.model_questions.specs.declared.record.Record.{Record}
+use Rattle.run_semantics.specs.Run.{record_under, with_submodules}
 use Rattle.run_semantics.specs.World.{World}
 use Rattle.run_semantics.specs.Perform.{Flow, On, flow_of, broken, with_scalar, scheduled_at, scheduled, appointed, deed}
 use Rattle.run_semantics.proofs.Orderly.{on_same}
+use Rattle.run_semantics.proofs.Setup.{with_submodules-cons}
 use Rattle.run_semantics.proofs.Sound.{in_flow, in_flow-of}
 use Rattle.kernel_actions.specs.declared.looks.LookedAt.{LookedAt}
 use Rattle.kernel_actions.specs.Positions.{IsGrownFrom}
@@ -109,6 +113,7 @@ deed_grows id End w = record {
   scalars = on_same w.scalars;
   questions = on_same w.questions;
 }
+deed_grows id (Create c) w = growth_same w
 deed_grows id (Delete path finish) w = growth_same w
 deed_grows id (Connect from to link) w = growth_same w
 deed_grows id (Disconnect place) w = growth_same w
@@ -132,10 +137,42 @@ deed_left (Err e) id action w v done same = growth_is w v same
 -- ---- loops: one more of a list
 
 -- the element that a loop reads, and those after it
-split_at : {X : Type 0} (index : ℕ) (xs : List X) (x : X) → index < length xs → x ≡ get_or xs index x → drop index xs ≡ x ∷ drop (index + 1) xs
+pub split_at : {X : Type 0} (index : ℕ) (xs : List X) (x : X) → index < length xs → x ≡ get_or xs index x → drop index xs ≡ x ∷ drop (index + 1) xs
 split_at index xs x less e =
     let next : suc index ≡ index + 1 = omega arith in
     drop-cons xs index x less ∙ ap (λ y. y ∷ drop (suc index) xs) (sym e) ∙ ap (λ n. x ∷ drop n xs) next
+
+-- ---- submodules that are created
+
+-- one more
+pub created_on : (parent index : ℕ) (bs : List Built) (b : Built) (w v whole : World) → index < length bs → b ≡ get_or bs index b → v ≡ with_submodules parent (b ∷ []) w → with_submodules parent (drop index bs) w ≡ whole
+    → with_submodules parent (drop (index + 1) bs) v ≡ whole
+created_on parent index bs b w v whole less is made done =
+    ap (with_submodules parent (drop (index + 1) bs)) made
+    ∙ (with_submodules-cons parent b (drop (index + 1) bs) w
+    ∙ (ap (λ (xs : List Built). with_submodules parent xs w) (sym (split_at index bs b less is)) ∙ done))
+
+-- after the last one
+pub created_ends : (parent index : ℕ) (bs : List Built) (w whole : World) → length bs ≤ index → with_submodules parent (drop index bs) w ≡ whole → w ≡ whole
+created_ends parent index bs w whole past done =
+    ap (λ (rs : List Record). record w { records = rs }) (sym (append-nil w.records))
+    ∙ (ap (λ (xs : List Built). with_submodules parent xs w) (sym (drop_of_length-le bs past)) ∙ done)
+
+pub created_grows : (parent : ℕ) (bs : List Built) (w v : World) → v ≡ with_submodules parent bs w → IsGrownFrom w v
+created_grows parent bs w v e = subst (IsGrownFrom w) (sym e) (record {
+  records = (map (record_under parent) bs, refl);
+  dead = on_same w.dead;
+  started = on_same w.started;
+  finished = on_same w.finished;
+  changes = on_same w.changes;
+  emissions = on_same w.emissions;
+  scalars = on_same w.scalars;
+  questions = on_same w.questions;
+})
+
+-- one record more
+pub one_created : (parent : ℕ) (b : Built) (w v : World) → v ≡ with_submodules parent (b ∷ []) w → length v.records ≡ length w.records + 1
+one_created parent b w v e = ap (λ (u : World). length u.records) e ∙ length-append w.records (record_under parent b ∷ [])
 
 -- ---- an event that begins
 

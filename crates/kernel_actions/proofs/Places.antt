@@ -64,15 +64,16 @@ named_is p r h =
     ∙ ap (λ (n : List ℕ). record { parent = p.parent; name = n; index = r.index }) ((bytes_eq-Decides r.name p.name).0 f.0)
     ∙ ap (λ (i : Option ℕ). record { parent = p.parent; name = p.name; index = i }) (index_alike r.index p.index f.1)
 
--- each module was built
-all_built : (o : Origin) (t : Bool) → t ≡ (is_built o && t)
-all_built origin.Built t = refl
+-- one that was built
+all_built : (o : Origin) (t : Bool) → is_built o ≡ true → t ≡ (is_built o && t)
+all_built origin.Built t e = refl
+all_built (origin.Created plan) t e = absurd (true≢false (sym e))
 
 -- the table compares as the definition does
-equal_alike : (r : Record) (p : ModulePlace) → equal (place_of r) p ≡ is_named p.parent p.name p.index r
-equal_alike r p =
+equal_alike : (r : Record) (p : ModulePlace) → is_built r.origin ≡ true → equal (place_of r) p ≡ is_named p.parent p.name p.index r
+equal_alike r p built =
     ap (λ t. (r.parent == p.parent) && (bytes_eq r.name p.name && t)) (by r.index p.index)
-    ∙ all_built r.origin ((r.parent == p.parent) && (bytes_eq r.name p.name && same_index r.index p.index))
+    ∙ all_built r.origin ((r.parent == p.parent) && (bytes_eq r.name p.name && same_index r.index p.index)) built
   where
     by : (a b : Option ℕ) → option_eq nat_eq a b ≡ same_index a b
     by None None = refl
@@ -100,11 +101,11 @@ ids_stay rs now r ids k t e p =
     by false h None n = refl
 
 -- where it was free it has that one
-pub ids_with : {S T : Type 0} (rs now : List Record) (r : Record) (place : ModulePlace) (id : ℕ) (ids : HashMap ModulePlace ℕ S) (after : HashMap ModulePlace ℕ T) → AreIdsOf rs ids → place ≡ place_of r → is_some (get equal ids place) ≡ false
+pub ids_with : {S T : Type 0} (rs now : List Record) (r : Record) (place : ModulePlace) (id : ℕ) (ids : HashMap ModulePlace ℕ S) (after : HashMap ModulePlace ℕ T) → AreIdsOf rs ids → is_built r.origin ≡ true → place ≡ place_of r → is_some (get equal ids place) ≡ false
     → id ≡ suc (length rs) → now ≡ rs ++ r ∷ [] → ((q : ModulePlace) → get equal after q ≡ cond (equal place q) (Some id) (get equal ids q)) → AreIdsOf now after
-ids_with rs now r place id ids after k same free n e u p =
+ids_with rs now r place id ids after k built same free n e u p =
     u p ∙ ap (λ (q : ModulePlace). cond (equal q p) (Some id) (get equal ids p)) same
-    ∙ ap (λ b. cond b (Some id) (get equal ids p)) (equal_alike r p)
+    ∙ ap (λ b. cond b (Some id) (get equal ids p)) (equal_alike r p built)
     ∙ ap (cond (is_named p.parent p.name p.index r) (Some id)) (k p)
     ∙ by (is_named p.parent p.name p.index r) refl
     ∙ sym (ap (λ (ls : List Record). id_at ls p) e ∙ added_id rs r p)
@@ -120,6 +121,14 @@ ids_with rs now r place id ids after k same free n e u p =
     by true h = ap Some n ∙ sym (ap (λ o. or_else o (Some (suc (length rs)))) (was_free h))
     by false h = sym (or_none (id_at rs p))
 
+-- one that was not built stands at no place
+unnamed : (r : Record) (p : ModulePlace) → is_built r.origin ≡ false → is_named p.parent p.name p.index r ≡ false
+unnamed r p e = ap (λ t. t && ((r.parent == p.parent) && (bytes_eq r.name p.name && same_index r.index p.index))) e
+
+pub ids_unnamed : {S : Type 0} (rs now : List Record) (r : Record) (ids : HashMap ModulePlace ℕ S) → AreIdsOf rs ids → is_built r.origin ≡ false → now ≡ rs ++ r ∷ [] → AreIdsOf now ids
+ids_unnamed rs now r ids k b e p =
+    k p ∙ sym (ap (λ (ls : List Record). id_at ls p) e ∙ added_id rs r p ∙ ap (λ t. or_else (id_at rs p) (one_where t (suc (length rs)))) (unnamed r p b) ∙ or_none (id_at rs p))
+
 -- ---- one less
 
 pub popped : (found : Option Record) (last : Record) (old new : List Record) → MatchOption found ((old ≡ []) × (new ≡ [])) (λ r. old ≡ new ++ r ∷ []) → found ≡ Some last → old ≡ new ++ last ∷ []
@@ -128,15 +137,38 @@ popped found last old new h e = subst (λ o. MatchOption o ((old ≡ []) × (new
 one_less : (old new : List Record) (last : Record) → old ≡ new ++ last ∷ [] → length old ≡ suc (length new)
 one_less old new last e = let more : length old ≡ length new + 1 = ap length e ∙ length_push new last in omega (arith, more)
 
+-- what stands first at a place was built
+last_built : (old new : List Record) (last : Record) (place : ModulePlace) → id_at old place ≡ Some (length old) → old ≡ new ++ last ∷ [] → is_built last.origin ≡ true
+last_built old new last place here e = by (is_named place.parent place.name place.index last) refl (id_at new place) refl
+  where
+    behind : or_else (id_at new place) (one_where (is_named place.parent place.name place.index last) (suc (length new))) ≡ Some (length old)
+    behind = sym (added_id new last place) ∙ (ap (λ (ls : List Record). id_at ls place) (sym e) ∙ here)
+
+    by : (b : Bool) → is_named place.parent place.name place.index last ≡ b → (o : Option ℕ) → id_at new place ≡ o → is_built last.origin ≡ true
+    by true h o f = (both (is_built last.origin) ((last.parent == place.parent) && (bytes_eq last.name place.name && same_index last.index place.index)) h).0
+    by false h None f = absurd (no_id (sym (ap (λ o. or_else o (one_where (is_named place.parent place.name place.index last) (suc (length new)))) f ∙ ap (λ t. one_where t (suc (length new))) h) ∙ behind))
+      where
+        no_id : None ≡ Some (length old) → ⊥
+        no_id s = cc
+    by false h (Some i) f =
+        let within : i < 1 + length new = named_within 1 place.parent place.name place.index new i f in
+        let same : Some i ≡ Some (length old) = sym (ap (λ o. or_else o (one_where (is_named place.parent place.name place.index last) (suc (length new)))) f) ∙ behind in
+        let is : i ≡ length old = cc in
+        let n : length old ≡ suc (length new) = one_less old new last e in
+        absurd (omega (arith, within, is, n))
+
 -- the last one was the first at its place, which is free then
 pub ids_without : {S T : Type 0} (old new : List Record) (last : Record) (place : ModulePlace) (ids : HashMap ModulePlace ℕ S) (after : HashMap ModulePlace ℕ T) → AreIdsOf old ids → place ≡ place_of last → old ≡ new ++ last ∷ []
     → get equal ids place ≡ Some (length old) → ((q : ModulePlace) → get equal after q ≡ cond (equal place q) None (get equal ids q)) → AreIdsOf new after
 ids_without old new last place ids after k same e first u p =
     u p ∙ ap (λ (q : ModulePlace). cond (equal q p) None (get equal ids p)) same
-    ∙ ap (λ b. cond b None (get equal ids p)) (equal_alike last p)
+    ∙ ap (λ b. cond b None (get equal ids p)) (equal_alike last p built)
     ∙ ap (cond (is_named p.parent p.name p.index last) None) (k p ∙ ap (λ (ls : List Record). id_at ls p) e ∙ added_id new last p)
     ∙ by (is_named p.parent p.name p.index last) refl (id_at new p) refl
   where
+    built : is_built last.origin ≡ true
+    built = last_built old new last place (sym (k place) ∙ first) e
+
     found : is_named p.parent p.name p.index last ≡ true → or_else (id_at new p) (Some (suc (length new))) ≡ Some (length old)
     found h = sym (k p ∙ ap (λ (ls : List Record). id_at ls p) e ∙ added_id new last p ∙ ap (λ b. or_else (id_at new p) (one_where b (suc (length new)))) h) ∙ ap (get equal ids) (sym (named_is p last h)) ∙ ap (get equal ids) (sym same) ∙ first
 

@@ -1,14 +1,16 @@
 -- What comes next in a run, step by step.
 use Rattle.std.specs.Prelude.{◌≡◌, ℕ, ◌+◌, map, Bool, true, false, List, [], ◌∷◌, ◌++◌, Option}
-use Rattle.std.specs.Prelude.{Result, Ok, Err}
+use Rattle.std.specs.Prelude.{Some, None, Result, Ok, Err, is_some, if◌then◌else◌}
 use Rattle.model_questions.specs.declared.answer.AskedQuestion.{AskedQuestion}
 use Rattle.model_questions.specs.declared.answer.Question.TheVariants.{InjectionBefore}
 use Rattle.model_questions.specs.Answers.{is_beyond}
 use Rattle.run_semantics.specs.declared.outcome.Outcome.{Outcome}
 use Rattle.run_semantics.specs.declared.outcome.Outcome.TheVariants.{NoMoreEvents, TimeLimit}
 use Rattle.event_set.specs.declared.pending.Pending.{Pending}
+use Rattle.event_set.specs.Events.{last_started}
 use Rattle.run_semantics.specs.World.{World, asked_next}
 use Rattle.run_semantics.specs.Event.{begun}
+use Rattle.run_semantics.specs.Starting.{starting}
 use Rattle.run_semantics.specs.Upcoming.{Upcoming, Comes, Nothing, first_due, first_of}
 use Rattle.kernel_actions.specs.declared.looks.Look.{Look}
 use Rattle.kernel_actions.specs.declared.looks.LookedAt.{LookedAt}
@@ -36,6 +38,22 @@ upcoming_of next.Nothing w = Nothing w
 -- what is asked for an injection is noted
 abbrev pub with_injection_asked : World → World
 with_injection_asked w = asked_next (InjectionBefore (first_due w.pending) w.delivered) w
+
+-- the modules that an event starts, which is for the first of them
+abbrev pub starts_by : ℕ → Option ℕ → World → List ℕ
+starts_by first None w = []
+starts_by first (Some last) w = starting first last w
+
+-- those that the first of these events starts, where it is not later than this limit
+abbrev pub first_starts : Option ℕ → World → List Pending → List ℕ
+first_starts limit w [] = []
+first_starts limit w (p ∷ rest) = if is_beyond limit p.time then []
+    else starts_by p.id (last_started p.what) w
+
+-- whether the first of these events starts modules
+abbrev pub is_start_first : List Pending → Bool
+is_start_first [] = false
+is_start_first (p ∷ rest) = is_some (last_started p.what)
 
 -- whether the first of these events is later than this limit
 abbrev pub first_is_beyond : Option ℕ → List Pending → Bool

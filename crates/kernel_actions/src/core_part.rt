@@ -1,7 +1,7 @@
 //! A world but for the modules and their states.
 
 ghost use Rattle.std.specs.Prelude.{◌≡◌, ◌+◌, ◌^◌, ◌<◌, OnOk, OnErr, IfOk, Some, true, [], ◌∷◌};
-ghost use Rattle.std.specs.Prelude.{◌++◌, length, slice_get, ◌≤◌};
+ghost use Rattle.std.specs.Prelude.{◌++◌, ◌&&◌, length, not, slice_get, take, ◌≤◌};
 ghost use Rattle.model_questions.specs.Questions.{is_of_modules};
 ghost use Rattle.run_question_log.specs.Entries.{noted_in};
 ghost use Rattle.run_semantics.specs.World.{empty, asked, is_live, live_of, timed};
@@ -14,11 +14,15 @@ ghost use Rattle.run_semantics.specs.Routes.{with_change};
 ghost use Rattle.run_semantics.specs.Ending.{with_finished};
 ghost use Rattle.kernel_actions.specs.Upcoming.{asked_in, first_is_beyond, looked};
 ghost use Rattle.kernel_actions.specs.Upcoming.{with_injection_asked, upcoming_of, Begins};
+ghost use Rattle.kernel_actions.specs.Upcoming.{first_starts, is_start_first, starts_by};
 ghost use Rattle.run_semantics.specs.Upcoming.{Comes, first_due, first_of};
 ghost use Rattle.model_injections.specs.Injections.{injection_before};
 ghost use Rattle.model_questions.specs.declared.answer.Question.TheVariants.{BeyondLimit};
 ghost use Rattle.run_semantics.specs.Run.{rooted, created, room_in, unless_many, with_submodules};
-ghost use Rattle.run_semantics.specs.Run.{unstarted, with_started};
+ghost use Rattle.run_semantics.specs.Run.{starting, unstarted, with_started};
+ghost use Rattle.run_semantics.specs.Creating.{has_namesake, is_called, is_full, levels_in};
+ghost use Rattle.run_semantics.specs.Creating.{refused, with_created, with_start};
+ghost use Rattle.model_questions.specs.Records.{same_index};
 ghost use Rattle.run_semantics.specs.Ending.{to_finish};
 ghost use Rattle.run_semantics.specs.Subtree.{among, ids_from, outer_first};
 ghost use Rattle.kernel_actions.specs.Positions.{lengths_of, position_of, cut_to, core_back};
@@ -33,11 +37,11 @@ use event_set::pending::{Happening, Pending};
 use event_set::set::EventSet;
 use model_injections::injection::{Due, Injection, InjectionTurn, injection_before};
 use model_questions::answer::{Answer, Built, Question, is_beyond};
-use model_questions::record::{Origin, Record, path_of, submodule_path};
+use model_questions::record::{MAX_NESTING, Origin, Record, levels_of, path_of, submodule_path};
 use module_api::message::Outgoing;
 use module_api::name::Name;
 use module_api::names::is_scalar_name;
-use module_api::reply::{Action, Appointment, Read, Schedule};
+use module_api::reply::{Action, Appointment, Creation, Read, Schedule};
 use run_question_log::cutting::cut_items;
 use run_question_log::entry::LogEntry;
 use run_question_log::noted_questions::NotedQuestions;
@@ -56,13 +60,16 @@ use sim_values::text::Text;
 use sqlite_items::Items;
 use std::alloc::Global;
 use std::marker::Model;
-use subtrees::{all_ids, common, inner_first, outer_first, subtree_in, without};
+use subtrees::{all_ids, between, common, inner_first, outer_first, subtree_in, without};
 
 /// How many modules live at most.
 const MAX_LIVE: usize = 65_536;
 
 /// How many modules a run creates at most.
 const MAX_RECORDS: usize = 1_000_000;
+
+/// The least priority of an event.
+const LEAST_PRIORITY: i16 = -32_768;
 
 /// A world but for the modules, which contracts see as a world with none.
 pub struct Core {
@@ -370,10 +377,12 @@ impl Core {
                 self.ended = true;
                 Ok(EventFlow::Stop)
             }
-            // What is sent, deleted or joined asks of the model or calls modules: it is no deed.
+            // What is sent, created, deleted or joined asks of the model or calls modules: it is no
+            // deed.
             Action::Send(_, _)
             | Action::SendDelayed(_, _, _)
             | Action::SendDirect(_, _, _)
+            | Action::Create(_)
             | Action::Delete(_, _)
             | Action::Connect(_, _, _)
             | Action::Disconnect(_) => Ok(EventFlow::GoOn),
@@ -745,6 +754,48 @@ impl Core {
         }
     }
 
+    /// Whether the first of the events to come starts modules.
+    pub fn is_start_first(&self) -> bool
+        ensures { result ≡ is_start_first self.now.pending }
+    {
+        match self.pending.first() {
+            Some(coming) => coming.last_started.is_some(),
+            None => false,
+        }
+    }
+
+    /// The modules that an event starts, which is for the first of them.
+    fn starts_by(
+        &self,
+        alloc: Global,
+        first: u32,
+        last: Option<u32>,
+    ) -> Result<Items<u32>, NoMemory>
+        ensures { IfOk result (λ ids. ids ≡ starts_by first last self.now) }
+    {
+        match last {
+            Some(last) => self.starting(alloc, first, last),
+            None => Ok(Items::new(alloc)),
+        }
+    }
+
+    /// The modules that the first of the events to come starts, where it is not later than the time
+    /// limit, which is in picoseconds.
+    pub fn first_starts(&self, alloc: Global, limit: Option<u64>) -> Result<Items<u32>, NoMemory>
+        ensures { IfOk result (λ ids. ids ≡ first_starts limit self.now self.now.pending) }
+    {
+        if self.is_first_beyond(limit) {
+            return Ok(Items::new(alloc));
+        }
+        match self.pending.first() {
+            Some(coming) => {
+                let ids = self.starts_by(alloc, coming.id, coming.last_started)?;
+                Ok(ids)
+            }
+            None => Ok(Items::new(alloc)),
+        }
+    }
+
     /// Begins what comes next, or tells how the run ends instead. The limit is that of times, in
     /// picoseconds.
     #[tactic(auto, using(crate::proofs::Lasting::growth_same))]
@@ -795,7 +846,8 @@ impl Core {
     /// Creates one more module.
     fn create(&mut self, alloc: Global, parent: u32, built: &Built) -> Result<(), NoMemory>
         requires { length self.old.records + 1 < 2 ^ 32 }
-        ensures { OnOk result (self.new ≡ with_submodules parent (built.now ∷ []) self.old) }
+        ensures ok { OnOk result (self.new ≡ with_submodules parent (built.now ∷ []) self.old) }
+        ensures err { OnErr result (self.new ≡ self.old) }
     {
         let name = built.name.copy(alloc)?;
         let class = copy_class(alloc, &built.class)?;
@@ -813,7 +865,8 @@ impl Core {
     /// Creates the submodules of a module, in order.
     fn create_all(&mut self, alloc: Global, parent: u32, inside: &[Built]) -> Result<(), NoMemory>
         requires { length self.old.records + length inside.now < 2 ^ 32 }
-        ensures { OnOk result (self.new ≡ with_submodules parent inside.now self.old) }
+        ensures ok { OnOk result (self.new ≡ with_submodules parent inside.now self.old) }
+        ensures grown { IsGrownFrom self.old self.new }
     {
         for built in inside {
             self.create(alloc, parent, built)?;
@@ -832,14 +885,16 @@ impl Core {
     }
 
     /// Creates the submodules of a module, where they are not too many.
+    #[tactic(auto, using(crate::proofs::Lasting::growth_same))]
     fn create_few(
         &mut self,
         alloc: Global,
         parent: u32,
         inside: &[Built],
     ) -> Result<EventFlow, NoMemory>
-        ensures { IfOk result (λ turn. flow_of turn self.new
+        ensures flow { IfOk result (λ turn. flow_of turn self.new
             ≡ unless_many parent inside.now self.old (slice_get inside.now (room_in self.old))) }
+        ensures grown { IsGrownFrom self.old self.new }
     {
         if let Some(built) = inside.get(self.room()) {
             let records = self.records.as_slice();
@@ -851,13 +906,16 @@ impl Core {
     }
 
     /// Creates what the model answered to be inside of a module.
+    #[tactic(auto, using(crate::proofs::Lasting::growth_same))]
     pub fn build(
         &mut self,
         alloc: Global,
         parent: u32,
         found: &Answer,
     ) -> Result<EventFlow, NoMemory>
-        ensures { IfOk result (λ turn. flow_of turn self.new ≡ created parent found.now self.old) }
+        ensures flow { IfOk result (λ turn. flow_of turn self.new
+            ≡ created parent found.now self.old) }
+        ensures grown { IsGrownFrom self.old self.new }
     {
         match found {
             Answer::Inside(inside) => self.create_few(alloc, parent, inside.as_slice()),
@@ -887,11 +945,20 @@ impl Core {
         without(alloc, live.as_slice(), self.started.as_slice())
     }
 
-    /// The network with those of these modules that are inside of it, in the order of calls.
-    pub fn calls_of_network(&self, alloc: Global, ids: &[u32]) -> Result<Items<u32>, NoMemory>
-        ensures { IfOk result (λ calls. calls ≡ outer_first self.now.records ids.now 1) }
+    /// The ids of those of them that were created together, from the first to the last of these
+    /// ids.
+    pub fn starting(&self, alloc: Global, first: u32, last: u32) -> Result<Items<u32>, NoMemory>
+        ensures { IfOk result (λ ids. ids ≡ starting first last self.now) }
     {
-        outer_first(alloc, self.records.as_slice(), ids, 1)
+        let unstarted = self.unstarted(alloc)?;
+        between(alloc, unstarted.as_slice(), first, last)
+    }
+
+    /// A module with those of these modules that are inside of it, in the order of calls.
+    pub fn calls_from(&self, alloc: Global, ids: &[u32], first: u32) -> Result<Items<u32>, NoMemory>
+        ensures { IfOk result (λ calls. calls ≡ outer_first self.now.records ids.now first) }
+    {
+        outer_first(alloc, self.records.as_slice(), ids, first)
     }
 
     /// All modules that live and were started, in the order of the end.
@@ -904,11 +971,108 @@ impl Core {
     }
 
     /// Notes that these modules are started.
-    pub fn mark_started(&mut self, ids: Items<u32>) -> Result<(), NoMemory>
-        ensures { OnOk result (self.new ≡ with_started ids self.old) }
+    pub fn mark_started(&mut self, ids: &[u32]) -> Result<(), NoMemory>
+        ensures done { OnOk result (self.new ≡ with_started ids.now self.old) }
+        ensures grown { IsGrownFrom self.old self.new }
     {
-        self.started.append(ids)?;
+        note_ids(&mut self.started, ids)
+    }
+
+    // ---- modules that are created
+
+    /// Whether a record, which is of the module of that id, is of a submodule of that one with that
+    /// name and index, and the module is not dead.
+    fn is_namesake(&self, parent: u32, creation: &Creation, created: &Record, id: u32) -> bool
+        ensures { result
+            ≡ (is_called parent creation.now (Some created.now) && not (among id self.now.dead)) }
+    {
+        is_called(parent, creation, created) && !is_among(self.dead.as_slice(), id)
+    }
+
+    /// Whether a submodule of a module that lives has that name and index.
+    pub fn has_namesake(&self, parent: u32, creation: &Creation) -> bool
+        ensures { result ≡ has_namesake parent creation.now self.now }
+    {
+        for (index, record) in self.records.as_slice().iter().enumerate() {
+            let id = index as u32 + 1;
+            if self.is_namesake(parent, creation, record, id) {
+                return true;
+            }
+        }
+        false
+    }
+
+    /// Whether no more modules can be created.
+    pub fn is_full(&self) -> bool
+        ensures { result ≡ is_full (room_in self.now) }
+    {
+        self.room() == 0
+    }
+
+    /// How many levels there are for what stands in the module of that id.
+    #[tactic(auto, unfolding(run_semantics::specs::Building::most_nested))]
+    pub fn levels_in(&self, parent: u32) -> u32
+        ensures { result ≡ levels_in parent self.now }
+    {
+        MAX_NESTING.saturating_sub(levels_of(self.records.as_slice(), parent))
+    }
+
+    /// Tells why a module can't be created, with the path that it would have.
+    pub fn refuse(
+        &self,
+        alloc: Global,
+        parent: u32,
+        creation: &Creation,
+        fault: ModelFault,
+    ) -> Result<EventFlow, NoMemory>
+        ensures { IfOk result (λ turn. flow_of turn self.now
+            ≡ refused parent creation.now fault self.now) }
+    {
+        let name = creation.name.as_bytes();
+        let path = submodule_path(alloc, self.records.as_slice(), parent, name, creation.index)?;
+        Ok(EventFlow::Break(path, RunFault::Model(fault)))
+    }
+
+    /// A module is there that is created in that one, with that class.
+    pub fn add_created(
+        &mut self,
+        alloc: Global,
+        parent: u32,
+        creation: &Creation,
+        class: Option<Text>,
+    ) -> Result<(), NoMemory>
+        requires { length self.old.records + 1 < 2 ^ 32 }
+        ensures ok { OnOk result (self.new ≡ with_created parent creation.now class self.old) }
+        ensures err { OnErr result (self.new ≡ self.old) }
+    {
+        let created = Record {
+            parent,
+            name: creation.name.text(alloc)?,
+            index: creation.index,
+            class,
+            origin: Origin::Created(creation.plan.copy(alloc)?),
+        };
+        self.records.push(alloc, created)?;
         Ok(())
+    }
+
+    /// As many modules are left, those that were created first.
+    pub fn cut_records(&mut self, left: usize)
+        ensures { self.new ≡ record self.old { records = take left self.old.records } }
+    {
+        self.records.cut(left);
+    }
+
+    /// The start of a module that was created is an event of this time, which comes before the
+    /// others.
+    pub fn insert_start(&mut self, first: u32) -> Result<(), NoMemory>
+        requires { self.old.next + 1 < 2 ^ 128 }
+        ensures done { OnOk result (self.new ≡ with_start first self.old) }
+        ensures err { OnErr result (self.new ≡ self.old) }
+    {
+        let last = self.records.len() as u32;
+        self.pending
+            .insert(self.clock, LEAST_PRIORITY, first, Happening::Start(last))
     }
 
     // ---- modules that are deleted
@@ -935,7 +1099,7 @@ impl Core {
         ensures done { OnOk result (self.new ≡ gone ids.now self.old) }
         ensures grown { IsGrownFrom self.old self.new }
     {
-        note_dead(&mut self.dead, ids)?;
+        note_ids(&mut self.dead, ids)?;
         self.pending.drop_modules(ids);
         Ok(())
     }
@@ -1011,13 +1175,34 @@ impl Core {
     }
 }
 
-/// Notes that these modules are dead. Where memory runs out some of them are noted.
-fn note_dead(dead: &mut Items<u32>, ids: &[u32]) -> Result<(), NoMemory>
-    ensures ok { OnOk result (dead.new ≡ dead.old ++ ids.now) }
-    ensures grown { GoesOn dead.old dead.new }
+/// Notes these modules besides. Where memory runs out some of them are noted.
+fn note_ids(noted: &mut Items<u32>, ids: &[u32]) -> Result<(), NoMemory>
+    ensures ok { OnOk result (noted.new ≡ noted.old ++ ids.now) }
+    ensures grown { GoesOn noted.old noted.new }
 {
     for id in ids {
-        dead.push(*id)?;
+        noted.push(*id)?;
     }
     Ok(())
+}
+
+/// Whether a module has no index, or that one, as another one has.
+fn are_same(index: Option<u32>, other: Option<u32>) -> bool
+    ensures { result ≡ same_index index other }
+{
+    match index {
+        Some(index) => match other {
+            Some(other) => index == other,
+            None => false,
+        },
+        None => other.is_none(),
+    }
+}
+
+/// Whether a record is of a submodule of that one with that name and index.
+fn is_called(parent: u32, creation: &Creation, created: &Record) -> bool
+    ensures { result ≡ is_called parent creation.now (Some created.now) }
+{
+    created.parent == parent
+        && (created.name.is(creation.name.as_bytes()) && are_same(created.index, creation.index))
 }

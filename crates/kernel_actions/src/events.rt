@@ -81,6 +81,14 @@ pub fn message_of(alloc: Global, event: Pending) -> Message
             origin: Origin::Outside,
         },
         Happening::Delivery(delivery) => delivered(delivery, priority),
+        // A start has no message.
+        Happening::Start(_) => Message {
+            kind: 0,
+            priority,
+            bits: 0,
+            payload: Text::empty(alloc),
+            origin: Origin::Outside,
+        },
     }
 }
 

@@ -1,10 +1,11 @@
 //! The modules that were created, found by where they stand.
 
 ghost use Rattle.std.specs.Prelude.{◌≡◌, ◌+◌, ◌^◌, ◌<◌, ◌∷◌, ◌++◌, [], IfOk, OnOk, OnErr, length};
-ghost use Rattle.std.specs.Prelude.{take, Some};
+ghost use Rattle.std.specs.Prelude.{take, true, Some};
 ghost use Rattle.std.specs.Bool.{Decides};
 ghost use Rattle.std.specs.HashMap.{get};
 ghost use Rattle.model_questions.specs.Hops.{neighbour_id};
+ghost use Rattle.model_questions.specs.Records.{is_built};
 ghost use Rattle.model_questions.specs.declared.record.Record.{Record as record_type};
 ghost use Rattle.run_semantics.specs.Routes.{hop_by, next_by};
 ghost use Rattle.kernel_actions.specs.Places.{equal, id_at, place_of};
@@ -110,12 +111,18 @@ impl RecordTable {
     {
         match created.origin {
             Origin::Built => self.push_built(alloc, created),
+            // No hop leads to it by its name.
+            Origin::Created(_) => {
+                self.records.push(created)?;
+                Ok(())
+            }
         }
     }
 
     /// One more was built: it is found at its place, unless another one was built there before.
     fn push_built(&mut self, alloc: Global, created: Record) -> Result<(), NoMemory>
-        requires { length self.old + 1 < 2 ^ 32 }
+        requires room { length self.old + 1 < 2 ^ 32 }
+        requires built { is_built created.origin ≡ true }
         ensures ok { OnOk result (self.new ≡ self.old ++ created ∷ []) }
         ensures err { OnErr result (self.new ≡ self.old) }
     {

@@ -16,3 +16,5 @@ pub mod Catalogues
 pub mod CatalogueLaws
 pub mod Joined
 pub mod JoinedLaws
+pub mod Paths
+pub mod PathLaws

@@ -9,5 +9,6 @@ pub mod laws;
 pub mod looks;
 pub mod numbers;
 pub mod pairs;
+pub mod paths;
 pub mod player;
 pub mod replies;

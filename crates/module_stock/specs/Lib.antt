@@ -9,6 +9,7 @@ pub mod Queue
 pub mod QueueLaws
 pub mod Sink
 pub mod Router
+pub mod Spawner
 pub mod Stock
 pub mod StockLaws
 pub mod Modules

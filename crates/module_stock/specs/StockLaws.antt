@@ -14,6 +14,7 @@ use Rattle.module_stock.specs.Queue.{queue_script}
 use Rattle.module_stock.specs.QueueLaws.{queue_keeps}
 use Rattle.module_stock.specs.Sink.{sink_script}
 use Rattle.module_stock.specs.Router.{router_script}
+use Rattle.module_stock.specs.Spawner.{spawner_script}
 use Rattle.module_stock.specs.Stock.{entries, stock}
 
 sink_keeps : KeepsOwn sink_script (λ s. Unit {0})
@@ -23,6 +24,10 @@ sink_keeps = keeps_all sink_script (λ s. refl)
 router_keeps : KeepsOwn router_script (λ r. Unit {0})
 unfolding router_script
 router_keeps = keeps_all router_script (λ r. refl)
+
+spawner_keeps : KeepsOwn spawner_script (λ s. Unit {0})
+unfolding spawner_script
+spawner_keeps = keeps_all spawner_script (λ s. refl)
 
 pub stock_lawful : IsLawful stock
 unfolding stock
@@ -36,7 +41,10 @@ stock_lawful = catalogue_lawful entries (
         entry_lawful (codes "Sink") sink_script (λ s. Unit {0}) sink_keeps,
         (
           entry_lawful (codes "Router") router_script (λ r. Unit {0}) router_keeps,
-          tt,
+          (
+            entry_lawful (codes "Spawner") spawner_script (λ s. Unit {0}) spawner_keeps,
+            tt,
+          ),
         ),
       ),
     ),
@@ -83,6 +91,15 @@ pub router_is_fresh : IsFresh stock (codes "Router")
     (module_by (codes "Router") router_script (record {}))
 unfolding stock naming_of router_script
 router_is_fresh = record {
+  of_kind = record { known = refl; named = refl };
+  kind = refl;
+  initial = refl;
+}
+
+pub spawner_is_fresh : IsFresh stock (codes "Spawner")
+    (module_by (codes "Spawner") spawner_script (record { step = 0 }))
+unfolding stock naming_of spawner_script
+spawner_is_fresh = record {
   of_kind = record { known = refl; named = refl };
   kind = refl;
   initial = refl;

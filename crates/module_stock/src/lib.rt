@@ -8,5 +8,6 @@ pub mod queue;
 pub mod router;
 pub mod sink;
 pub mod source;
+pub mod spawner;
 pub mod stock;
 pub mod tick;

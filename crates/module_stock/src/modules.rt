@@ -9,6 +9,7 @@ use crate::queue::Queue;
 use crate::router::Router;
 use crate::sink::Sink;
 use crate::source::Source;
+use crate::spawner::Spawner;
 use crate::tick::Tick;
 use module_api::call::Call;
 use module_api::reply::Reply;
@@ -26,6 +27,7 @@ pub enum StockModule {
     Queue(Player<Queue>),
     Sink(Player<Sink>),
     Router(Player<Router>),
+    Spawner(Player<Spawner>),
 }
 
 impl StockModule {
@@ -46,6 +48,8 @@ impl StockModule {
             Some(StockModule::Sink(Player(Sink {})))
         } else if kind == "Router".as_bytes() {
             Some(StockModule::Router(Player(Router {})))
+        } else if kind == "Spawner".as_bytes() {
+            Some(StockModule::Spawner(Player(Spawner::new())))
         } else {
             None
         }
@@ -62,6 +66,7 @@ impl SimpleModule for StockModule {
             StockModule::Queue(m) => m.kind(),
             StockModule::Sink(m) => m.kind(),
             StockModule::Router(m) => m.kind(),
+            StockModule::Spawner(m) => m.kind(),
         }
     }
 
@@ -72,6 +77,7 @@ impl SimpleModule for StockModule {
             StockModule::Queue(m) => m.stages(),
             StockModule::Sink(m) => m.stages(),
             StockModule::Router(m) => m.stages(),
+            StockModule::Spawner(m) => m.stages(),
         }
     }
 
@@ -82,6 +88,7 @@ impl SimpleModule for StockModule {
             StockModule::Queue(m) => m.initialize(alloc, call),
             StockModule::Sink(m) => m.initialize(alloc, call),
             StockModule::Router(m) => m.initialize(alloc, call),
+            StockModule::Spawner(m) => m.initialize(alloc, call),
         }
     }
 
@@ -92,6 +99,7 @@ impl SimpleModule for StockModule {
             StockModule::Queue(m) => m.handle_message(alloc, call),
             StockModule::Sink(m) => m.handle_message(alloc, call),
             StockModule::Router(m) => m.handle_message(alloc, call),
+            StockModule::Spawner(m) => m.handle_message(alloc, call),
         }
     }
 
@@ -102,6 +110,7 @@ impl SimpleModule for StockModule {
             StockModule::Queue(m) => m.finish(alloc, call),
             StockModule::Sink(m) => m.finish(alloc, call),
             StockModule::Router(m) => m.finish(alloc, call),
+            StockModule::Spawner(m) => m.finish(alloc, call),
         }
     }
 
@@ -112,6 +121,7 @@ impl SimpleModule for StockModule {
             StockModule::Queue(m) => m.save(alloc),
             StockModule::Sink(m) => m.save(alloc),
             StockModule::Router(m) => m.save(alloc),
+            StockModule::Spawner(m) => m.save(alloc),
         }
     }
 
@@ -122,6 +132,7 @@ impl SimpleModule for StockModule {
             StockModule::Queue(m) => m.load(alloc, state),
             StockModule::Sink(m) => m.load(alloc, state),
             StockModule::Router(m) => m.load(alloc, state),
+            StockModule::Spawner(m) => m.load(alloc, state),
         }
     }
 }

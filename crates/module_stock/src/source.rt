@@ -101,7 +101,7 @@ impl Source {
 }
 
 /// The message that is sent.
-fn message(alloc: Global, bits: u64) -> Outgoing
+pub fn message(alloc: Global, bits: u64) -> Outgoing
     ensures { result ≡ message bits }
 {
     Outgoing {

@@ -18,12 +18,13 @@ impl Catalogue for Stock {
     ghost lawful = { stock_lawful };
 }
 
-/// Exactly Tick, Source, Queue, Sink and Router are known. It does nothing: its contract is the
-/// law.
+/// Exactly Tick, Source, Queue, Sink, Router and Spawner are known. It does nothing: its contract is
+/// the law.
 pub fn stock_kinds_are_known()
     ensures { (kind : List ℕ)
         → IsTrue (stock.known kind) ↔ ((kind ≡ codes "Tick") ⊎ ((kind ≡ codes "Source")
-        ⊎ ((kind ≡ codes "Queue") ⊎ ((kind ≡ codes "Sink") ⊎ (kind ≡ codes "Router"))))) }
+        ⊎ ((kind ≡ codes "Queue") ⊎ ((kind ≡ codes "Sink")
+        ⊎ ((kind ≡ codes "Router") ⊎ (kind ≡ codes "Spawner")))))) }
 {}
 
 /// What a reply of a stock module lists as read decides the reply and the state after it. It does

@@ -20,10 +20,10 @@ abbrev is_kind : List ℕ → List ℕ → Bool
 is_kind kind name = bytes_eq kind name
 
 abbrev Known : List ℕ → Type 0
-Known kind = IsTrue (is_kind kind (codes "Tick") || (is_kind kind (codes "Source") || (is_kind kind (codes "Queue") || (is_kind kind (codes "Sink") || (is_kind kind (codes "Router") || false)))))
+Known kind = IsTrue (is_kind kind (codes "Tick") || (is_kind kind (codes "Source") || (is_kind kind (codes "Queue") || (is_kind kind (codes "Sink") || (is_kind kind (codes "Router") || (is_kind kind (codes "Spawner") || false))))))
 
 abbrev Named : List ℕ → Type 0
-Named kind = (kind ≡ codes "Tick") ⊎ ((kind ≡ codes "Source") ⊎ ((kind ≡ codes "Queue") ⊎ ((kind ≡ codes "Sink") ⊎ (kind ≡ codes "Router"))))
+Named kind = (kind ≡ codes "Tick") ⊎ ((kind ≡ codes "Source") ⊎ ((kind ≡ codes "Queue") ⊎ ((kind ≡ codes "Sink") ⊎ ((kind ≡ codes "Router") ⊎ (kind ≡ codes "Spawner")))))
 
 known_are : (kind : List ℕ) → Known kind → Named kind
 known_are kind =
@@ -31,14 +31,16 @@ known_are kind =
     (one_of (is_kind kind (codes "Source")) _ (bytes_eq-Decides kind (codes "Source")).0
     (one_of (is_kind kind (codes "Queue")) _ (bytes_eq-Decides kind (codes "Queue")).0
     (one_of (is_kind kind (codes "Sink")) _ (bytes_eq-Decides kind (codes "Sink")).0
-    (only (is_kind kind (codes "Router")) (bytes_eq-Decides kind (codes "Router")).0))))
+    (one_of (is_kind kind (codes "Router")) _ (bytes_eq-Decides kind (codes "Router")).0
+    (only (is_kind kind (codes "Spawner")) (bytes_eq-Decides kind (codes "Spawner")).0)))))
 
 are_known : (kind : List ℕ) → Named kind → Known kind
 are_known kind (inl e) = subst Known (sym e) refl
 are_known kind (inr (inl e)) = subst Known (sym e) refl
 are_known kind (inr (inr (inl e))) = subst Known (sym e) refl
 are_known kind (inr (inr (inr (inl e)))) = subst Known (sym e) refl
-are_known kind (inr (inr (inr (inr e)))) = subst Known (sym e) refl
+are_known kind (inr (inr (inr (inr (inl e))))) = subst Known (sym e) refl
+are_known kind (inr (inr (inr (inr (inr e))))) = subst Known (sym e) refl
 
 pub returns : goal.returns
 unfolding stock

@@ -1,4 +1,4 @@
-use Rattle.std.proofs.Common.{◌∙◌, ℕ, Option, Some, ap, sym, refl, map}
+use Rattle.std.proofs.Common.{◌∙◌, ℕ, Option, Some, ap, sym, map}
 use Rattle.sim_time.specs.Time.{time_sum}
 use Rattle.module_api.specs.declared.reply.Action.{Action}
 use Rattle.run_semantics.specs.Perform.{perform, sent}
@@ -6,6 +6,7 @@ use Rattle.kernel_boxes.specs.Seats.{instance_of}
 use Rattle.kernel.specs.Kernels.{boxes_in, world_in}
 use Rattle.kernel.proofs.Apart.{deed_is}
 use Rattle.kernel.proofs.Calling.{ok_step}
+use Rattle.kernel.proofs.Creations.{created_is}
 use Rattle.kernel.proofs.Sendings.{connected_is, direct_is, disconnected_is, other_is_deed, sent_is}
 use Rattle.kernel_actions.proofs.Lasting.{deed_left}
 use Rattle.kernel.proofs.kernel.Kernel.perform.Goals as goal
@@ -48,6 +49,13 @@ returns-in-Disconnect-clause-step g c =
     disconnected_is (map instance_of (boxes_in (λ b. (g.dyn-1.0.entry b.vtable).1) c.args.self.now)) g.A.Answers.answers c.args.id c.in-Disconnect.place c.args.self.now.core c.disconnect.new.core turn step
     ∙ ap (λ (a : Action). perform g.C.Catalogue.behaviour g.A.Answers.answers c.args.id a world) (sym c.in-Disconnect.is))
 
+pub returns-in-Create-clause-step : goal.returns-in-Create-clause-step
+returns-in-Create-clause-step g c =
+    let world = world_in (λ b. (g.dyn-1.0.entry b.vtable).1) c.args.self.now in
+    ok_step c.create.result c.create.ensures.flow (λ turn step.
+    created_is (map instance_of (boxes_in (λ b. (g.dyn-1.0.entry b.vtable).1) c.args.self.now)) g.A.Answers.answers c.args.id c.in-Create.creation c.args.self.now.core c.create.new.core turn step
+    ∙ ap (λ (a : Action). perform g.C.Catalogue.behaviour g.A.Answers.answers c.args.id a world) (sym c.in-Create.is))
+
 pub returns-in_default : goal.returns-in_default
 returns-in_default g c =
     let world = world_in (λ b. (g.dyn-1.0.entry b.vtable).1) c.args.self.now in
@@ -55,6 +63,6 @@ returns-in_default g c =
       kinds = c.requires.callable.kinds;
       step = ok_step c.deed.result c.deed.ensures.flow (λ turn step.
           deed_is (map instance_of (boxes_in (λ b. (g.dyn-1.0.entry b.vtable).1) c.args.self.now)) c.args.id c.args.action.now c.args.self.now.core c.deed.new.self turn step
-          ∙ sym (other_is_deed g.C.Catalogue.behaviour g.A.Answers.answers c.args.id c.args.action.now world c.in_default.not-Send c.in_default.not-SendDelayed c.in_default.not-SendDirect c.in_default.not-Connect c.in_default.not-Disconnect c.in_default.not-Delete));
+          ∙ sym (other_is_deed g.C.Catalogue.behaviour g.A.Answers.answers c.args.id c.args.action.now world c.in_default.not-Send c.in_default.not-SendDelayed c.in_default.not-SendDirect c.in_default.not-Connect c.in_default.not-Disconnect c.in_default.not-Delete c.in_default.not-Create));
       grown = deed_left c.deed.result c.args.id c.args.action.now c.args.self.now.core c.deed.new.self c.deed.ensures.flow c.deed.ensures.err;
     }

@@ -21,4 +21,4 @@ pub loop-preserved : goal.loop-preserved
 loop-preserved g c =
     let now = c.loop.invariant in
     next_look g.A.Answers.answers (world_in (λ b. (g.dyn-1.0.entry b.vtable).1) c.args.self.now) c.loop.look c.look_on.new.look c.in_ok-next.field-0 (length c.injections.result.now + 1) c.loop.counter now.0
-    c.loop-test.true now.1 now.2 c.in_default.is c.in_ok-next.ensures
+    c.loop-test.true now.1 now.2 c.in_default.is c.in_ok-next.ensures.looks

@@ -12,5 +12,5 @@ invariant_of-self-then-contains_key c =
 
 pub invariant_of-self-in-Ok : goal.invariant_of-self-in-Ok
 invariant_of-self-in-Ok c =
-    ids_with c.self.inside.records c.push-2.new.self c.args.created c.in_ok-place.place (c.len.result + 1) c.self.inside.ids c.insert.new.self c.self.invariant c.in_ok-place.ensures
+    ids_with c.self.inside.records c.push-2.new.self c.args.created c.in_ok-place.place (c.len.result + 1) c.self.inside.ids c.insert.new.self c.self.invariant c.requires.built c.in_ok-place.ensures
     (sym c.contains_key.ensures ∙ c.if-contains_key.false) (omega (arith, c.len.ensures)) c.in_ok-push-2.ensures.ok c.in-Ok.ensures.updates.0

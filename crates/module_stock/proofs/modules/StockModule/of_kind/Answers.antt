@@ -1,5 +1,5 @@
 use Rattle.std.proofs.Common.{◌≡◌, codes, rules}
-use Rattle.module_stock.specs.StockLaws.{tick_is_fresh, source_is_fresh, queue_is_fresh, sink_is_fresh, router_is_fresh}
+use Rattle.module_stock.specs.StockLaws.{tick_is_fresh, source_is_fresh, queue_is_fresh, sink_is_fresh, router_is_fresh, spawner_is_fresh}
 use Rattle.module_stock.proofs.modules.StockModule.of_kind.Goals as goal
 
 pub returns-then-eq-clause-fresh : goal.returns-then-eq-clause-fresh
@@ -26,3 +26,8 @@ pub returns-then-eq-5-clause-fresh : goal.returns-then-eq-5-clause-fresh
 returns-then-eq-5-clause-fresh c =
     let kind : c.args.kind.now ≡ codes "Router" = search rules in
     rw kind router_is_fresh
+
+pub returns-then-eq-6-clause-fresh : goal.returns-then-eq-6-clause-fresh
+returns-then-eq-6-clause-fresh c =
+    let kind : c.args.kind.now ≡ codes "Spawner" = search rules in
+    rw (kind, c.new-then-eq-6.ensures) spawner_is_fresh
