@@ -1,9 +1,9 @@
 -- The boxes that stay where a run goes back, and the one that is wanted there.
-use Rattle.std.proofs.Common.{◌≡◌, inl, inr, ℕ, ◌≤◌, ◌==◌, nat_le, nat_lt, bytes_eq, Bool, true, false, cond, List, [], ◌∷◌, ◌++◌, Option, Some, None, option_map, refl, sym, ap, ◌∙◌, arith, subst, append-nil}
+use Rattle.std.proofs.Common.{◌≡◌, ℕ, ◌≤◌, ◌==◌, nat_le, nat_lt, bytes_eq, Bool, true, false, cond, List, [], ◌∷◌, Option, Some, None, option_map, refl, sym, ap, ◌∙◌, arith, subst}
 use Rattle.std.proofs.lemmas.Bool.Decides.{nat_tests}
 use Rattle.std.specs.List.{filter}
 use Rattle.std.specs.Option.{is_some}
-use Rattle.checkpoints.specs.Stored.{counts_of, last_of, left, up_to, IsBegun, Timeline}
+use Rattle.checkpoints.specs.Stored.{counts_of, last_of, left, Timeline}
 use Rattle.kernel_actions.specs.declared.position.Position.{Position}
 use Rattle.module_api.specs.Behaviour.{Behaviour}
 use Rattle.module_api.specs.Laws.{IsLawful}
@@ -19,10 +19,10 @@ use Rattle.kernel_boxes.specs.Staying.{first_without, is_held, is_of, staying}
 use Rattle.kernel_boxes.proofs.Going.{held_is}
 use Rattle.kernel.specs.declared.request.Request.{Request}
 use Rattle.kernel.specs.Seats.{lacking_of, request_for, with_seat}
-use Rattle.checkpoint_runs.specs.Kept.{lacking_at, AreGood, IsAlone, IsGood}
+use Rattle.checkpoint_runs.specs.Kept.{lacking_at, AreGood, IsGood}
 use Rattle.checkpoint_runs.specs.Positions.{cut, last_count, start_of, up_to_event, CanGoOn}
-use Rattle.checkpoint_runs.specs.Running.{is_one_of, kept_back, needed_by, parts_in, wanted_back, with_part}
-use Rattle.checkpoint_runs.proofs.Counting.{last_count_is, left_stored, start_within}
+use Rattle.checkpoint_runs.specs.Running.{is_one_of, kept_back, needed_back, parts_in, with_part}
+use Rattle.checkpoint_runs.proofs.Counting.{again, last_count_is, left_stored, start_within}
 use Rattle.checkpoint_runs.proofs.Good.{good_last}
 use Rattle.checkpoint_runs.proofs.Standing.{wanted_grown, without_is}
 
@@ -49,38 +49,21 @@ parts_stay saved (s ∷ ss) = by (is_of saved s) (is_one_of (standing saved) (pa
 good_modules : (b : Behaviour) (m : Answers) (w : World) (p : Position) → IsGood b m w p → p.modules ≡ (world_at (after b m p.count)).modules
 good_modules b m w p h = ap (λ (q : Position). q.modules) h.position ∙ sym (ap (λ s. (world_at s).modules) h.stage)
 
--- where no box waits
-kept_alone : (b : Behaviour) (m : Answers) (k : ℕ) (ss xs : List BoxAt) → xs ≡ [] → kept_back b m k (parts_in ss ++ parts_in xs) ≡ filter (is_one_of (standing (world_at (after b m k)).modules)) (parts_in ss)
-kept_alone b m k ss xs none = ap (kept_back b m k) (ap (λ ys. parts_in ss ++ parts_in ys) none ∙ append-nil (parts_in ss))
-
 -- THE BOXES after it has gone back
-pub boxes_back : (b : Behaviour) (m : Answers) (w : World) (p : Position) (ss ts xs ys : List BoxAt) → IsGood b m w p → AreKept b (staying p.modules ss) ts → xs ≡ [] → ys ≡ []
-    → parts_in ts ++ parts_in ys ≡ kept_back b m p.count (parts_in ss ++ parts_in xs)
-boxes_back b m w p ss ts xs ys h kept none empty =
-    ap (λ zs. parts_in ts ++ parts_in zs) empty ∙ append-nil (parts_in ts)
-    ∙ kept.standing_is
+pub boxes_back : (b : Behaviour) (m : Answers) (w : World) (p : Position) (ss ts : List BoxAt) → IsGood b m w p → AreKept b (staying p.modules ss) ts → parts_in ts ≡ kept_back b m p.count (parts_in ss)
+boxes_back b m w p ss ts h kept =
+    kept.standing_is
     ∙ ap (λ is. parts_in (staying is ss)) (good_modules b m w p h)
     ∙ parts_stay (world_at (after b m p.count)).modules ss
-    ∙ sym (kept_alone b m p.count ss xs none)
 
 -- THE BOX THAT IS WANTED
-pub back_needs : (b : Behaviour) (m : Answers) (w : World) (p : Position) (ss xs : List BoxAt) → IsGood b m w p → xs ≡ [] → lacking_of w p.modules ss ≡ needed_by b m (Some p.count) (kept_back b m p.count (parts_in ss ++ parts_in xs))
-back_needs b m w p ss xs h none =
+pub back_needs : (b : Behaviour) (m : Answers) (w : World) (p : Position) (ss : List BoxAt) → IsGood b m w p → lacking_of w p.modules ss ≡ needed_back b m p.count (kept_back b m p.count (parts_in ss))
+back_needs b m w p ss h =
     let v : World = world_at (after b m p.count) in
     let here : v ≡ h.world = ap world_at h.stage in
     ap (λ is. lacking_of w is ss) (good_modules b m w p h)
     ∙ ap (λ boxes. option_map (request_for w) (first_without boxes (standing v.modules))) (parts_stay v.modules ss)
     ∙ wanted_grown b m p.count w (filter (is_one_of (standing v.modules)) (parts_in ss)) (subst (λ (x : World). GoesOn x.records w.records) (sym here) h.grown.records)
-    ∙ ap (wanted_back v) (sym (kept_alone b m p.count ss xs none))
-
--- no box waits where there is a position
-pub alone_none : (xs : List BoxAt) (t : Timeline Position) (p : Position) (limit : ℕ) → IsAlone xs t → last_of (up_to limit t.stored) ≡ Some p → xs ≡ []
-alone_none xs t p limit (inl none) e = none
-alone_none xs t p limit (inr none) e = let nothing : last_of (up_to limit []) ≡ Some p = subst (λ (ps : List Position). last_of (up_to limit ps) ≡ Some p) none e in cc
-
--- where nothing is stored any may wait
-pub begun_alone : (xs : List BoxAt) (old new : Timeline Position) → IsBegun old → new ≡ old → IsAlone xs new
-begun_alone xs old new none same = inr (ap (λ (t : Timeline Position). t.stored) (same ∙ none))
 
 -- ---- one more box
 
@@ -110,7 +93,7 @@ requested_ids w None = refl
 requested_ids w (Some p) = refl
 
 -- by its id
-pub lacking_is : (b : Behaviour) (m : Answers) (w : World) (p : Position) (boxes : List Part) → IsGood b m w p → lacking_at (Some p) boxes ≡ option_map (λ (r : Request). r.id) (needed_by b m (Some p.count) boxes)
+pub lacking_is : (b : Behaviour) (m : Answers) (w : World) (p : Position) (boxes : List Part) → IsGood b m w p → lacking_at (Some p) boxes ≡ option_map (λ (r : Request). r.id) (needed_back b m p.count boxes)
 lacking_is b m w p boxes h =
     ap (λ is. option_map (λ (q : Part). q.id) (first_without boxes (standing is))) (good_modules b m w p h)
     ∙ sym (requested_ids (world_at (after b m p.count)) (first_without boxes (standing (world_at (after b m p.count)).modules)))
@@ -125,7 +108,7 @@ parts_each P [] h = tt
 parts_each P (i ∷ is) h = (h.0, parts_each P is h.1)
 
 -- it has no box, and its kind is known
-pub back_wants : (b : Behaviour) → IsLawful b → (m : Answers) (k : ℕ) (boxes : List Part) (r : Request) → needed_by b m (Some k) boxes ≡ Some r → (b.known r.kind ≡ true) × (is_held r.id boxes ≡ false)
+pub back_wants : (b : Behaviour) → IsLawful b → (m : Answers) (k : ℕ) (boxes : List Part) (r : Request) → needed_back b m k boxes ≡ Some r → (b.known r.kind ≡ true) × (is_held r.id boxes ≡ false)
 back_wants b law m k boxes r e =
     let v : World = world_at (after b m k) in
     let q = asked_for v (first_without boxes (standing v.modules)) r e in
@@ -137,59 +120,13 @@ none_is None e = refl
 none_is (Some x) e = cc
 
 -- so there is room for it
-pub not_held : (id : ℕ) (ss xs : List BoxAt) → xs ≡ [] → is_held id (parts_in ss ++ parts_in xs) ≡ false → module_in id ss ≡ None
-not_held id ss xs none e =
-    let alone : parts_in ss ++ parts_in xs ≡ parts_in ss = ap (λ ys. parts_in ss ++ parts_in ys) none ∙ append-nil (parts_in ss) in
-    none_is (module_in id ss) (sym (held_is id ss (module_in id ss) refl) ∙ ap (is_held id) (sym alone) ∙ e)
+pub not_held : (id : ℕ) (ss : List BoxAt) → is_held id (parts_in ss) ≡ false → module_in id ss ≡ None
+not_held id ss e = none_is (module_in id ss) (sym (held_is id ss (module_in id ss) refl) ∙ e)
 
 -- ---- the position where a run waits is the last
 
-last_more : (n s : ℕ) (xs : List ℕ) → last_count xs ≡ Some s → last_count (n ∷ xs) ≡ Some s
-last_more n s [] e = cc
-last_more n s (x ∷ xs) e = e
-
-not_less : (n s limit : ℕ) → s ≤ limit → nat_le n limit ≡ false → nat_le n s ≡ false
-not_less n s limit l e = grind (arith, nat_tests)
-
-is_least : (n s : ℕ) → n ≡ s → nat_le n s ≡ true
-is_least n s e = grind (arith, nat_tests, e)
-
-none_up_to : (s limit : ℕ) (ns : List ℕ) → s ≤ limit → up_to_event (Some limit) ns ≡ [] → up_to_event (Some s) ns ≡ []
-none_up_to s limit [] l e = refl
-none_up_to s limit (n ∷ ns) l e = by (nat_le n limit) refl e (λ f. none_up_to s limit ns l f)
-  where
-    by : (t : Bool) → nat_le n limit ≡ t → cond t (n ∷ up_to_event (Some limit) ns) (up_to_event (Some limit) ns) ≡ [] → (up_to_event (Some limit) ns ≡ [] → up_to_event (Some s) ns ≡ []) → up_to_event (Some s) (n ∷ ns) ≡ []
-    by true t f later = cc
-    by false t f later = rw (not_less n s limit l t) (later f)
-
-again : (limit s : ℕ) (cs : List ℕ) → s ≤ limit → start_of limit cs ≡ Some s → last_count (up_to_event (Some s) cs) ≡ Some s
-again limit s [] l e = cc
-again limit s (n ∷ ns) l e = by (nat_le n limit) (again limit s ns l) e
-  where
-    rest : List ℕ
-    rest = up_to_event (Some s) ns
-
-    either : (t : Bool) → last_count rest ≡ Some s → last_count (cond t (n ∷ rest) rest) ≡ Some s
-    either true h = last_more n s rest h
-    either false h = h
-
-    first : (xs : List ℕ) → up_to_event (Some limit) ns ≡ xs → (last_count xs ≡ Some s → last_count rest ≡ Some s) → last_count (n ∷ xs) ≡ Some s → last_count (cond (nat_le n s) (n ∷ rest) rest) ≡ Some s
-    first [] f later e =
-        let same : n ≡ s = cc in
-        ap (λ t. last_count (cond t (n ∷ rest) rest)) (is_least n s same) ∙ ap (λ xs. last_count (n ∷ xs)) (none_up_to s limit ns l f) ∙ ap Some same
-    first (x ∷ xs) f later e = either (nat_le n s) (later e)
-
-    by : (t : Bool) → (start_of limit ns ≡ Some s → last_count rest ≡ Some s) → last_count (cond t (n ∷ up_to_event (Some limit) ns) (up_to_event (Some limit) ns)) ≡ Some s → last_count (cond (nat_le n s) (n ∷ rest) rest) ≡ Some s
-    by true later e = first (up_to_event (Some limit) ns) refl later e
-    by false later e = either (nat_le n s) (later e)
-
--- where the others are cut
-pub last_again : (limit : ℕ) (old : Timeline ℕ) (start : Option ℕ) → start_of limit old.stored ≡ start → last_count (cut start old).stored ≡ start
-last_again limit old None e = refl
-last_again limit old (Some s) e = ap last_count (left_stored old (up_to_event (Some s) old.stored)) ∙ again limit s old.stored (start_within limit old.stored s e) e
-
 -- those up to a later one are all
-less_up_to : (s limit : ℕ) (ns : List ℕ) → s ≤ limit → up_to_event (Some limit) (up_to_event (Some s) ns) ≡ up_to_event (Some s) ns
+pub less_up_to : (s limit : ℕ) (ns : List ℕ) → s ≤ limit → up_to_event (Some limit) (up_to_event (Some s) ns) ≡ up_to_event (Some s) ns
 less_up_to s limit [] l = refl
 less_up_to s limit (n ∷ ns) l = by (nat_le n s) refl (less_up_to s limit ns l)
   where

@@ -13,10 +13,10 @@ use Rattle.model_questions.specs.Answers.{Answers}
 use Rattle.run_semantics.specs.declared.outcome.Outcome.{Outcome}
 use Rattle.run_semantics.specs.Run.{Ran, run_to, is_fault}
 use Rattle.run_semantics.specs.World.{World}
-use Rattle.checkpoint_runs.specs.Kept.{kept_up_to, lasting, is_owed, taken_if, HasBegun, HasLeft}
-use Rattle.checkpoint_runs.specs.declared.running.Stood.{Stood}
-use Rattle.checkpoint_runs.specs.declared.running.Stood.TheVariants as stood
-use Rattle.checkpoint_runs.specs.Positions.{behind, cut, numbers_from, passed, last_from, last_count, up_to_event, first_behind, starts_within, start_of, is_left, positions_left, positions_begun, positions_after, CanGoOn, HasStored}
+use Rattle.checkpoint_runs.specs.Kept.{kept_up_to, taken_if}
+use Rattle.checkpoint_runs.specs.declared.phases.Stood.{Stood}
+use Rattle.checkpoint_runs.specs.declared.phases.Stood.TheVariants as stood
+use Rattle.checkpoint_runs.specs.Positions.{behind, cut, numbers_from, passed, last_from, last_count, up_to_event, first_behind, starts_within, start_of, is_left, lasting, with_last, positions_left, positions_begun, positions_onwards, positions_after, CanGoOn, HasBegun, HasLeft, HasStoredAnew}
 
 -- what holds anyway holds where it is asked for
 pub on_err : {A E P : Type 0} (r : Result A E) → P → OnErr r P
@@ -164,7 +164,7 @@ ends_taken n t = by (nat_lt most_stored (length (t.stored ++ n ∷ [])))
     by true = ap (ends_at n) (filter-append stay t.stored (n ∷ []) ∙ ap (λ ns. filter stay t.stored ++ ns) one) ∙ ends_more n (filter stay t.stored)
     by false = ends_more n t.stored
 
-ends_below : (n : ℕ) (ns : List ℕ) → Below n ns → ends_at n ns ≡ false
+pub ends_below : (n : ℕ) (ns : List ℕ) → Below n ns → ends_at n ns ≡ false
 ends_below n [] h = refl
 ends_below n (k ∷ []) h = other k n h.0
 ends_below n (k ∷ l ∷ ns) h = ends_below n (l ∷ ns) h.1
@@ -179,9 +179,9 @@ not_true : (f : Bool) → (f ≡ true → ⊥) → f ≡ false
 not_true true h = absurd (h refl)
 not_true false h = refl
 
--- it takes one more where that is owed
-abbrev pub paid : ℕ → Bool → ℕ → Timeline ℕ → Timeline ℕ
-paid from f m t = if is_owed from f m t.stored then with_count m t else t
+-- it takes one more where that is owed: after an event where it went on, and where none is taken
+abbrev paid : ℕ → Bool → ℕ → Timeline ℕ → Timeline ℕ
+paid from f m t = if not f && (nat_lt from m && not (ends_at m t.stored)) then with_count m t else t
 
 -- where none is taken after an event, one is owed there
 paid_last : (from m : ℕ) (t : Timeline ℕ) → from < m → Below m t.stored → with_count m t ≡ paid from false m (passed is_multiple t m)
@@ -229,7 +229,7 @@ left_at m f t e = let z : m - m ≡ 0 = omega arith in rw e (rw (z, less_not m) 
 
 -- WHAT A RUN LEAVES after where it went on: those of the multiples up to its last event that did
 -- not end in a fault, and the last one, where it is owed
-pub left_is : (from m : ℕ) (f : Bool) (t : Timeline ℕ) → from ≤ m → (f ≡ true → from < m) → Below (suc from) t.stored
+left_is : (from m : ℕ) (f : Bool) (t : Timeline ℕ) → from ≤ m → (f ≡ true → from < m) → Below (suc from) t.stored
     → behind (is_left m f) t (numbers_from (suc from) (m - from)) ≡ paid from f m (behind is_multiple t (numbers_from (suc from) (lasting f m - from)))
 left_is from m f t h g below =
     ⊎_elim
@@ -237,6 +237,31 @@ left_is from m f t h g below =
     (left_at m f t (not_true f (λ t. let l = g t in omega (arith, l, e)))))
     (λ (l : from < m). left_after from (m - suc from) m f t (omega (arith, l)) below)
     (eq-or-lt_of_le h)
+
+paid_equal : (m : ℕ) (f : Bool) (t : Timeline ℕ) → ends_at m t.stored ≡ true → paid m f m t ≡ with_last m f t
+paid_equal m true t e = refl
+paid_equal m false t e = ap (λ c. if (c && not (ends_at m t.stored)) then with_count m t else t) (less_not m) ∙ sym (ap (λ c. if not c then with_count m t else t) e)
+
+paid_less : (from m : ℕ) (f : Bool) (t : Timeline ℕ) → from < m → paid from f m t ≡ with_last m f t
+paid_less from m f t l = ap (λ c. if not f && (c && not (ends_at m t.stored)) then with_count m t else t) (less_is from m l)
+
+none_since : (m : ℕ) (f : Bool) (t : Timeline ℕ) → f ≡ false → t ≡ behind is_multiple t (numbers_from (suc m) (lasting f m - m))
+none_since m f t e = let z : m - m ≡ 0 = omega arith in rw e (rw z refl)
+
+paid_is : (from m : ℕ) (f : Bool) (t : Timeline ℕ) → from ≤ m → (f ≡ true → from < m) → ends_at from t.stored ≡ true
+    → paid from f m (behind is_multiple t (numbers_from (suc from) (lasting f m - from))) ≡ with_last m f (behind is_multiple t (numbers_from (suc from) (lasting f m - from)))
+paid_is from m f t h g ends =
+    ⊎_elim
+    (λ (e : from ≡ m). subst (λ k. paid k f m (behind is_multiple t (numbers_from (suc k) (lasting f m - k))) ≡ with_last m f (behind is_multiple t (numbers_from (suc k) (lasting f m - k)))) (sym e)
+    (paid_equal m f (behind is_multiple t (numbers_from (suc m) (lasting f m - m)))
+    (subst (λ (u : Timeline ℕ). ends_at m u.stored ≡ true) (none_since m f t (not_true f (λ t. let l = g t in omega (arith, l, e)))) (subst (λ k. ends_at k t.stored ≡ true) e ends))))
+    (λ (l : from < m). paid_less from m f (behind is_multiple t (numbers_from (suc from) (lasting f m - from))) l)
+    (eq-or-lt_of_le h)
+
+-- where one is stored where it went on
+pub left_onwards : (from m : ℕ) (f : Bool) (t : Timeline ℕ) → from ≤ m → (f ≡ true → from < m) → Below (suc from) t.stored → ends_at from t.stored ≡ true
+    → behind (is_left m f) t (numbers_from (suc from) (m - from)) ≡ positions_onwards t from m f
+left_onwards from m f t h g below ends = left_is from m f t h g below ∙ paid_is from m f t h g ends
 
 -- where the last event has none, none was taken there
 pub passed_not : (m : ℕ) (t : Timeline ℕ) → ends_at m (passed is_multiple t m).stored ≡ false → passed is_multiple t m ≡ t
@@ -264,7 +289,7 @@ setup_left i m f g =
     ∙ ap (λ d. behind (is_left m f) (if d then with_count 0 (begun i) else begun i) (numbers_from 1 m)) (sym (zero_left i m f g))
     ∙ ap (λ n. behind (is_left m f) (begun i) (numbers_from 0 n)) a
 
-setup_begins : (i more : ℕ) → behind is_multiple (with_count 0 (begun i)) (numbers_from 1 more) ≡ behind is_multiple (begun i) (numbers_from 0 (suc more))
+pub setup_begins : (i more : ℕ) → behind is_multiple (with_count 0 (begun i)) (numbers_from 1 more) ≡ behind is_multiple (begun i) (numbers_from 0 (suc more))
 setup_begins i more = ap (λ n. behind is_multiple (if n == 0 then with_count 0 (begun i) else begun i) (numbers_from 1 more)) (sym (zero-mod i))
 
 -- of a fault in event zero
@@ -397,43 +422,101 @@ start_within limit counts s e =
     let l = last_below_limit (suc limit) (filter (λ n. nat_le n limit) counts) s (below_up_to_limit limit counts) e in
     omega (arith, l)
 
+-- ---- it is the last one there
+
+last_more : (n s : ℕ) (xs : List ℕ) → last_count xs ≡ Some s → last_count (n ∷ xs) ≡ Some s
+last_more n s [] e = cc
+last_more n s (x ∷ xs) e = e
+
+not_less : (n s limit : ℕ) → s ≤ limit → nat_le n limit ≡ false → nat_le n s ≡ false
+not_less n s limit l e = grind (arith, nat_tests)
+
+is_least : (n s : ℕ) → n ≡ s → nat_le n s ≡ true
+is_least n s e = grind (arith, nat_tests, e)
+
+none_up_to : (s limit : ℕ) (ns : List ℕ) → s ≤ limit → up_to_event (Some limit) ns ≡ [] → up_to_event (Some s) ns ≡ []
+none_up_to s limit [] l e = refl
+none_up_to s limit (n ∷ ns) l e = by (nat_le n limit) refl e (λ f. none_up_to s limit ns l f)
+  where
+    by : (t : Bool) → nat_le n limit ≡ t → cond t (n ∷ up_to_event (Some limit) ns) (up_to_event (Some limit) ns) ≡ [] → (up_to_event (Some limit) ns ≡ [] → up_to_event (Some s) ns ≡ []) → up_to_event (Some s) (n ∷ ns) ≡ []
+    by true t f later = cc
+    by false t f later = rw (not_less n s limit l t) (later f)
+
+pub again : (limit s : ℕ) (cs : List ℕ) → s ≤ limit → start_of limit cs ≡ Some s → last_count (up_to_event (Some s) cs) ≡ Some s
+again limit s [] l e = cc
+again limit s (n ∷ ns) l e = by (nat_le n limit) (again limit s ns l) e
+  where
+    rest : List ℕ
+    rest = up_to_event (Some s) ns
+
+    either : (t : Bool) → last_count rest ≡ Some s → last_count (cond t (n ∷ rest) rest) ≡ Some s
+    either true h = last_more n s rest h
+    either false h = h
+
+    first : (xs : List ℕ) → up_to_event (Some limit) ns ≡ xs → (last_count xs ≡ Some s → last_count rest ≡ Some s) → last_count (n ∷ xs) ≡ Some s → last_count (cond (nat_le n s) (n ∷ rest) rest) ≡ Some s
+    first [] f later e =
+        let same : n ≡ s = cc in
+        ap (λ t. last_count (cond t (n ∷ rest) rest)) (is_least n s same) ∙ ap (λ xs. last_count (n ∷ xs)) (none_up_to s limit ns l f) ∙ ap Some same
+    first (x ∷ xs) f later e = either (nat_le n s) (later e)
+
+    by : (t : Bool) → (start_of limit ns ≡ Some s → last_count rest ≡ Some s) → last_count (cond t (n ∷ up_to_event (Some limit) ns) (up_to_event (Some limit) ns)) ≡ Some s → last_count (cond (nat_le n s) (n ∷ rest) rest) ≡ Some s
+    by true later e = first (up_to_event (Some limit) ns) refl later e
+    by false later e = either (nat_le n s) (later e)
+
+-- where the others are cut
+pub last_again : (limit : ℕ) (old : Timeline ℕ) (start : Option ℕ) → start_of limit old.stored ≡ start → last_count (cut start old).stored ≡ start
+last_again limit old None e = refl
+last_again limit old (Some s) e = ap last_count (left_stored old (up_to_event (Some s) old.stored)) ∙ again limit s old.stored (start_within limit old.stored s e) e
+
+last_ends : (xs : List ℕ) (s : ℕ) → last_count xs ≡ Some s → ends_at s xs ≡ true
+last_ends [] s e = cc
+last_ends (k ∷ []) s e = let same : k ≡ s = cc in subst (λ j. (k == j) ≡ true) same (equal k)
+last_ends (k ∷ l ∷ ks) s e = last_ends (l ∷ ks) s e
+
+-- what stands up to a start
+pub cut_below : (s : ℕ) (old : Timeline ℕ) → Below (suc s) (cut (Some s) old).stored
+cut_below s old = subst (Below (suc s)) (sym (left_stored old (up_to_event (Some s) old.stored))) (below_up_to_limit s old.stored)
+
+pub cut_ends : (limit s : ℕ) (old : Timeline ℕ) → start_of limit old.stored ≡ Some s → ends_at s (cut (Some s) old).stored ≡ true
+cut_ends limit s old e = last_ends (cut (Some s) old).stored s (last_again limit old (Some s) e)
+
 -- ---- what is stored after a start
 
-pub left_after_start : (b : Behaviour) (m : Answers) (limit s : ℕ) (old : Timeline ℕ) (before new : Timeline Position) → start_of limit old.stored ≡ Some s → counts_in before ≡ cut (Some s) old
-    → HasLeft s before new (run_to b m limit) → counts_in new ≡ positions_after b m limit old
+pub left_after_start : (b : Behaviour) (m : Answers) (limit s : ℕ) (old before new : Timeline ℕ) → start_of limit old.stored ≡ Some s → before ≡ cut (Some s) old
+    → HasLeft s before new (run_to b m limit) → new ≡ positions_after b m limit None old
 left_after_start b m limit s old before new e c h =
     let ran : Ran = run_to b m limit in
     let last : ℕ = ran.world.count in
     let f : Bool = is_fault ran.outcome in
     let d : suc last - suc s ≡ last - s = omega arith in
-    subst (λ o. counts_in new ≡ positions_left old o last f) (sym e)
-    (h.counts ∙ ap (λ t. behind (is_left last f) t (numbers_from (suc s) (last - s))) c
+    subst (λ o. new ≡ positions_left old o last f) (sym e)
+    (h.counts ∙ ap (λ t. positions_onwards t s last f) c
+    ∙ sym (left_onwards s last f (cut (Some s) old) h.grew h.faulted (cut_below s old) (cut_ends limit s old e))
     ∙ ap (λ k. behind (is_left last f) (cut (Some s) old) (numbers_from (suc s) k)) (sym d))
 
-pub start_stored : (b : Behaviour) (m : Answers) (limit s : ℕ) (old : Timeline ℕ) (at : Stood) (before new : Timeline Position) → start_of limit old.stored ≡ Some s → counts_in before ≡ cut (Some s) old
-    → HasBegun b m limit s at before new → HasStored b m limit old at (counts_in new)
-start_stored b m limit s old stood.Before before new e c h = absurd h
-start_stored b m limit s old (stood.After k) before new e c h =
+pub start_stored : (b : Behaviour) (m : Answers) (limit s : ℕ) (old before : Timeline ℕ) (at : Stood) (new : Timeline ℕ) → start_of limit old.stored ≡ Some s → before ≡ cut (Some s) old
+    → HasBegun b m limit s before at new → HasStoredAnew b m limit old at new
+start_stored b m limit s old before stood.Before new e c h = absurd h
+start_stored b m limit s old before (stood.After k) new e c h =
     let d : k - s ≡ suc k - suc s = omega arith in
     record {
       going = h.going;
       limited = h.limited;
       within = subst (λ (o : Option ℕ). starts_within o k) (sym e) h.grew;
-      positions = subst (λ (o : Option ℕ). counts_in new ≡ positions_begun old o (suc k - first_behind o)) (sym e)
+      positions = subst (λ (o : Option ℕ). new ≡ positions_begun old o (suc k - first_behind o)) (sym e)
           (h.counts ∙ ap (λ t. behind is_multiple t (numbers_from (suc s) (k - s))) c ∙ ap (λ n. behind is_multiple (cut (Some s) old) (numbers_from (suc s) n)) d);
     }
-start_stored b m limit s old (stood.Untaken k) before new e c h =
-    let l = h.grew in
+start_stored b m limit s old before (stood.Untaken k) new e c h =
     record {
-      going = h.going;
-      limited = h.limited;
-      within = subst (λ (o : Option ℕ). starts_within o k) (sym e) (omega (arith, l));
-      positions = subst (λ (o : Option ℕ). counts_in new ≡ positions_begun old o (k - first_behind o)) (sym e) (h.counts ∙ ap (λ t. behind is_multiple t (numbers_from (suc s) (k - suc s))) c);
+      going = h.0.going;
+      limited = h.0.limited;
+      within = subst (λ (o : Option ℕ). starts_within o k) (sym e) h.0.grew;
+      positions = subst (λ (o : Option ℕ). new ≡ positions_begun old o (k - first_behind o)) (sym e) (h.0.counts ∙ ap (λ t. behind is_multiple t (numbers_from (suc s) (k - suc s))) c);
     }
-start_stored b m limit s old stood.Ending before new e c h = left_after_start b m limit s old before new e c h
+start_stored b m limit s old before stood.Ending new e c h = left_after_start b m limit s old before new e c h
 
 -- where a run can't go back to its start, none is stored after it
-pub back_stored : (b : Behaviour) (m : Answers) (limit s : ℕ) (old new : Timeline ℕ) → start_of limit old.stored ≡ Some s → CanGoOn b m s → new ≡ cut (Some s) old → HasStored b m limit old (stood.After s) new
+pub back_stored : (b : Behaviour) (m : Answers) (limit s : ℕ) (old new : Timeline ℕ) → start_of limit old.stored ≡ Some s → CanGoOn b m s → new ≡ cut (Some s) old → HasStoredAnew b m limit old (stood.After s) new
 back_stored b m limit s old new e going c =
     let z : suc s - suc s ≡ 0 = omega arith in
     record {
@@ -445,7 +528,7 @@ back_stored b m limit s old new e going c =
     }
 
 -- where a run begins with setup, it doesn't matter which positions there were
-setup_begun : (b : Behaviour) (m : Answers) (limit : ℕ) (old : Timeline ℕ) (at : Stood) (new : Timeline ℕ) → start_of limit old.stored ≡ None → HasStored b m limit (begun old.first) at new → HasStored b m limit old at new
+setup_begun : (b : Behaviour) (m : Answers) (limit : ℕ) (old : Timeline ℕ) (at : Stood) (new : Timeline ℕ) → start_of limit old.stored ≡ None → HasStoredAnew b m limit (begun old.first) at new → HasStoredAnew b m limit old at new
 setup_begun b m limit old stood.Before new e h = (e, h.1)
 setup_begun b m limit old (stood.After k) new e h = record {
   going = h.going;
@@ -463,25 +546,28 @@ setup_begun b m limit old stood.Ending new e h =
     let ran : Ran = run_to b m limit in
     subst (λ o. new ≡ positions_left old o ran.world.count (is_fault ran.outcome)) (sym e) h
 
-pub setup_stored : (b : Behaviour) (m : Answers) (limit : ℕ) (old begins : Timeline ℕ) (at : Stood) (new : Timeline ℕ) → start_of limit old.stored ≡ None → begins ≡ begun old.first → HasStored b m limit begins at new → HasStored b m limit old at new
-setup_stored b m limit old begins at new e is h = setup_begun b m limit old at new e (subst (λ (t : Timeline ℕ). HasStored b m limit t at new) is h)
+pub setup_stored : (b : Behaviour) (m : Answers) (limit : ℕ) (old begins : Timeline ℕ) (at : Stood) (new : Timeline ℕ) → start_of limit old.stored ≡ None → begins ≡ begun old.first → HasStoredAnew b m limit begins at new → HasStoredAnew b m limit old at new
+setup_stored b m limit old begins at new e is h = setup_begun b m limit old at new e (subst (λ (t : Timeline ℕ). HasStoredAnew b m limit t at new) is h)
 
-pub setup_after : (b : Behaviour) (m : Answers) (limit : ℕ) (old begins new : Timeline ℕ) → start_of limit old.stored ≡ None → begins ≡ begun old.first → new ≡ positions_after b m limit begins → new ≡ positions_after b m limit old
+pub setup_after : (b : Behaviour) (m : Answers) (limit : ℕ) (old begins new : Timeline ℕ) → start_of limit old.stored ≡ None → begins ≡ begun old.first → new ≡ positions_after b m limit None begins → new ≡ positions_after b m limit None old
 setup_after b m limit old begins new e is h = setup_stored b m limit old begins stood.Ending new e is h
 
 -- ---- a run from setup
 
 -- with the position of event zero before it
-begun_left : (b : Behaviour) (m : Answers) (limit i : ℕ) (before new : Timeline Position) → counts_in before ≡ with_count 0 (begun i) → HasLeft 0 before new (run_to b m limit) → counts_in new ≡ positions_after b m limit (begun i)
+pub setup_onwards : (i m : ℕ) (f : Bool) → (f ≡ true → 0 < m) → positions_onwards (with_count 0 (begun i)) 0 m f ≡ behind (is_left m f) (begun i) (numbers_from 0 (suc m - 0))
+setup_onwards i m f g = sym (left_onwards 0 m f (with_count 0 (begun i)) (omega arith) g (omega arith, tt) refl) ∙ setup_left i m f g
+
+begun_left : (b : Behaviour) (m : Answers) (limit i : ℕ) (before new : Timeline ℕ) → before ≡ with_count 0 (begun i) → HasLeft 0 before new (run_to b m limit) → new ≡ positions_after b m limit None (begun i)
 begun_left b m limit i before new c h =
     let ran : Ran = run_to b m limit in
     let last : ℕ = ran.world.count in
     let f : Bool = is_fault ran.outcome in
-    h.counts ∙ ap (λ t. behind (is_left last f) t (numbers_from 1 (last - 0))) c ∙ setup_left i last f h.faulted
+    h.counts ∙ ap (λ t. positions_onwards t 0 last f) c ∙ setup_onwards i last f h.faulted
 
-begun_stored : (b : Behaviour) (m : Answers) (limit i : ℕ) (at : Stood) (before new : Timeline Position) → counts_in before ≡ with_count 0 (begun i) → HasBegun b m limit 0 at before new → HasStored b m limit (begun i) at (counts_in new)
-begun_stored b m limit i stood.Before before new c h = absurd h
-begun_stored b m limit i (stood.After k) before new c h =
+begun_stored : (b : Behaviour) (m : Answers) (limit i : ℕ) (before : Timeline ℕ) (at : Stood) (new : Timeline ℕ) → before ≡ with_count 0 (begun i) → HasBegun b m limit 0 before at new → HasStoredAnew b m limit (begun i) at new
+begun_stored b m limit i before stood.Before new c h = absurd h
+begun_stored b m limit i before (stood.After k) new c h =
     let a : suc k - 0 ≡ suc k = omega arith in
     let z : k - 0 ≡ k = omega arith in
     record {
@@ -491,26 +577,30 @@ begun_stored b m limit i (stood.After k) before new c h =
       positions = h.counts ∙ ap (λ t. behind is_multiple t (numbers_from 1 (k - 0))) c ∙ ap (λ n. behind is_multiple (with_count 0 (begun i)) (numbers_from 1 n)) z ∙ setup_begins i k
           ∙ ap (λ n. behind is_multiple (begun i) (numbers_from 0 n)) (sym a);
     }
-begun_stored b m limit i (stood.Untaken zero) before new c h = let l = h.grew in absurd (omega (arith, l))
-begun_stored b m limit i (stood.Untaken (suc k)) before new c h =
+begun_stored b m limit i before (stood.Untaken zero) new c h =
+    let z : 0 - 1 ≡ 0 = omega arith in
+    let is : new ≡ with_count 0 (begun i) = h.0.counts ∙ ap (λ n. behind is_multiple before (numbers_from 1 n)) z ∙ c in
+    let none : true ≡ false = subst (λ (t : Timeline ℕ). ends_at 0 t.stored ≡ false) is h.1 in
+    cc
+begun_stored b m limit i before (stood.Untaken (suc k)) new c h =
     let a : suc k - 0 ≡ suc k = omega arith in
     let z : suc k - suc 0 ≡ k = omega arith in
     record {
-      going = h.going;
-      limited = h.limited;
+      going = h.0.going;
+      limited = h.0.limited;
       within = tt;
-      positions = h.counts ∙ ap (λ t. behind is_multiple t (numbers_from 1 (suc k - suc 0))) c ∙ ap (λ n. behind is_multiple (with_count 0 (begun i)) (numbers_from 1 n)) z ∙ setup_begins i k
+      positions = h.0.counts ∙ ap (λ t. behind is_multiple t (numbers_from 1 (suc k - suc 0))) c ∙ ap (λ n. behind is_multiple (with_count 0 (begun i)) (numbers_from 1 n)) z ∙ setup_begins i k
           ∙ ap (λ n. behind is_multiple (begun i) (numbers_from 0 n)) (sym a);
     }
-begun_stored b m limit i stood.Ending before new c h = begun_left b m limit i before new c h
+begun_stored b m limit i before stood.Ending new c h = begun_left b m limit i before new c h
 
-pub setup_left_all : (b : Behaviour) (m : Answers) (limit : ℕ) (old before new : Timeline Position) → IsBegun old → counts_in before ≡ with_count 0 (begun old.first) → HasLeft 0 before new (run_to b m limit)
-    → counts_in new ≡ positions_after b m limit (counts_in old)
-setup_left_all b m limit old before new none c h = begun_left b m limit old.first before new c h ∙ ap (positions_after b m limit) (sym (ap counts_in none))
+pub setup_left_all : (b : Behaviour) (m : Answers) (limit : ℕ) (old before : Timeline Position) (new : Timeline ℕ) → IsBegun old → counts_in before ≡ with_count 0 (begun old.first) → HasLeft 0 (counts_in before) new (run_to b m limit)
+    → new ≡ positions_after b m limit None (counts_in old)
+setup_left_all b m limit old before new none c h = begun_left b m limit old.first (counts_in before) new c h ∙ ap (positions_after b m limit None) (sym (ap counts_in none))
 
-pub setup_stored_all : (b : Behaviour) (m : Answers) (limit : ℕ) (at : Stood) (old before new : Timeline Position) → IsBegun old → counts_in before ≡ with_count 0 (begun old.first) → HasBegun b m limit 0 at before new
-    → HasStored b m limit (counts_in old) at (counts_in new)
-setup_stored_all b m limit at old before new none c h = subst (λ (t : Timeline ℕ). HasStored b m limit t at (counts_in new)) (sym (ap counts_in none)) (begun_stored b m limit old.first at before new c h)
+pub setup_stored_all : (b : Behaviour) (m : Answers) (limit : ℕ) (at : Stood) (old before : Timeline Position) (new : Timeline ℕ) → IsBegun old → counts_in before ≡ with_count 0 (begun old.first) → HasBegun b m limit 0 (counts_in before) at new
+    → HasStoredAnew b m limit (counts_in old) at new
+setup_stored_all b m limit at old before new none c h = subst (λ (t : Timeline ℕ). HasStoredAnew b m limit t at new) (sym (ap counts_in none)) (begun_stored b m limit old.first (counts_in before) at new c h)
 
 -- the position of event zero alone
 pub first_counts : (w : World) (old new : Timeline Position) → IsBegun old → new ≡ taken_if true (position_of w) old → w.count ≡ 0 → counts_in new ≡ with_count 0 (begun old.first)
@@ -520,17 +610,17 @@ pub first_below : (n i : ℕ) (new : Timeline Position) → 0 < n → counts_in 
 first_below n i new l e = of_counts n new.stored (subst (λ (t : Timeline ℕ). Below n t.stored) (sym e) (l, tt))
 
 -- nothing is stored yet
-pub none_stored : (b : Behaviour) (m : Answers) (limit : ℕ) (at : Stood) (old new : Timeline Position) → at ≡ stood.Before → IsBegun old → new ≡ old → HasStored b m limit (counts_in old) at (counts_in new)
+pub none_stored : (b : Behaviour) (m : Answers) (limit : ℕ) (at : Stood) (old new : Timeline Position) → at ≡ stood.Before → IsBegun old → new ≡ old → HasStoredAnew b m limit (counts_in old) at (counts_in new)
 none_stored b m limit at old new e none same =
     let is : counts_in old ≡ begun old.first = ap counts_in none in
-    subst (λ (t : Timeline ℕ). HasStored b m limit t at (counts_in new)) (sym is) (subst (λ (x : Stood). HasStored b m limit (begun old.first) x (counts_in new)) (sym e) (refl, ap counts_in same ∙ is))
+    subst (λ (t : Timeline ℕ). HasStoredAnew b m limit t at (counts_in new)) (sym is) (subst (λ (x : Stood). HasStoredAnew b m limit (begun old.first) x (counts_in new)) (sym e) (refl, ap counts_in same ∙ is))
 
 -- the first position could not be taken
-pub first_untaken : (b : Behaviour) (m : Answers) (limit : ℕ) (at : Stood) (old new : Timeline Position) → at ≡ stood.Untaken 0 → CanGoOn b m 0 → IsBegun old → new ≡ old → HasStored b m limit (counts_in old) at (counts_in new)
+pub first_untaken : (b : Behaviour) (m : Answers) (limit : ℕ) (at : Stood) (old new : Timeline Position) → at ≡ stood.Untaken 0 → CanGoOn b m 0 → IsBegun old → new ≡ old → HasStoredAnew b m limit (counts_in old) at (counts_in new)
 first_untaken b m limit at old new e going none same =
     let z : 0 - 0 ≡ 0 = omega arith in
     let is : counts_in old ≡ begun old.first = ap counts_in none in
-    subst (λ (t : Timeline ℕ). HasStored b m limit t at (counts_in new)) (sym is) (subst (λ (x : Stood). HasStored b m limit (begun old.first) x (counts_in new)) (sym e) (record {
+    subst (λ (t : Timeline ℕ). HasStoredAnew b m limit t at (counts_in new)) (sym is) (subst (λ (x : Stood). HasStoredAnew b m limit (begun old.first) x (counts_in new)) (sym e) (record {
       going = going;
       limited = omega arith;
       within = tt;
@@ -539,7 +629,7 @@ first_untaken b m limit at old new e going none same =
 
 -- a fault in event zero leaves none
 pub fault_left : (b : Behaviour) (m : Answers) (limit : ℕ) (w : World) (outcome : Outcome) (old new : Timeline Position) → IsBegun old → new ≡ old → run_to b m limit ≡ record { world = w; outcome = outcome } → w.count ≡ 0 → is_fault outcome ≡ true
-    → counts_in new ≡ positions_after b m limit (counts_in old)
+    → counts_in new ≡ positions_after b m limit None (counts_in old)
 fault_left b m limit w outcome old new none same ran c f =
     let is : counts_in old ≡ begun old.first = ap counts_in none in
     subst (λ (r : Ran). counts_in new ≡ positions_left (counts_in old) (start_of limit (counts_in old).stored) r.world.count (is_fault r.outcome)) (sym ran)

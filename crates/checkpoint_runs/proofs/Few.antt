@@ -3,7 +3,7 @@ use Rattle.std.proofs.Common.{◌≡◌, ℕ, suc, ◌+◌, ◌-◌, ◌≤◌, 
 use Rattle.std.specs.List.{filter}
 use Rattle.std.proofs.lemmas.Bool.Decides.{nat_tests}
 use Rattle.checkpoints.specs.Stored.{doubled, most_stored, stays, with_count, Timeline}
-use Rattle.checkpoint_runs.specs.Positions.{behind, cut, first_behind, is_left, numbers_from, passed, AllStay}
+use Rattle.checkpoint_runs.specs.Positions.{behind, cut, first_behind, is_left, numbers_from, AllStay}
 
 length_more : (ns : List ℕ) (n : ℕ) → length (ns ++ n ∷ []) ≡ suc (length ns)
 length_more [] n = refl

@@ -1,5 +1,5 @@
 -- A run that gets its boxes, one after the other.
-use Rattle.std.proofs.Common.{◌≡◌, ℕ, zero, suc, ◌≤◌, ◌<◌, ◌+◌, Bool, true, false, cond, List, [], ◌∷◌, ◌++◌, take, Option, Some, None, option_map, refl, sym, ap, ◌∙◌, subst, arith, append_assoc, append-nil, slice_get, length, map, IfOk, OnOk, Result, Ok, Err}
+use Rattle.std.proofs.Common.{◌≡◌, ℕ, zero, suc, ◌≤◌, ◌<◌, ◌+◌, ◌-◌, true, false, List, [], ◌∷◌, ◌++◌, take, Option, Some, None, option_map, refl, sym, ap, ◌∙◌, subst, arith, append_assoc, slice_get, length, map}
 use Rattle.module_api.specs.Behaviour.{Behaviour}
 use Rattle.module_api.specs.Meaning.{Module, IsFresh}
 use Rattle.model_questions.specs.Answers.{Answers}
@@ -11,7 +11,7 @@ use Rattle.run_semantics.specs.declared.outcome.Outcome.TheVariants as outcomes
 use Rattle.run_semantics.specs.declared.traces.Instance.{Instance}
 use Rattle.run_semantics.specs.World.{World}
 use Rattle.run_semantics.specs.Perform.{Flow, On, Stopped, Broken, ◌>>=◌}
-use Rattle.run_semantics.specs.Run.{Part, Stage, first_unknown, parts_from, parts_of, standing, unless_unknown, unstarted, with_class, prepared, start_all, started, start, Running, Over, after, next_stage, settled, Ran, is_fault}
+use Rattle.run_semantics.specs.Run.{Part, first_unknown, parts_from, parts_of, standing, unless_unknown, unstarted, with_class, prepared, start_all, started, start, Running, Over, after, next_stage, settled, is_fault}
 use Rattle.run_semantics.specs.Ending.{ending}
 use Rattle.run_semantics.proofs.Ends.{run_over}
 use Rattle.run_semantics.proofs.Setting.{IsLasting, Stays, prepared_stays}
@@ -21,16 +21,17 @@ use Rattle.run_semantics.specs.Subtree.{outer_first}
 use Rattle.kernel.specs.Seats.{AreFirst, AreFresh, missing_part, missing_of, needs, request_for}
 use Rattle.kernel_boxes.specs.Staying.{first_without}
 use Rattle.kernel.proofs.Behind.{parts_rise}
-use Rattle.kernel.proofs.Waiting.{fresh_known, fresh_standing, wanted_next}
+use Rattle.kernel.proofs.Waiting.{fresh_standing, wanted_next}
 use Rattle.checkpoints.specs.Stored.{begun, Timeline}
-use Rattle.checkpoint_runs.specs.declared.running.Ended.{Ended}
-use Rattle.checkpoint_runs.specs.declared.running.RunStatus.{RunStatus}
-use Rattle.checkpoint_runs.specs.declared.running.RunStatus.TheVariants as status
-use Rattle.checkpoint_runs.specs.declared.running.Phase.{Phase}
-use Rattle.checkpoint_runs.specs.Positions.{cut, start_of}
+use Rattle.checkpoint_runs.specs.declared.phases.AtSetup.{AtSetup}
+use Rattle.checkpoint_runs.specs.declared.phases.Point.{Point}
+use Rattle.checkpoint_runs.specs.declared.phases.Point.TheVariants.{Setup, Position, Start}
+use Rattle.checkpoint_runs.specs.declared.phases.Progress.{Progress}
+use Rattle.checkpoint_runs.specs.declared.phases.Progress.TheVariants as progress
+use Rattle.checkpoint_runs.specs.Positions.{cut, first_behind, positions_begun, start_of}
 use Rattle.checkpoint_runs.proofs.Counting.{setup_after}
 use Rattle.checkpoint_runs.proofs.Unstarted.{IsBuilt, needs_all, prepared_built}
-use Rattle.checkpoint_runs.specs.Running.{boxes_left, boxes_of, boxes_unless, known_first, parts_in, wanted_after, wanted_by, Advances, CanStart, IsDeclined, IsEnded, IsFilled, IsWaiting, whole_run}
+use Rattle.checkpoint_runs.specs.Running.{first_wait, parts_in, positions_at, wait_anew, wait_before, wait_first, wait_or, wanted_after, wanted_by, wanted_next as wanted_before, Advances, CanStart, IsDeclined, IsFilled, whole_run}
 
 -- the calls of the start, where the modules of that world are started
 abbrev calls_of : Behaviour → Answers → World → World → Flow
@@ -109,20 +110,12 @@ over_none (Broken v path f) w outcome h e = let s : w ≡ v = cc in ap (λ (u : 
 pub setup_none : (m : Answers) (w : World) (outcome : Outcome) → Over w outcome ≡ settled (prepared m) → w.modules ≡ []
 setup_none m w outcome e = over_none (prepared m) w outcome (prepared_built m) e
 
-over_boxes : (b : Behaviour) (fl : Flow) (w : World) (outcome : Outcome) → Over w outcome ≡ settled fl → [] ≡ boxes_of b fl []
-over_boxes b (On v) w outcome e = cc
-over_boxes b (Stopped v) w outcome e = cc
-over_boxes b (Broken v path f) w outcome e = refl
-
-pub setup_boxes : (b : Behaviour) (m : Answers) (w : World) (xs : List BoxAt) (outcome : Outcome) → xs ≡ [] → Over w outcome ≡ settled (prepared m) → parts_in xs ≡ boxes_of b (prepared m) []
-setup_boxes b m w xs outcome none e = ap parts_in none ∙ over_boxes b (prepared m) w outcome e
-
 -- ---- what is wanted
 
 pub filled_wants : (b : Behaviour) (m : Answers) (w : World) (xs : List BoxAt) → IsFilled b m w xs → missing_of w (parts_in xs) ≡ wanted_by m (parts_in xs)
 filled_wants b m w xs filled = ap (λ (fl : Flow). wanted_after fl (parts_in xs)) filled.prepared_is
 
-none_part : {A B : Type 0} (f : A → B) (o : Option A) → option_map f o ≡ None → o ≡ None
+pub none_part : {A B : Type 0} (f : A → B) (o : Option A) → option_map f o ≡ None → o ≡ None
 none_part f None e = refl
 none_part f (Some p) e = cc
 
@@ -141,7 +134,7 @@ filled_missing b m w xs filled =
     ∙ subst (λ ps. first_without (take (length xs) ps) ps ≡ slice_get ps (length xs)) (sym filled.unstarted)
     (wanted_next (1 + length w.records) (length xs) (parts_of w) (parts_rise 1 (1 + length w.records) w.records (omega arith)))
 
-take_none : (ps : List Part) (n : ℕ) → slice_get ps n ≡ None → take n ps ≡ ps
+pub take_none : (ps : List Part) (n : ℕ) → slice_get ps n ≡ None → take n ps ≡ ps
 take_none [] zero e = refl
 take_none [] (suc n) e = refl
 take_none (p ∷ ps) zero e = cc
@@ -160,7 +153,7 @@ filled_ready b m w xs filled e =
 
 -- ---- a run that can't begin
 
-ended : (b : Behaviour) (m : Answers) (w : World) (outcome : Outcome) → is_fault outcome ≡ true → ending b m (record { world = w; outcome = outcome }) ≡ record { world = w; outcome = outcome }
+pub ended : (b : Behaviour) (m : Answers) (w : World) (outcome : Outcome) → is_fault outcome ≡ true → ending b m (record { world = w; outcome = outcome }) ≡ record { world = w; outcome = outcome }
 ended b m w outcome t = rw t refl
 
 pub whole_over : (b : Behaviour) (m : Answers) (limit : ℕ) (w : World) (outcome : Outcome) → Over w outcome ≡ start b m → whole_run b m limit w outcome
@@ -174,16 +167,16 @@ whole_over b m limit w outcome e =
 requested : (w : World) (xs : List BoxAt) (r : Request) → missing_of w (parts_in xs) ≡ Some r → (p : Part) × (missing_part w (parts_in xs) ≡ Some p) × (r ≡ request_for w p)
 requested w xs r e = some_part (request_for w) (missing_part w (parts_in xs)) r e
 
-take_more : (ps : List Part) (n : ℕ) (p : Part) → slice_get ps n ≡ Some p → take (suc n) ps ≡ take n ps ++ p ∷ []
+pub take_more : (ps : List Part) (n : ℕ) (p : Part) → slice_get ps n ≡ Some p → take (suc n) ps ≡ take n ps ++ p ∷ []
 take_more [] n p e = cc
 take_more (q ∷ ps) zero p e = let a : q ≡ p = cc in ap (λ r. r ∷ []) a
 take_more (q ∷ ps) (suc n) p e = ap (λ (qs : List Part). q ∷ qs) (take_more ps n p e)
 
-length_more : {X : Type 0} (xs : List X) (x : X) → length (xs ++ x ∷ []) ≡ suc (length xs)
+pub length_more : {X : Type 0} (xs : List X) (x : X) → length (xs ++ x ∷ []) ≡ suc (length xs)
 length_more [] x = refl
 length_more (y ∷ xs) x = ap suc (length_more xs x)
 
-fresh_more : (b : Behaviour) (ps : List Part) (xs : List BoxAt) (p : Part) (s : BoxAt) → AreFresh b ps xs → s.id ≡ p.id → IsFresh b p.kind s.box → AreFresh b (ps ++ p ∷ []) (xs ++ s ∷ [])
+pub fresh_more : (b : Behaviour) (ps : List Part) (xs : List BoxAt) (p : Part) (s : BoxAt) → AreFresh b ps xs → s.id ≡ p.id → IsFresh b p.kind s.box → AreFresh b (ps ++ p ∷ []) (xs ++ s ∷ [])
 fresh_more b [] [] p s h id fresh = (id, fresh, tt)
 fresh_more b [] (x ∷ xs) p s h id fresh = absurd h
 fresh_more b (q ∷ ps) [] p s h id fresh = absurd h
@@ -226,11 +219,11 @@ abbrev id_or : ℕ → Option Part → ℕ
 id_or k None = k
 id_or k (Some p) = p.id
 
-abbrev AreBelowPart : ℕ → List Part → Type 0
+abbrev pub AreBelowPart : ℕ → List Part → Type 0
 AreBelowPart id [] = Unit {0}
 AreBelowPart id (p ∷ ps) = (p.id < id) × AreBelowPart id ps
 
-below_instances : (id : ℕ) (is : List Instance) → AreBelowPart id (standing is) → AreBelow id is
+pub below_instances : (id : ℕ) (is : List Instance) → AreBelowPart id (standing is) → AreBelow id is
 below_instances id [] h = tt
 below_instances id (i ∷ is) h = (h.0, below_instances id is h.1)
 
@@ -273,7 +266,7 @@ filled_declined b m w xs r filled wanted unknown =
     }
 
 -- after modules that have boxes comes one of a class that is not known
-unknown_at : (b : Behaviour) (ps : List Part) (xs : List BoxAt) (p : Part) → AreFresh b (take (length xs) ps) xs → slice_get ps (length xs) ≡ Some p → b.known p.kind ≡ false → first_unknown b ps ≡ Some p
+pub unknown_at : (b : Behaviour) (ps : List Part) (xs : List BoxAt) (p : Part) → AreFresh b (take (length xs) ps) xs → slice_get ps (length xs) ≡ Some p → b.known p.kind ≡ false → first_unknown b ps ≡ Some p
 unknown_at b [] xs p h e u = cc
 unknown_at b (q ∷ ps) [] p h e u =
     let same : q ≡ p = cc in
@@ -281,15 +274,6 @@ unknown_at b (q ∷ ps) [] p h e u =
 unknown_at b (q ∷ ps) (x ∷ xs) p h e u =
     let known : b.known q.kind ≡ true = ap b.known (sym h.1.kind) ∙ h.1.of_kind.known in
     rw known (unknown_at b ps xs p h.2 e u)
-
-known_at : (b : Behaviour) (ps : List Part) (xs : List BoxAt) (p : Part) → AreFresh b (take (length xs) ps) xs → slice_get ps (length xs) ≡ Some p → b.known p.kind ≡ false → known_first b ps ≡ take (length xs) ps
-known_at b [] xs p h e u = cc
-known_at b (q ∷ ps) [] p h e u =
-    let same : q ≡ p = cc in
-    rw (ap (λ (x : Part). b.known x.kind) same ∙ u) refl
-known_at b (q ∷ ps) (x ∷ xs) p h e u =
-    let known : b.known q.kind ≡ true = ap b.known (sym h.1.kind) ∙ h.1.of_kind.known in
-    rw known (ap (λ qs. q ∷ qs) (known_at b ps xs p h.2 e u))
 
 declined_at : (b : Behaviour) (m : Answers) (w : World) (xs : List BoxAt) → (d : IsDeclined b m w xs) → slice_get (needs w) (length xs) ≡ Some d.part
 declined_at b m w xs d = sym (filled_missing b m w xs d.filled) ∙ d.missing
@@ -313,101 +297,43 @@ declined_request b m w xs r d e =
 pub declined_some : (b : Behaviour) (m : Answers) (w : World) (xs : List BoxAt) → (d : IsDeclined b m w xs) → missing_of w (parts_in xs) ≡ Some (request_for w d.part)
 declined_some b m w xs d = ap (option_map (request_for w)) d.missing
 
-pub declined_boxes : (b : Behaviour) (m : Answers) (w : World) (xs : List BoxAt) → IsDeclined b m w xs → parts_in xs ≡ boxes_of b (prepared m) []
-declined_boxes b m w xs d =
-    let at = unknown_at b (needs w) xs d.part d.filled.first (declined_at b m w xs d) d.unknown in
-    filled_parts b m w xs d.filled
-    ∙ sym (known_at b (needs w) xs d.part d.filled.first (declined_at b m w xs d) d.unknown)
-    ∙ ap (λ o. boxes_unless o [] (known_first b (needs w))) (sym at)
-    ∙ ap (λ (fl : Flow). boxes_of b fl []) d.filled.prepared_is
-
--- where no module stands the boxes are those that wait
-pub filled_boxes : (b : Behaviour) (m : Answers) (w : World) (xs : List BoxAt) → IsFilled b m w xs → standing w.modules ++ parts_in xs ≡ parts_in xs
-filled_boxes b m w xs filled = ap (λ (is : List Instance). standing is ++ parts_in xs) filled.none
-
--- a run that can't begin leaves the boxes that wait
-pub over_left : (b : Behaviour) (m : Answers) (limit : ℕ) (w : World) (xs : List BoxAt) (outcome : Outcome) → whole_run b m limit w outcome → w.modules ≡ [] → parts_in xs ≡ boxes_of b (prepared m) [] → standing w.modules ++ parts_in xs ≡ boxes_left b m limit
-over_left b m limit w xs outcome whole none boxes =
-    ap (λ (is : List Instance). standing is ++ parts_in xs) none
-    ∙ boxes
-    ∙ sym (ap (λ (r : Ran). boxes_of b (prepared m) (standing r.world.modules)) whole ∙ ap (λ (is : List Instance). boxes_of b (prepared m) (standing is)) none)
-
--- one that began leaves those of the modules that stand
-pub ended_left : (b : Behaviour) (m : Answers) (limit : ℕ) (w : World) (xs : List BoxAt) (outcome : Outcome) → whole_run b m limit w outcome → xs ≡ [] → ((all : List Part) → boxes_of b (prepared m) all ≡ all) → standing w.modules ++ parts_in xs ≡ boxes_left b m limit
-ended_left b m limit w xs outcome whole none has =
-    ap (λ ys. standing w.modules ++ parts_in ys) none
-    ∙ append-nil (standing w.modules)
-    ∙ sym (has (standing w.modules))
-    ∙ sym (ap (λ (r : Ran). boxes_of b (prepared m) (standing r.world.modules)) whole)
-
--- the same, where memory did not run out
-pub left_if_ok : {E : Type 0} (b : Behaviour) (m : Answers) (limit : ℕ) (w : World) (xs : List BoxAt) (result : Result Outcome E) → IfOk result (λ o. whole_run b m limit w o) → xs ≡ [] → ((all : List Part) → boxes_of b (prepared m) all ≡ all) → OnOk result (standing w.modules ++ parts_in xs ≡ boxes_left b m limit)
-left_if_ok b m limit w xs (Ok o) whole none has = ended_left b m limit w xs o whole none has
-left_if_ok b m limit w xs (Err e) whole none has = tt
-
--- ---- the boxes of a run that began
-
-pub started_boxes : (b : Behaviour) (m : Answers) (w : World) (xs : List BoxAt) (all : List Part) → CanStart b m w xs → boxes_of b (prepared m) all ≡ all
-started_boxes b m w xs all h =
-    sym (ap (λ (fl : Flow). boxes_of b fl all) h.prepared_is)
-    ∙ ap (λ o. boxes_unless o all (known_first b (needs w))) (fresh_known b (needs w) xs h.fresh)
-
--- a run that goes on has begun
-abbrev HasBegun : Behaviour → Answers → Stage → Type 0
-HasBegun b m (Running w) = (all : List Part) → boxes_of b (prepared m) all ≡ all
-HasBegun b m (Over w outcome) = Unit {0}
-
-next_begun : (b : Behaviour) (m : Answers) (s : Stage) → HasBegun b m s → HasBegun b m (next_stage b m s)
-next_begun b m (Over w outcome) h = tt
-next_begun b m (Running w) h = any (next_stage b m (Running w))
-  where
-    any : (s : Stage) → HasBegun b m s
-    any (Running v) = h
-    any (Over v outcome) = tt
-
-flow_begun : (b : Behaviour) (m : Answers) (fl : Flow) → prepared m ≡ fl → HasBegun b m (settled (fl >>= start_all b m))
-flow_begun b m (Stopped w) e = λ all. ap (λ (fl : Flow). boxes_of b fl all) e
-flow_begun b m (Broken w path f) e = tt
-flow_begun b m (On w) e = by (first_unknown b (needs w)) refl
-  where
-    any : ((all : List Part) → boxes_of b (prepared m) all ≡ all) → (s : Stage) → HasBegun b m s
-    any h (Running v) = h
-    any h (Over v outcome) = tt
-
-    by : (o : Option Part) → first_unknown b (needs w) ≡ o → HasBegun b m (settled (unless_unknown b (needs w) w o >>= calls_of b m w))
-    by None u = any (λ all. ap (λ (fl : Flow). boxes_of b fl all) e ∙ ap (λ o. boxes_unless o all (known_first b (needs w))) u) (settled (unless_unknown b (needs w) w None >>= calls_of b m w))
-    by (Some p) u = tt
-
-begun_after : (b : Behaviour) (m : Answers) (k : ℕ) → HasBegun b m (after b m k)
-begun_after b m zero = flow_begun b m (prepared m) refl
-begun_after b m (suc k) = next_begun b m (after b m k) (begun_after b m k)
-
-pub going_boxes : (b : Behaviour) (m : Answers) (k : ℕ) (w : World) (all : List Part) → Running w ≡ after b m k → boxes_of b (prepared m) all ≡ all
-going_boxes b m k w all e = (subst (HasBegun b m) (sym e) (begun_after b m k)) all
-
 -- ---- a run that begins with setup
 
+-- a run that is over needs none
+pub wait_over : (b : Behaviour) (m : Answers) (k more : ℕ) (w : World) (outcome : Outcome) (supplied : List Part) → Over w outcome ≡ after b m k → first_wait b m k more supplied ≡ None
+wait_over b m k zero w outcome supplied e = refl
+wait_over b m k (suc more) w outcome supplied e =
+    ap (λ s. wait_or k (wanted_before m s supplied) (first_wait b m (suc k) more [])) (sym e)
+    ∙ wait_over b m (suc k) more w outcome [] (ap (next_stage b m) e)
+
+-- it waits for no box where it can't begin
+pub over_waits : (b : Behaviour) (m : Answers) (limit : ℕ) (w : World) (outcome : Outcome) (wanted : Option Request) → wanted ≡ None → Over w outcome ≡ start b m → wait_first None Setup wanted (first_wait b m 0 limit []) ≡ None
+over_waits b m limit w outcome wanted none over = ap (λ o. wait_first None Setup o (first_wait b m 0 limit [])) none ∙ ap (option_map (wait_before None)) (wait_over b m 0 limit w outcome [] over)
+
 -- where no position is up to the limit, what a run comes to with none is what it comes to
-pub setup_advances : (b : Behaviour) (m : Answers) (limit : ℕ) (phase : Phase) (boxes : List Part) (old cleared : Timeline ℕ) (w : World) (waiting : List BoxAt) (new : Timeline ℕ) (a : RunStatus Ended) → start_of limit old.stored ≡ None → cleared ≡ begun old.first
-    → Advances b m limit phase boxes cleared w waiting new a → Advances b m limit phase boxes old w waiting new a
-setup_advances b m limit phase boxes old cleared w waiting new (status.Waits request) none is h =
-    let first : start_of limit cleared.stored ≡ None = ap (λ (t : Timeline ℕ). start_of limit t.stored) is in
-    let at : IsWaiting b m None phase boxes cleared w waiting new request = subst (λ o. IsWaiting b m o phase boxes cleared w waiting new request) first h in
-    subst (λ o. IsWaiting b m o phase boxes old w waiting new request) (sym none) (record {
-      live = at.live;
-      kept = at.kept;
-      undeclined = at.undeclined;
-      wanted = at.wanted;
-      positions = at.positions ∙ ap (cut None) is;
-    })
-setup_advances b m limit phase boxes old cleared w waiting new (status.Done ended) none is h =
-    let first : start_of limit cleared.stored ≡ None = ap (λ (t : Timeline ℕ). start_of limit t.stored) is in
-    let at : IsEnded b m limit None phase boxes cleared w waiting new ended.start ended.outcome = subst (λ o. IsEnded b m limit o phase boxes cleared w waiting new ended.start ended.outcome) first h in
-    subst (λ o. IsEnded b m limit o phase boxes old w waiting new ended.start ended.outcome) (sym none) (record {
-      whole = at.whole;
-      boxes_are = at.boxes_are;
-      start_is = at.start_is;
-      within = at.within;
-      needs_none = at.needs_none;
-      positions = setup_after b m limit old cleared new none is at.positions;
-    })
+pub setup_advances : (b : Behaviour) (m : Answers) (limit : ℕ) (at : AtSetup) (boxes supplied : List Part) (old cleared : Timeline ℕ) (w : World) (waiting : List BoxAt) (new : Timeline ℕ) (a : Progress) → start_of limit old.stored ≡ None → cleared ≡ begun old.first
+    → Advances b m limit at None boxes supplied cleared w waiting new a → Advances b m limit at None boxes supplied old w waiting new a
+setup_advances b m limit at boxes supplied old cleared w waiting new a none is h = by a (subst (λ (t : Timeline ℕ). Advances b m limit at None boxes supplied t w waiting new a) is h)
+  where
+    places : (p : Point) → positions_at limit None p (begun old.first) ≡ positions_at limit None p old
+    places Setup = refl
+    places Position = sym (ap (λ o. cut o old) none)
+    places (Start k id) = sym (ap (λ o. positions_begun old o (suc k - first_behind o)) none)
+
+    by : (a : Progress) → Advances b m limit at None boxes supplied (begun old.first) w waiting new a → Advances b m limit at None boxes supplied old w waiting new a
+    by (progress.Waits wait) h = record {
+      is = ap (λ o. wait_anew b m limit at o boxes supplied) none ∙ h.is;
+      live = h.live;
+      boxes_are = h.boxes_are;
+      supplied_are = h.supplied_are;
+      positions = h.positions ∙ places wait.at;
+      began = h.began ∙ sym none;
+    }
+    by (progress.Done ended) h = record {
+      none = ap (λ o. wait_anew b m limit at o boxes supplied) none ∙ h.none;
+      whole = h.whole;
+      none_wait = h.none_wait;
+      began = h.began ∙ sym none;
+      within = h.within;
+      positions = setup_after b m limit old (begun old.first) new none refl h.positions;
+    }

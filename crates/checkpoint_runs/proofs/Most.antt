@@ -8,9 +8,9 @@ use Rattle.module_api.specs.Behaviour.{Behaviour}
 use Rattle.model_questions.specs.Answers.{Answers}
 use Rattle.run_semantics.specs.Run.{Ran, run_to, is_fault}
 use Rattle.checkpoints.specs.Stored.{begun, doubled, is_multiple, left, most_stored, stays, with_count, Timeline}
-use Rattle.checkpoint_runs.specs.Positions.{behind, cut, numbers_from, passed, last_from, last_count, first_behind, start_of, is_left, positions_after, positions_begun, HasStored, CanBeStored, begins, is_cut, is_done, is_given_up}
-use Rattle.checkpoint_runs.specs.declared.running.Stood.{Stood}
-use Rattle.checkpoint_runs.specs.declared.running.Stood.TheVariants as stood
+use Rattle.checkpoint_runs.specs.Positions.{behind, cut, numbers_from, passed, last_from, last_count, first_behind, start_of, is_left, positions_after, positions_begun, HasStoredAnew, CanBeStored, begins, is_cut, is_done, is_given_up}
+use Rattle.checkpoint_runs.specs.declared.phases.Stood.{Stood}
+use Rattle.checkpoint_runs.specs.declared.phases.Stood.TheVariants as stood
 use Rattle.checkpoint_runs.proofs.Counting.{below_both, below_filter, below_more, left_behind, Below}
 use Rattle.checkpoint_runs.proofs.Whole.{run_within}
 
@@ -412,7 +412,7 @@ begins_dense limit t (Some s) e h =
 -- ---- whatever came before
 
 -- a run that is done
-done_even : (b : Behaviour) (m : Answers) (limit : ℕ) (t : Timeline ℕ) → limit < 2 ^ 64 → IsEven t → IsEven (positions_after b m limit t)
+done_even : (b : Behaviour) (m : Answers) (limit : ℕ) (t : Timeline ℕ) → limit < 2 ^ 64 → IsEven t → IsEven (positions_after b m limit None t)
 done_even b m limit t less h =
     let ran : Ran = run_to b m limit in
     let few : ran.world.count < 2 ^ 64 = omega (arith, run_within b m limit, less) in
@@ -428,7 +428,7 @@ begun_even limit k more t less few h =
     let upto : first + more ≤ 2 ^ 64 = omega (arith, within, less, few) in
     record { count = first + more; within = upto; dense = behind_dense first more (cut (start_of limit t.stored) t) upto start.dense }
 
-given_up_even : (b : Behaviour) (m : Answers) (limit : ℕ) (at : Stood) (t new : Timeline ℕ) → limit < 2 ^ 64 → HasStored b m limit t at new → IsEven t → IsEven new
+given_up_even : (b : Behaviour) (m : Answers) (limit : ℕ) (at : Stood) (t new : Timeline ℕ) → limit < 2 ^ 64 → HasStoredAnew b m limit t at new → IsEven t → IsEven new
 given_up_even b m limit stood.Before t new less h e = subst IsEven (sym h.1) (cut_even None t e)
 given_up_even b m limit (stood.After k) t new less h e =
     let few = h.limited in

@@ -1,5 +1,5 @@
 -- What calls show of modules stays right where a run goes back to as many modules.
-use Rattle.std.proofs.Common.{◌≡◌, ℕ, List, [], ◌∷◌, ◌++◌, length, refl, sym, ap, ◌∙◌, arith, subst, append-nil}
+use Rattle.std.proofs.Common.{◌≡◌, List, [], ◌∷◌, ◌++◌, length, sym, ap, ◌∙◌, arith, subst, append-nil}
 use Rattle.std.proofs.lemmas.List.{length-append}
 use Rattle.model_questions.specs.Answers.{Answers}
 use Rattle.model_questions.specs.declared.record.Record.{Record}

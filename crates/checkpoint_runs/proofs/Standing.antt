@@ -56,6 +56,7 @@ below_each from below (p ∷ ps) r = (r.1, below_each (suc p.id) below ps r.2)
 abbrev names_paths : Answers
 names_paths = record {
   root = answer.Absent;
+  class_there = λ place. answer.Absent;
   inside = λ place. answer.Root (path_along place);
   names = λ place. [];
   value = λ place name. answer.Absent;
@@ -68,6 +69,7 @@ names_paths = record {
 
 abbrev named_in : Answer → List ℕ
 named_in (answer.Root name) = name
+named_in (answer.Class class) = []
 named_in (answer.Inside bs) = []
 named_in (answer.Value v) = []
 named_in (answer.Gate g) = []

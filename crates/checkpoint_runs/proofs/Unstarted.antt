@@ -1,5 +1,5 @@
 -- After setup no module was started, none is dead, and all simple modules need boxes.
-use Rattle.std.proofs.Common.{◌≡◌, ℕ, suc, ◌==◌, ◌||◌, Bool, true, false, cond, not, List, [], ◌∷◌, Option, Some, None, refl, sym, ap, ◌∙◌, eq-eqb}
+use Rattle.std.proofs.Common.{◌≡◌, ℕ, suc, ◌==◌, ◌||◌, Bool, true, false, cond, not, List, [], ◌∷◌, Option, Some, None, refl, ap, ◌∙◌, eq-eqb}
 use Rattle.std.specs.List.{filter}
 use Rattle.model_questions.specs.Answers.{Answers}
 use Rattle.model_questions.specs.declared.record.Record.{Record}

@@ -1,29 +1,35 @@
 -- Stored positions, and how a run leaves them.
-use Rattle.std.specs.Prelude.{◌≡◌, ◌⊎◌, ◌≤◌, ℕ, suc, ◌-◌, ◌<◌, ◌&&◌, nat_lt, not, Bool, true, false}
-use Rattle.std.specs.Prelude.{List, [], ◌∷◌, ◌++◌, Option, Some, None, option_map, if◌then◌else◌}
+use Rattle.std.specs.Prelude.{◌≡◌, ◌≤◌, ℕ, suc, ◌-◌, ◌<◌, ◌&&◌, not, Bool, true, false, List, []}
+use Rattle.std.specs.Prelude.{◌∷◌, Option, Some, None, option_map, if◌then◌else◌}
 use Rattle.checkpoints.specs.Stored.{counts_in, cut_after, ends_at, begun, is_multiple}
 use Rattle.checkpoints.specs.Stored.{with_position, AreBelow, Timeline}
 use Rattle.kernel_actions.specs.declared.position.Position.{Position}
 use Rattle.kernel_boxes.specs.Seats.{Members}
-use Rattle.kernel.specs.Kernels.{world_in}
+use Rattle.kernel.specs.Kernels.{ran_in, world_in}
 use Rattle.kernel_actions.specs.Positions.{cut_to, position_of, IsGrownFrom}
 use Rattle.kernel_boxes.specs.Seats.{BoxAt}
 use Rattle.module_api.specs.Behaviour.{Behaviour}
 use Rattle.model_questions.specs.Answers.{Answers}
 use Rattle.run_semantics.specs.declared.outcome.Outcome.{Outcome}
-use Rattle.run_semantics.specs.Run.{Running, Part, Ran, after, run_to, standing, is_fault}
+use Rattle.run_semantics.specs.Run.{Running, Part, after, run_to, standing, is_fault}
 use Rattle.run_semantics.specs.Laws.{GoesOn}
 use Rattle.run_semantics.specs.World.{World, HasRoom}
 use Rattle.kernel_boxes.specs.Saved.{seats_held}
 use Rattle.kernel_boxes.specs.Staying.{first_without}
-use Rattle.checkpoint_runs.specs.Positions.{behind, CanGoOn, is_left, numbers_from}
+use Rattle.checkpoint_runs.specs.Positions.{behind, lasting, numbers_from, positions_after}
+use Rattle.checkpoint_runs.specs.Positions.{positions_begun, starts_within, CanGoOn, HasLeft}
 use Rattle.kernel.specs.declared.request.Request.{Request}
-use Rattle.checkpoint_runs.specs.Running.{kept_back, needed_by, parts_in}
+use Rattle.checkpoint_runs.specs.Running.{first_wait, fresh_run, kept_back, needed_back, parts_in}
+use Rattle.checkpoint_runs.specs.Running.{refused_if, IsHeldUp, IsPaused, IsStopped}
+use Rattle.checkpoint_runs.specs.declared.phases.Phase.{Phase}
+use Rattle.checkpoint_runs.specs.declared.phases.Phase.TheVariants.{Idle, Waiting, Declined}
+use Rattle.checkpoint_runs.specs.declared.phases.Point.TheVariants.{Setup, Position as AtPosition}
+use Rattle.checkpoint_runs.specs.declared.phases.Point.TheVariants.{Start}
+use Rattle.checkpoint_runs.specs.declared.phases.Resumed.{Resumed}
 use Rattle.checkpoint_runs.specs.declared.running.Runner.{Runner}
-use Rattle.checkpoint_runs.specs.declared.running.RunStatus.{RunStatus}
-use Rattle.checkpoint_runs.specs.declared.running.RunStatus.TheVariants as status
-use Rattle.checkpoint_runs.specs.declared.running.Stood.{Stood}
-use Rattle.checkpoint_runs.specs.declared.running.Stood.TheVariants as stood
+use Rattle.checkpoint_runs.specs.declared.phases.RunStatus.{RunStatus}
+use Rattle.checkpoint_runs.specs.declared.phases.RunStatus.TheVariants as status
+use Rattle.checkpoint_runs.specs.declared.phases.Stood.TheVariants as stood
 
 -- A POSITION IS GOOD: the run of the model goes on after its events, and it is the position of the
 -- world there, whose lists have only grown since. Which of its modules have boxes is not said:
@@ -38,10 +44,6 @@ pub record IsGood (b : Behaviour) (m : Answers) (w : World) (p : Position) : Typ
 abbrev pub AreGood : Behaviour → Answers → World → List Position → Type 0
 AreGood b m w [] = Unit {0}
 AreGood b m w (p ∷ ps) = IsGood b m w p × AreGood b m w ps
-
--- Boxes wait for a start in event zero, so there is no position while one waits.
-abbrev pub IsAlone : List BoxAt → Timeline Position → Type 0
-IsAlone waiting t = (waiting ≡ []) ⊎ (t.stored ≡ [])
 
 -- those up to an event are left; up to none there is none
 abbrev pub kept_up_to : Option ℕ → Timeline Position → Timeline Position
@@ -59,15 +61,9 @@ cut_to_last (Some p) w = cut_to p.lengths w
 abbrev pub taken_if : Bool → Position → Timeline Position → Timeline Position
 taken_if due p t = if due then with_position p t else t
 
--- of events up to this one, those that did not end in a fault
-abbrev pub lasting : Bool → ℕ → ℕ
-lasting true last = last - 1
-lasting false last = last
-
--- whether a run that went on from so many events owes a position after its last one: where none is
--- taken there
-abbrev pub is_owed : ℕ → Bool → ℕ → List ℕ → Bool
-is_owed from faulted last counts = not faulted && (nat_lt from last && not (ends_at last counts))
+-- whether a run owes a position after its last event: where none is stored there
+abbrev pub is_owed : Bool → ℕ → List ℕ → Bool
+is_owed faulted last counts = not faulted && not (ends_at last counts)
 
 -- A run went on from so many events to its end: after the positions that there were stand those of
 -- the multiples. Where it did not end in a fault it could go on from there.
@@ -79,37 +75,22 @@ pub record HasGoneOn (b : Behaviour) (m : Answers) (from : ℕ) (before new : Ti
   pub counts : counts_in new ≡ behind is_multiple (counts_in before)
       (numbers_from (suc from) (lasting (is_fault outcome) w.count - from))
 
--- after them stand its own; a fault is that of an event after where it went on
-pub record HasLeft (from : ℕ) (before new : Timeline Position) (ran : Ran) : Type 0 where
-  pub grew : from ≤ ran.world.count
-  pub faulted : is_fault ran.outcome ≡ true → from < ran.world.count
-  pub counts : counts_in new ≡ behind (is_left ran.world.count (is_fault ran.outcome))
-      (counts_in before) (numbers_from (suc from) (ran.world.count - from))
-
--- It has executed so many events, at least this many and no more than its limit; after them stand
--- the multiples among so many numbers.
-pub record HasGone (b : Behaviour) (m : Answers) (limit from least k more : ℕ)
-    (before new : Timeline Position) : Type 0 where
-  pub going : CanGoOn b m k
-  pub limited : k ≤ limit
-  pub grew : least ≤ k
-  pub counts : counts_in new ≡ behind is_multiple (counts_in before) (numbers_from (suc from) more)
-
--- what stands after them, by where the run to that limit stands that went on from so many events
-abbrev pub HasBegun : Behaviour → Answers → ℕ → ℕ → Stood → Timeline Position
-    → Timeline Position → Type 0
-HasBegun b m limit from stood.Before before new = ⊥
-HasBegun b m limit from (stood.After k) before new =
-    HasGone b m limit from from k (k - from) before new
-HasBegun b m limit from (stood.Untaken k) before new =
-    HasGone b m limit from (suc from) k (k - suc from) before new
-HasBegun b m limit from stood.Ending before new = HasLeft from before new (run_to b m limit)
-
 -- of the modules of a position the first one that has none of these boxes
 abbrev pub lacking_at : Option Position → List Part → Option ℕ
 lacking_at None boxes = None
 lacking_at (Some p) boxes =
     option_map (λ (part : Part). part.id) (first_without boxes (standing p.modules))
+
+-- Where a run waits before a start event, it began before that one, and no position is stored after
+-- it.
+abbrev pub HasAllBelow : Phase → List Position → Type 0
+HasAllBelow Idle ps = Unit {0}
+HasAllBelow (Waiting from Setup) ps = Unit {0}
+HasAllBelow (Waiting from AtPosition) ps = Unit {0}
+HasAllBelow (Waiting from (Start k id)) ps = AreBelow (suc k) ps × starts_within from k
+HasAllBelow (Declined from Setup) ps = Unit {0}
+HasAllBelow (Declined from AtPosition) ps = Unit {0}
+HasAllBelow (Declined from (Start k id)) ps = AreBelow (suc k) ps × starts_within from k
 
 -- ---- in a runner
 
@@ -133,14 +114,23 @@ module _ {C X : Type 0} {Y : X → Type 0} where
   abbrev pub waiting_in : Members X Y → Runner C X Y → List BoxAt
   waiting_in members r = seats_held members r.waiting
 
-  -- THE MODULES THAT HAVE BOXES: those that were started, and then those whose boxes wait
+  -- THE MODULES THAT WERE STARTED, and have their boxes
   abbrev pub standing_in : Members X Y → Runner C X Y → List Part
-  standing_in members r =
-      standing (world_in members r.kernel).modules ++ parts_in (waiting_in members r)
+  standing_in members r = standing (world_in members r.kernel).modules
 
-  -- no position is stored while a box waits
-  abbrev pub HasNoneAlone : Members X Y → Runner C X Y → Type 0
-  HasNoneAlone members r = IsAlone (waiting_in members r) r.positions
+  -- those whose boxes wait for their start
+  abbrev pub supplied_in : Members X Y → Runner C X Y → List Part
+  supplied_in members r = parts_in (waiting_in members r)
+
+  -- A run that waited before a start event can go on from there: its kernel stands there, with the
+  -- boxes that wait, and its positions are those up to there.
+  pub record CanGoOnWith (b : Behaviour) (m : Answers) (members : Members X Y) (limit : ℕ)
+      (at : Resumed) (r : Runner C X Y) : Type 0 where
+    pub paused : IsPaused b m (world_in members r.kernel) (waiting_in members r) at.count
+    pub refused : refused_if b m (world_in members r.kernel) (waiting_in members r) at.declined
+    pub within : at.count ≤ limit
+    pub below : AreBelow (suc at.count) r.positions.stored
+    pub began : starts_within at.from at.count
 
   -- A run that goes back to a position waits there: it has the boxes that stay, and needs one more.
   pub record IsHeldBack (b : Behaviour) (m : Answers) (members : Members X Y) (event : ℕ)
@@ -148,7 +138,7 @@ module _ {C X : Type 0} {Y : X → Type 0} where
     pub going : CanGoOn b m event
     pub none : waiting_in members after ≡ []
     pub kept : standing_in members after ≡ kept_back b m event (standing_in members before)
-    pub wanted : needed_by b m (Some event) (kept_back b m event (standing_in members before))
+    pub wanted : needed_back b m event (kept_back b m event (standing_in members before))
         ≡ Some request
     pub positions : after.positions ≡ cut_after event before.positions
     pub stood : after.stood ≡ stood.After event
@@ -161,9 +151,75 @@ module _ {C X : Type 0} {Y : X → Type 0} where
     pub records : GoesOn (world_in members after.kernel).records
         (world_in members before.kernel).records
     pub none : waiting_in members after ≡ []
-    pub needs_none : needed_by b m (Some event) (kept_back b m event (standing_in members before))
+    pub needs_none : needed_back b m event (kept_back b m event (standing_in members before))
         ≡ None
     pub positions : after.positions ≡ cut_after event before.positions
+
+  -- A run that went on from there waits for a box, after its last event.
+  pub record IsHeldUpIn (b : Behaviour) (m : Answers) (members : Members X Y) (limit : ℕ)
+      (before after : Runner C X Y) (request : Request) : Type 0 where
+    pub held : IsHeldUp b m limit (world_in members before.kernel).count
+        (supplied_in members before) (world_in members after.kernel) (waiting_in members after)
+        request
+    pub stood : after.stood ≡ stood.After (world_in members after.kernel).count
+    pub counts : counts_in after.positions ≡ behind is_multiple (counts_in before.positions)
+        (numbers_from (suc (world_in members before.kernel).count)
+        ((world_in members after.kernel).count - (world_in members before.kernel).count))
+
+  -- Its events are executed: no box was wanted.
+  pub record IsRunOut (b : Behaviour) (m : Answers) (members : Members X Y) (limit : ℕ)
+      (before after : Runner C X Y) (outcome : Outcome) : Type 0 where
+    pub none : first_wait b m (world_in members before.kernel).count
+        (limit - (world_in members before.kernel).count) (supplied_in members before) ≡ None
+    pub ran : IsStopped b m limit (ran_in members outcome after.kernel)
+    pub gone : HasGoneOn b m (world_in members before.kernel).count before.positions
+        after.positions (world_in members after.kernel) outcome
+
+  -- It has ended too: it is a fresh run, and has left its positions, and no box.
+  pub record IsRunThrough (b : Behaviour) (m : Answers) (members : Members X Y) (limit : ℕ)
+      (before after : Runner C X Y) (outcome : Outcome) : Type 0 where
+    pub none : first_wait b m (world_in members before.kernel).count
+        (limit - (world_in members before.kernel).count) (supplied_in members before) ≡ None
+    pub whole : fresh_run b m limit ≡ ran_in members outcome after.kernel
+    pub left : HasLeft (world_in members before.kernel).count (counts_in before.positions)
+        (counts_in after.positions) (run_to b m limit)
+    pub empty : waiting_in members after ≡ []
+
+  abbrev pub HasRun : Behaviour → Answers → Members X Y → ℕ → Runner C X Y → Runner C X Y
+      → RunStatus Outcome → Type 0
+  HasRun b m members limit before after (status.Waits request) =
+      IsHeldUpIn b m members limit before after request
+  HasRun b m members limit before after (status.Done outcome) =
+      IsRunOut b m members limit before after outcome
+
+  abbrev pub HasRunOn : Behaviour → Answers → Members X Y → ℕ → Runner C X Y → Runner C X Y
+      → RunStatus Outcome → Type 0
+  HasRunOn b m members limit before after (status.Waits request) =
+      IsHeldUpIn b m members limit before after request
+  HasRunOn b m members limit before after (status.Done outcome) =
+      IsRunThrough b m members limit before after outcome
+
+  -- A run that was started waits, or has ended.
+  pub record IsHeldUpSince (b : Behaviour) (m : Answers) (members : Members X Y) (limit : ℕ)
+      (old : Timeline ℕ) (after : Runner C X Y) (request : Request) : Type 0 where
+    pub held : IsHeldUp b m limit 0 [] (world_in members after.kernel) (waiting_in members after)
+        request
+    pub counts : counts_in after.positions
+        ≡ positions_begun old None (suc (world_in members after.kernel).count - 0)
+
+  pub record IsWhole (b : Behaviour) (m : Answers) (members : Members X Y) (limit : ℕ)
+      (old : Timeline ℕ) (after : Runner C X Y) (outcome : Outcome) : Type 0 where
+    pub none : first_wait b m 0 limit [] ≡ None
+    pub whole : fresh_run b m limit ≡ ran_in members outcome after.kernel
+    pub empty : waiting_in members after ≡ []
+    pub left : counts_in after.positions ≡ positions_after b m limit None old
+
+  abbrev pub HasStarted : Behaviour → Answers → Members X Y → ℕ → Timeline ℕ → Runner C X Y
+      → RunStatus Outcome → Type 0
+  HasStarted b m members limit old after (status.Waits request) =
+      IsHeldUpSince b m members limit old after request
+  HasStarted b m members limit old after (status.Done outcome) =
+      IsWhole b m members limit old after outcome
 
   -- Where there is a start the run waits there or goes on from there, and of the positions those up
   -- to it are left; else nothing has changed.

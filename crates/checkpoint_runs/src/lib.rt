@@ -3,4 +3,5 @@
 
 pub mod laws;
 pub mod observer;
+pub mod phases;
 pub mod running;

@@ -1,35 +1,42 @@
 //! A run, from setup or from a position, and the positions that it leaves.
 
-ghost use Rattle.std.specs.Prelude.{◌≡◌, ◌≤◌, ◌&&◌, ◌++◌, ◌∷◌, [], nat_lt, not, true, None, OnOk};
-ghost use Rattle.std.specs.Prelude.{OnErr, IfOk, IfErr, List, length};
+ghost use Rattle.std.specs.Prelude.{◌≡◌, ◌≤◌, ◌<◌, ◌&&◌, ◌++◌, ◌∷◌, [], not, true, None, Some};
+ghost use Rattle.checkpoint_runs.specs.declared.phases.AtSetup.{AtSetup};
+ghost use Rattle.std.specs.Prelude.{Option, OnOk, OnErr, IfOk, IfErr, List, length, ◌+◌};
 ghost use Rattle.model_answers.specs.Answering.{answers_of};
-ghost use Rattle.run_semantics.specs.Run.{prepared, run_to, settled, stage_of, standing};
+ghost use Rattle.run_semantics.specs.Run.{prepared, run_to, settled, stage_of, standing, wanted};
 ghost use Rattle.kernel_actions.specs.Positions.{position_of};
 ghost use Rattle.kernel_call_views.specs.Tables.{AreShown};
 ghost use Rattle.model_questions.specs.Answers.{Answers as Answered};
 ghost use Rattle.model_questions.specs.declared.record.Record.{Record};
 ghost use Rattle.run_semantics.specs.Laws.{GoesOn};
 ghost use Rattle.kernel.specs.Kernels.{boxes_in, world_in, ran_in, HasKinds};
+ghost use Rattle.kernel.specs.Starts.{AreFirstOf};
 ghost use Rattle.checkpoints.specs.Stored.{counts_in, counts_of, is_multiple, last_of, AreBelow};
 ghost use Rattle.checkpoints.specs.Stored.{AreRising, IsBegun};
-ghost use Rattle.checkpoint_runs.specs.Running.{boxes_left, fresh_run, kept_boxes, parts_in};
-ghost use Rattle.checkpoint_runs.specs.Running.{Advances, CanStart, IsDeclined, IsFilled, IsLive};
-ghost use Rattle.checkpoint_runs.specs.Running.{IsStopped, IsUndeclined, Stands, Wants};
+ghost use Rattle.checkpoint_runs.specs.Running.{at_setup, fresh_run, kept_at_setup, parts_in};
+ghost use Rattle.checkpoint_runs.specs.Running.{progress_of, resumed, wanted_at_setup};
+ghost use Rattle.checkpoint_runs.specs.Running.{wanted_by, Advances, CanStart, IsDeclined};
+ghost use Rattle.checkpoint_runs.specs.Running.{IsFilled, IsLive, IsLiveAtSetup, IsRefused, Stands};
+ghost use Rattle.checkpoint_runs.specs.Running.{Wants};
 ghost use Rattle.checkpoint_runs.specs.Kept.{standing_in, cut_to_last, kept_up_to, lacking_at};
-ghost use Rattle.checkpoint_runs.specs.Kept.{taken_if};
-ghost use Rattle.checkpoint_runs.specs.Kept.{waiting_in, HasBegun, HasGood, HasGoneOn, HasLeft};
-ghost use Rattle.checkpoint_runs.specs.Kept.{HasNoneAlone, IsBack, IsBesideKernel, IsGoing};
-ghost use Rattle.checkpoint_runs.specs.Positions.{last_count, positions_after, start_of, HasStored};
+ghost use Rattle.checkpoint_runs.specs.Kept.{is_owed, taken_if};
+ghost use Rattle.checkpoint_runs.specs.Kept.{supplied_in, waiting_in, CanGoOnWith, HasAllBelow};
+ghost use Rattle.checkpoint_runs.specs.Kept.{HasGood, HasRun, HasRunOn, HasStarted, IsBack};
+ghost use Rattle.checkpoint_runs.specs.Kept.{IsBesideKernel, IsGoing};
+ghost use Rattle.checkpoint_runs.specs.Positions.{last_count, start_of, HasBegun, HasLeft, HasStored};
 ghost use Rattle.checkpoint_runs.specs.Shown.{IsShownAfter};
 ghost use Rattle.kernel_boxes.specs.Seats.{BoxAt, AreBelow as AreOfSmallerIds};
 ghost use Rattle.kernel_boxes.specs.Saved.{instances_held};
-ghost use Rattle.checkpoint_runs.specs.declared.running.Phase.{Phase};
-ghost use Rattle.checkpoint_runs.specs.declared.running.Stood.{Stood};
+ghost use Rattle.checkpoint_runs.specs.declared.phases.Stood.{Stood};
 
 use crate::observer::Observer;
+use crate::phases::{
+    AtSetup, Ended, Phase, Point, Progress, Resumed, RunStatus, Stood, Wait, at_setup, goes_on_at,
+    progress_of,
+};
 use checkpoints::positions::Positions;
 use kernel::kernel::Kernel;
-use kernel::request::Request;
 use kernel_call_views::CallViews;
 use model_answers::asked::AskedModel;
 use model_answers::evaluated::EvaluatedModel;
@@ -41,58 +48,6 @@ use run_semantics::outcome::{Outcome, RunFault};
 use sim_values::NoMemory;
 use std::alloc::{AllocFailed, Global};
 use std::marker::{Brand, PhantomData};
-
-/// At which point of a run boxes are wanted.
-#[derive(Clone, Copy, PartialEq, Eq)]
-pub enum Point {
-    /// Its network is set up, and is to be started.
-    Setup,
-    /// It goes back to a position, for one of whose modules there is no box: that one was deleted
-    /// since.
-    Position,
-}
-
-/// Where a run stands between two calls.
-#[derive(Clone, Copy, PartialEq, Eq)]
-pub enum Phase {
-    /// No run waits.
-    Idle,
-    /// A run waits for the box of a module, at that point. It began at a position of so many
-    /// events, or with setup.
-    Waiting(Option<u64>, Point),
-    /// There is no box for the module that the run waited for.
-    Declined,
-}
-
-/// Where a run stands, or stood when memory ran out.
-#[derive(Clone, Copy, PartialEq, Eq)]
-pub enum Stood {
-    /// Event zero is not done.
-    Before,
-    /// After so many events, with the positions that were due by then.
-    After(u64),
-    /// After so many events, of which the last one's position is not taken.
-    Untaken(u64),
-    /// All its events are executed, and its positions are stored.
-    Ending,
-}
-
-/// How far a run is: it waits for the box of a module, or it is done with what was asked for, and
-/// this came of it.
-#[derive(Drop)]
-pub enum RunStatus<D> {
-    /// It waits for the box of a module.
-    Waits(Request),
-    Done(D),
-}
-
-/// How a run began and ended.
-#[derive(Drop)]
-pub struct Ended {
-    /// It began at a position of so many events, or with setup.
-    pub start: Option<u64>,
-    pub outcome: Outcome,
-}
 
 /// The kernel of a session, and the positions to which it can go back.
 pub struct Runner<C: Catalogue> {
@@ -135,9 +90,8 @@ impl<C: Catalogue> Runner<C> {
             let waiting = waiting_in SimpleModule-box self.now in
             IfOk result (λ standing.
             Stands C.behaviour M.answers (parts_in waiting) world waiting standing) }
-        ensures wants { let waiting = waiting_in SimpleModule-box self.now in
-            IfOk result (λ standing. (phase : Phase)
-            → IsUndeclined phase → Wants M.answers (parts_in waiting) phase standing) }
+        ensures wants { let supplied = supplied_in SimpleModule-box self.now in
+            IfOk result (λ standing. Wants (wanted_by M.answers supplied) standing) }
     {
         match self.kernel.missing(alloc, &self.waiting)? {
             Some(request) => Ok(RunStatus::Waits(request)),
@@ -181,8 +135,7 @@ impl<C: Catalogue> Runner<C> {
             let waiting = waiting_in SimpleModule-box self.new in
             IfOk result (λ standing.
             Stands C.behaviour M.answers [] left waiting standing) }
-        ensures wants { IfOk result (λ standing.
-            (phase : Phase) → IsUndeclined phase → Wants M.answers [] phase standing) }
+        ensures wants { IfOk result (λ standing. Wants (wanted_by M.answers []) standing) }
     {
         match self.set_network_up::<M>(alloc, model)? {
             Some(outcome) => Ok(RunStatus::Done(Some(outcome))),
@@ -202,9 +155,10 @@ impl<C: Catalogue> Runner<C> {
             IsDeclined C.behaviour M.answers (world_in SimpleModule-box self.now.kernel) waiting }
         ensures stands { let world = world_in SimpleModule-box self.now.kernel in
             let waiting = waiting_in SimpleModule-box self.now in
+            let supplied = supplied_in SimpleModule-box self.now in
             IfOk result (λ standing.
-            Stands C.behaviour M.answers [] world waiting standing) }
-        ensures over { IfOk result (λ standing. Wants M.answers [] Phase.Declined standing) }
+            Stands C.behaviour M.answers supplied world waiting standing) }
+        ensures over { IfOk result (λ standing. Wants None standing) }
     {
         let request = self.kernel.missing(alloc, &self.waiting)?.unwrap();
         Ok(RunStatus::Done(Some(Outcome::Fault(
@@ -220,36 +174,32 @@ impl<C: Catalogue> Runner<C> {
         &mut self,
         alloc: Global,
         model: &EvaluatedModel,
-        phase: Phase,
+        at: AtSetup,
     ) -> Result<RunStatus<Option<Outcome>>, NoMemory>
         requires asked { answers_of model.now ≡ M.answers }
         requires live { let world = world_in SimpleModule-box self.old.kernel in
             let waiting = waiting_in SimpleModule-box self.old in
-            IsLive C.behaviour M.answers world waiting phase }
+            IsLiveAtSetup C.behaviour M.answers world waiting at }
         requires kinds { HasKinds C.behaviour SimpleModule-box self.old.kernel }
         ensures kinds { HasKinds C.behaviour SimpleModule-box self.new.kernel }
         ensures kept { IsBesideKernel self.old self.new }
-        ensures stands { let kept = kept_boxes phase (standing_in SimpleModule-box self.old) in
+        ensures stands { let kept = kept_at_setup at (supplied_in SimpleModule-box self.old) in
             let left = world_in SimpleModule-box self.new.kernel in
             let waiting = waiting_in SimpleModule-box self.new in
             IfOk result (λ standing. Stands C.behaviour M.answers kept left waiting standing) }
-        ensures wants { let kept = kept_boxes phase (standing_in SimpleModule-box self.old) in
-            IfOk result (λ standing. Wants M.answers kept phase standing) }
+        ensures wants { let kept = kept_at_setup at (supplied_in SimpleModule-box self.old) in
+            IfOk result (λ standing. Wants (wanted_at_setup at M.answers kept) standing) }
     {
-        match phase {
-            Phase::Idle => {
+        match at {
+            AtSetup::Anew => {
                 let standing = self.set_up::<M>(alloc, model)?;
                 Ok(standing)
             }
-            Phase::Waiting(_from, Point::Setup) => {
+            AtSetup::Filling => {
                 let standing = self.next_box::<M>(alloc)?;
                 Ok(standing)
             }
-            Phase::Waiting(_from, Point::Position) => {
-                let anew = self.set_up::<M>(alloc, model)?;
-                Ok(anew)
-            }
-            Phase::Declined => {
+            AtSetup::Refused => {
                 let standing = self.declined::<M>(alloc)?;
                 Ok(standing)
             }
@@ -276,9 +226,19 @@ impl<C: Catalogue> Runner<C> {
         self.waiting.place(id, held)
     }
 
+    /// Drops the boxes that wait for the start of their modules.
+    pub fn drop_waiting(&mut self)
+        ensures kernel { self.new.kernel ≡ self.old.kernel }
+        ensures kept { IsBesideKernel self.old self.new }
+        ensures none { waiting_in SimpleModule-box self.new ≡ [] }
+    {
+        self.waiting.clear();
+    }
+
     /// How many boxes there are: those of the modules that were started, and those that wait.
     pub fn held(&self) -> u128
-        ensures { result ≡ length (standing_in SimpleModule-box self.now) }
+        ensures { let started = standing_in SimpleModule-box self.now in
+            result ≡ length started + length (supplied_in SimpleModule-box self.now) }
     {
         self.kernel.held() as u128 + self.waiting.len() as u128
     }
@@ -322,15 +282,13 @@ impl<C: Catalogue> Runner<C> {
     ) -> Result<RunStatus<Option<u64>>, NoMemory>
         requires kinds { HasKinds C.behaviour SimpleModule-box self.old.kernel }
         requires good { HasGood C.behaviour M.answers SimpleModule-box self.old }
-        requires alone { HasNoneAlone SimpleModule-box self.old }
         ensures kinds { HasKinds C.behaviour SimpleModule-box self.new.kernel }
         ensures good { HasGood C.behaviour M.answers SimpleModule-box self.new }
-        ensures alone { HasNoneAlone SimpleModule-box self.new }
         ensures back { let start = start_of limit (counts_of self.old.positions.stored) in
             IfOk result (λ back. IsBack C.behaviour M.answers SimpleModule-box limit start self.old
             self.new back) }
         ensures err { OnErr result
-            (HasStored C.behaviour M.answers limit (counts_in self.old.positions)
+            (HasStored C.behaviour M.answers limit None (counts_in self.old.positions)
             self.new.stood (counts_in self.new.positions)) }
     {
         let Some(position) = self.positions.at_most(limit) else {
@@ -344,6 +302,16 @@ impl<C: Catalogue> Runner<C> {
         match back? {
             Some(request) => Ok(RunStatus::Waits(request)),
             None => Ok(RunStatus::Done(Some(start))),
+        }
+    }
+
+    /// Of how many events the last position is.
+    fn last_stored(&self) -> Option<u64>
+        ensures { result ≡ last_count (counts_of self.now.positions.stored) }
+    {
+        match self.positions.last() {
+            Some(position) => Some(position.count()),
+            None => None,
         }
     }
 
@@ -399,8 +367,9 @@ impl<C: Catalogue> Runner<C> {
         observer.event(self.kernel.count(), self.kernel.clock());
     }
 
-    /// Goes on to the limit or to an end, and tells the observer of each event. After each one
-    /// whose number is a multiple of the interval as it is then, a position is stored.
+    /// Goes on to the limit, to an end, or until a box is wanted, and tells the observer of each
+    /// event. After each one whose number is a multiple of the interval as it is then, a position is
+    /// stored.
     fn run_events<A: Answers, W: Observer>(
         &mut self,
         alloc: Global,
@@ -408,42 +377,50 @@ impl<C: Catalogue> Runner<C> {
         shown: &mut CallViews,
         limit: u64,
         observer: &mut W,
-    ) -> Result<Outcome, NoMemory>
+    ) -> Result<RunStatus<Outcome>, NoMemory>
         requires going { IsGoing C.behaviour A.answers SimpleModule-box limit self.old }
         requires kinds { HasKinds C.behaviour SimpleModule-box self.old.kernel }
+        requires first { let before = world_in SimpleModule-box self.old.kernel in
+            let waiting = waiting_in SimpleModule-box self.old in
+            AreFirstOf C.behaviour (wanted A.answers before) waiting }
         requires shown { let before = world_in SimpleModule-box self.old.kernel in
             AreShown A.answers before.records shown.old }
         ensures kinds { HasKinds C.behaviour SimpleModule-box self.new.kernel }
         ensures good { HasGood C.behaviour A.answers SimpleModule-box self.new }
-        ensures waiting { self.new.waiting ≡ self.old.waiting }
         ensures begun { let from = (world_in SimpleModule-box self.old.kernel).count in
             OnErr result
-            (HasBegun C.behaviour A.answers limit from self.new.stood self.old.positions
-            self.new.positions) }
-        ensures ran { IfOk result (λ outcome. IsStopped C.behaviour A.answers limit
-            (ran_in SimpleModule-box outcome self.new.kernel)) }
-        ensures stored { let from = (world_in SimpleModule-box self.old.kernel).count in
-            let left = world_in SimpleModule-box self.new.kernel in
-            IfOk result (λ outcome. HasGoneOn C.behaviour A.answers from self.old.positions
-            self.new.positions left outcome) }
+            (HasBegun C.behaviour A.answers limit from (counts_in self.old.positions)
+            self.new.stood (counts_in self.new.positions)) }
+        ensures ran { IfOk result (λ status.
+            HasRun C.behaviour A.answers SimpleModule-box limit self.old self.new status) }
         ensures shown { let left = world_in SimpleModule-box self.new.kernel in
             OnOk result (AreShown A.answers left.records shown.new) }
     {
         let last_time = model.time_limit();
         for _k in self.kernel.count()..limit {
-            if let Some(outcome) = self.kernel.step(alloc, model, last_time, shown)? {
-                return Ok(outcome);
+            let missing = self
+                .kernel
+                .missing_next(alloc, model, last_time, &self.waiting)?;
+            if let Some(request) = missing {
+                return Ok(RunStatus::Waits(request));
+            }
+            let over = self
+                .kernel
+                .step(alloc, model, last_time, shown, &mut self.waiting)?;
+            if let Some(outcome) = over {
+                return Ok(RunStatus::Done(outcome));
             }
             self.tell(observer);
             let due = is_multiple(self.positions.interval(), self.kernel.count());
             self.keep_if(alloc, due)?;
         }
-        Ok(self.kernel.outcome_of(None))
+        let ended = self.kernel.outcome_of(None);
+        Ok(RunStatus::Done(ended))
     }
 
-    /// Goes on to the limit or to an end, and ends the run. A position is stored after its last
-    /// event too, unless that ended in a fault. The observer is told where it begins, and of each
-    /// event.
+    /// Goes on to the limit or to an end, and ends the run, or until a box is wanted. A position is
+    /// stored after its last event too, unless that ended in a fault. The observer is told where it
+    /// goes on, and of each event.
     fn run_on<A: Answers, W: Observer>(
         &mut self,
         alloc: Global,
@@ -451,36 +428,87 @@ impl<C: Catalogue> Runner<C> {
         shown: &mut CallViews,
         limit: u64,
         observer: &mut W,
-    ) -> Result<Outcome, NoMemory>
+    ) -> Result<RunStatus<Outcome>, NoMemory>
         requires going { IsGoing C.behaviour A.answers SimpleModule-box limit self.old }
         requires kinds { HasKinds C.behaviour SimpleModule-box self.old.kernel }
+        requires first { let before = world_in SimpleModule-box self.old.kernel in
+            let waiting = waiting_in SimpleModule-box self.old in
+            AreFirstOf C.behaviour (wanted A.answers before) waiting }
         requires shown { let before = world_in SimpleModule-box self.old.kernel in
             AreShown A.answers before.records shown.old }
         ensures kinds { HasKinds C.behaviour SimpleModule-box self.new.kernel }
         ensures good { HasGood C.behaviour A.answers SimpleModule-box self.new }
-        ensures waiting { self.new.waiting ≡ self.old.waiting }
+        ensures ran { IfOk result (λ status.
+            HasRunOn C.behaviour A.answers SimpleModule-box limit self.old self.new status) }
+        ensures stopped { let from = (world_in SimpleModule-box self.old.kernel).count in
+            HasBegun C.behaviour A.answers limit from (counts_in self.old.positions)
+            self.new.stood (counts_in self.new.positions) }
+        ensures shown { let left = world_in SimpleModule-box self.new.kernel in
+            OnOk result (AreShown A.answers left.records shown.new) }
+    {
+        observer.begin(self.kernel.count(), limit);
+        match self.run_events(alloc, model, shown, limit, observer)? {
+            RunStatus::Waits(request) => Ok(RunStatus::Waits(request)),
+            RunStatus::Done(outcome) => {
+                let last = self.kernel.count();
+                let due = is_owed(outcome.is_fault(), self.positions.ends_at(last));
+                self.keep_if(alloc, due)?;
+                self.stood = Stood::Ending;
+                self.drop_waiting();
+                let ended = self.kernel.finish(alloc, model, shown, outcome)?;
+                Ok(RunStatus::Done(ended))
+            }
+        }
+    }
+
+    /// The end of a run for the first of whose modules that the next event starts there is no box:
+    /// that event begins, and has this fault. No box waits from then on.
+    fn run_refused<A: Answers>(
+        &mut self,
+        alloc: Global,
+        model: &mut A,
+        shown: &mut CallViews,
+        limit: u64,
+    ) -> Result<Outcome, NoMemory>
+        requires going { IsGoing C.behaviour A.answers SimpleModule-box limit self.old }
+        requires kinds { HasKinds C.behaviour SimpleModule-box self.old.kernel }
+        requires within { (world_in SimpleModule-box self.old.kernel).count < limit }
+        requires first { let before = world_in SimpleModule-box self.old.kernel in
+            let waiting = waiting_in SimpleModule-box self.old in
+            AreFirstOf C.behaviour (wanted A.answers before) waiting }
+        requires refused { let before = world_in SimpleModule-box self.old.kernel in
+            IsRefused C.behaviour A.answers before (waiting_in SimpleModule-box self.old) }
+        ensures kinds { HasKinds C.behaviour SimpleModule-box self.new.kernel }
+        ensures good { HasGood C.behaviour A.answers SimpleModule-box self.new }
+        ensures none { OnOk result (waiting_in SimpleModule-box self.new ≡ []) }
         ensures ran { IfOk result (λ outcome. fresh_run C.behaviour A.answers limit
             ≡ ran_in SimpleModule-box outcome self.new.kernel) }
         ensures left { let from = (world_in SimpleModule-box self.old.kernel).count in
             let ran = run_to C.behaviour A.answers limit in
-            OnOk result (HasLeft from self.old.positions self.new.positions ran) }
+            OnOk result
+            (HasLeft from (counts_in self.old.positions) (counts_in self.new.positions) ran) }
         ensures stopped { let from = (world_in SimpleModule-box self.old.kernel).count in
-            HasBegun C.behaviour A.answers limit from self.new.stood self.old.positions
-            self.new.positions }
+            HasBegun C.behaviour A.answers limit from (counts_in self.old.positions)
+            self.new.stood (counts_in self.new.positions) }
         ensures shown { let left = world_in SimpleModule-box self.new.kernel in
             OnOk result (AreShown A.answers left.records shown.new) }
     {
-        let from = self.kernel.count();
-        observer.begin(from, limit);
-        let outcome = self.run_events(alloc, model, shown, limit, observer)?;
-        let last = self.kernel.count();
-        let due = is_owed(from, outcome.is_fault(), last, self.positions.ends_at(last));
-        self.keep_if(alloc, due)?;
+        let last_time = model.time_limit();
+        let missing = self
+            .kernel
+            .missing_next(alloc, model, last_time, &self.waiting)?;
+        let request = missing.unwrap();
+        let over = self
+            .kernel
+            .step_declined(alloc, model, last_time, request.id)?;
+        *shown = CallViews::new(alloc);
         self.stood = Stood::Ending;
-        self.kernel.finish(alloc, model, shown, outcome)
+        self.drop_waiting();
+        Ok(self.kernel.outcome_of(over))
     }
 
-    /// A whole run from where each module has its box: its events, and its end.
+    /// A whole run from where each module has its box: its events, and its end, or until a box is
+    /// wanted before one of them.
     fn run_to_end<A: Answers, W: Observer>(
         &mut self,
         alloc: Global,
@@ -488,7 +516,7 @@ impl<C: Catalogue> Runner<C> {
         shown: &mut CallViews,
         limit: u64,
         observer: &mut W,
-    ) -> Result<Outcome, NoMemory>
+    ) -> Result<RunStatus<Outcome>, NoMemory>
         requires ready { let waiting = waiting_in SimpleModule-box self.old in
             CanStart C.behaviour A.answers (world_in SimpleModule-box self.old.kernel) waiting }
         requires none { IsBegun self.old.positions }
@@ -496,24 +524,23 @@ impl<C: Catalogue> Runner<C> {
         requires shown { let before = world_in SimpleModule-box self.old.kernel in
             AreShown A.answers before.records shown.old }
         ensures kinds { HasKinds C.behaviour SimpleModule-box self.new.kernel }
-        ensures none { waiting_in SimpleModule-box self.new ≡ [] }
         ensures good { HasGood C.behaviour A.answers SimpleModule-box self.new }
-        ensures ran { IfOk result (λ outcome. fresh_run C.behaviour A.answers limit
-            ≡ ran_in SimpleModule-box outcome self.new.kernel) }
-        ensures boxes { let left = standing_in SimpleModule-box self.new in
-            OnOk result (left ≡ boxes_left C.behaviour A.answers limit) }
-        ensures left { OnOk result (counts_in self.new.positions
-            ≡ positions_after C.behaviour A.answers limit (counts_in self.old.positions)) }
-        ensures stopped { HasStored C.behaviour A.answers limit (counts_in self.old.positions)
+        ensures ran { IfOk result (λ status. HasStarted C.behaviour A.answers SimpleModule-box
+            limit (counts_in self.old.positions) self.new status) }
+        ensures stopped { HasStored C.behaviour A.answers limit None (counts_in self.old.positions)
             self.new.stood (counts_in self.new.positions) }
         ensures shown { let left = world_in SimpleModule-box self.new.kernel in
             OnOk result (AreShown A.answers left.records shown.new) }
     {
         match self.kernel.start(alloc, model, shown, &mut self.waiting)? {
-            Some(outcome) => self.kernel.finish(alloc, model, shown, outcome),
+            Some(outcome) => {
+                let ended = self.kernel.finish(alloc, model, shown, outcome)?;
+                Ok(RunStatus::Done(ended))
+            }
             None => {
                 self.keep_if(alloc, true)?;
-                self.run_on(alloc, model, shown, limit, observer)
+                let status = self.run_on(alloc, model, shown, limit, observer)?;
+                Ok(status)
             }
         }
     }
@@ -524,54 +551,156 @@ impl<C: Catalogue> Runner<C> {
         &mut self,
         alloc: Global,
         model: &EvaluatedModel,
-        phase: Phase,
+        at: AtSetup,
         limit: u64,
         shown: &mut CallViews,
         observer: &mut W,
-    ) -> Result<RunStatus<Ended>, NoMemory>
+    ) -> Result<Progress, NoMemory>
         requires asked { answers_of model.now ≡ M.answers }
         requires live { let world = world_in SimpleModule-box self.old.kernel in
             let waiting = waiting_in SimpleModule-box self.old in
-            IsLive C.behaviour M.answers world waiting phase }
+            IsLiveAtSetup C.behaviour M.answers world waiting at }
         requires kinds { HasKinds C.behaviour SimpleModule-box self.old.kernel }
         requires none { IsBegun self.old.positions }
         requires stood { self.old.stood ≡ Stood.Before }
         ensures kinds { HasKinds C.behaviour SimpleModule-box self.new.kernel }
         ensures good { HasGood C.behaviour M.answers SimpleModule-box self.new }
-        ensures alone { HasNoneAlone SimpleModule-box self.new }
         ensures advances { let boxes = standing_in SimpleModule-box self.old in
+            let supplied = supplied_in SimpleModule-box self.old in
             let left = world_in SimpleModule-box self.new.kernel in
             let waiting = waiting_in SimpleModule-box self.new in
-            IfOk result (λ advance.
-            Advances C.behaviour M.answers limit phase boxes (counts_in self.old.positions)
-            left waiting
-            (counts_in self.new.positions) advance) }
-        ensures stopped { HasStored C.behaviour M.answers limit (counts_in self.old.positions)
+            IfOk result (λ progress.
+            Advances C.behaviour M.answers limit at None boxes supplied
+            (counts_in self.old.positions) left waiting (counts_in self.new.positions) progress) }
+        ensures stopped { HasStored C.behaviour M.answers limit None (counts_in self.old.positions)
             self.new.stood (counts_in self.new.positions) }
         ensures shown { let left = world_in SimpleModule-box self.new.kernel in
-            IfOk result (λ advance. IsShownAfter M.answers left.records shown.new advance) }
+            IfOk result (λ progress. IsShownAfter M.answers left.records shown.new progress) }
     {
         *shown = CallViews::new(alloc);
-        match self.stand::<M>(alloc, model, phase)? {
-            RunStatus::Done(Some(outcome)) => Ok(RunStatus::Done(Ended {
-                start: None,
-                outcome,
-            })),
-            RunStatus::Waits(request) => Ok(RunStatus::Waits(request)),
-            RunStatus::Done(None) => {
-                let mut answers = AskedModel::<M>::new(alloc, model)?;
-                let outcome = self.run_to_end(alloc, &mut answers, shown, limit, observer)?;
-                Ok(RunStatus::Done(Ended {
+        match self.stand::<M>(alloc, model, at)? {
+            RunStatus::Done(Some(outcome)) => {
+                self.drop_waiting();
+                Ok(Progress::Done(Ended {
                     start: None,
                     outcome,
                 }))
             }
+            RunStatus::Waits(request) => Ok(Progress::Waits(Wait {
+                from: None,
+                at: Point::Setup,
+                request,
+            })),
+            RunStatus::Done(None) => {
+                let mut answers = AskedModel::<M>::new(alloc, model)?;
+                let status = self.run_to_end(alloc, &mut answers, shown, limit, observer)?;
+                Ok(progress_of(None, self.kernel.count(), status))
+            }
         }
     }
 
-    /// Runs the model for at most so many events, from the last position up to there or from setup,
-    /// or finds the box that is needed first. The observer is told of each event that is executed.
-    /// What calls show of modules is taken from the table, and what is not there is put there.
+    /// Begins a run of the model M for at most so many events, at the last position up to there or
+    /// with setup, and runs it, or finds the box that is needed first. The observer is told of each
+    /// event that is executed.
+    fn begin<M: ModelMarker, W: Observer>(
+        &mut self,
+        alloc: Global,
+        model: &EvaluatedModel,
+        at: AtSetup,
+        limit: u64,
+        shown: &mut CallViews,
+        observer: &mut W,
+    ) -> Result<Progress, NoMemory>
+        requires asked { answers_of model.now ≡ M.answers }
+        requires live { let world = world_in SimpleModule-box self.old.kernel in
+            let waiting = waiting_in SimpleModule-box self.old in
+            IsLiveAtSetup C.behaviour M.answers world waiting at }
+        requires kinds { HasKinds C.behaviour SimpleModule-box self.old.kernel }
+        requires good { HasGood C.behaviour M.answers SimpleModule-box self.old }
+        requires shown { let before = world_in SimpleModule-box self.old.kernel in
+            AreShown M.answers before.records shown.old }
+        ensures kinds { HasKinds C.behaviour SimpleModule-box self.new.kernel }
+        ensures good { HasGood C.behaviour M.answers SimpleModule-box self.new }
+        ensures advances { let boxes = standing_in SimpleModule-box self.old in
+            let supplied = supplied_in SimpleModule-box self.old in
+            let left = world_in SimpleModule-box self.new.kernel in
+            let waiting = waiting_in SimpleModule-box self.new in
+            IfOk result (λ progress.
+            Advances C.behaviour M.answers limit at None boxes supplied
+            (counts_in self.old.positions) left waiting (counts_in self.new.positions) progress) }
+        ensures stopped { HasStored C.behaviour M.answers limit None (counts_in self.old.positions)
+            self.new.stood (counts_in self.new.positions) }
+        ensures shown { let left = world_in SimpleModule-box self.new.kernel in
+            IfOk result (λ progress. IsShownAfter M.answers left.records shown.new progress) }
+    {
+        let modules = self.kernel.records().len();
+        match self.go_back::<M>(alloc, limit)? {
+            RunStatus::Waits(request) => Ok(Progress::Waits(Wait {
+                from: self.last_stored(),
+                at: Point::Position,
+                request,
+            })),
+            RunStatus::Done(Some(start)) => {
+                let mut answers = AskedModel::<M>::new(alloc, model)?;
+                keep_shown(alloc, shown, modules, self.kernel.records().len());
+                let status = self.run_on(alloc, &mut answers, shown, limit, observer)?;
+                Ok(progress_of(Some(start), self.kernel.count(), status))
+            }
+            RunStatus::Done(None) => {
+                self.positions.clear();
+                self.stood = Stood::Before;
+                self.run_from_setup::<M, W>(alloc, model, at, limit, shown, observer)
+            }
+        }
+    }
+
+    /// Goes on with a run that waited before a start event.
+    fn go_on<M: ModelMarker, W: Observer>(
+        &mut self,
+        alloc: Global,
+        model: &EvaluatedModel,
+        at: Resumed,
+        limit: u64,
+        shown: &mut CallViews,
+        observer: &mut W,
+    ) -> Result<Progress, NoMemory>
+        requires asked { answers_of model.now ≡ M.answers }
+        requires waited { CanGoOnWith C.behaviour M.answers SimpleModule-box limit at self.old }
+        requires kinds { HasKinds C.behaviour SimpleModule-box self.old.kernel }
+        requires good { HasGood C.behaviour M.answers SimpleModule-box self.old }
+        requires shown { let before = world_in SimpleModule-box self.old.kernel in
+            AreShown M.answers before.records shown.old }
+        ensures kinds { HasKinds C.behaviour SimpleModule-box self.new.kernel }
+        ensures good { HasGood C.behaviour M.answers SimpleModule-box self.new }
+        ensures advances { let boxes = standing_in SimpleModule-box self.old in
+            let supplied = supplied_in SimpleModule-box self.old in
+            let left = world_in SimpleModule-box self.new.kernel in
+            let waiting = waiting_in SimpleModule-box self.new in
+            IfOk result (λ progress. (setup : AtSetup)
+            → Advances C.behaviour M.answers limit setup (Some at) boxes supplied
+            (counts_in self.old.positions) left waiting (counts_in self.new.positions) progress) }
+        ensures stopped { HasStored C.behaviour M.answers limit (Some at)
+            (counts_in self.old.positions) self.new.stood (counts_in self.new.positions) }
+        ensures shown { let left = world_in SimpleModule-box self.new.kernel in
+            IfOk result (λ progress. IsShownAfter M.answers left.records shown.new progress) }
+    {
+        self.stood = Stood::After(at.count);
+        let mut answers = AskedModel::<M>::new(alloc, model)?;
+        if at.declined && at.count < limit {
+            let outcome = self.run_refused(alloc, &mut answers, shown, limit)?;
+            return Ok(Progress::Done(Ended {
+                start: at.from,
+                outcome,
+            }));
+        }
+        let status = self.run_on(alloc, &mut answers, shown, limit, observer)?;
+        Ok(progress_of(at.from, self.kernel.count(), status))
+    }
+
+    /// Runs the model for at most so many events: goes on with a run that waits, or begins at the
+    /// last position up to there or with setup. Or finds the box that is needed first. The observer
+    /// is told of each event that is executed. What calls show of modules is taken from the table,
+    /// and what is not there is put there.
     pub fn advance<W: Observer>(
         &mut self,
         alloc: Global,
@@ -580,87 +709,40 @@ impl<C: Catalogue> Runner<C> {
         limit: u64,
         shown: &mut CallViews,
         observer: &mut W,
-    ) -> Result<RunStatus<Ended>, NoMemory>
+    ) -> Result<Progress, NoMemory>
         requires live { let world = world_in SimpleModule-box self.old.kernel in
             let waiting = waiting_in SimpleModule-box self.old in
             IsLive C.behaviour (answers_of model.now) world waiting phase }
+        requires below { HasAllBelow phase self.old.positions.stored }
         requires kinds { HasKinds C.behaviour SimpleModule-box self.old.kernel }
         requires good { HasGood C.behaviour (answers_of model.now) SimpleModule-box self.old }
-        requires alone { HasNoneAlone SimpleModule-box self.old }
         requires shown { let before = world_in SimpleModule-box self.old.kernel in
             AreShown (answers_of model.now) before.records shown.old }
         ensures kinds { HasKinds C.behaviour SimpleModule-box self.new.kernel }
         ensures good { HasGood C.behaviour (answers_of model.now) SimpleModule-box self.new }
-        ensures alone { HasNoneAlone SimpleModule-box self.new }
         ensures advances { let boxes = standing_in SimpleModule-box self.old in
+            let supplied = supplied_in SimpleModule-box self.old in
             let left = world_in SimpleModule-box self.new.kernel in
             let waiting = waiting_in SimpleModule-box self.new in
-            IfOk result (λ advance.
-            Advances C.behaviour (answers_of model.now) limit phase boxes
-            (counts_in self.old.positions) left waiting
-            (counts_in self.new.positions) advance) }
-        ensures stopped { HasStored C.behaviour (answers_of model.now) limit
-            (counts_in self.old.positions)
-            self.new.stood (counts_in self.new.positions) }
+            IfOk result (λ progress.
+            Advances C.behaviour (answers_of model.now) limit (at_setup phase)
+            (resumed limit phase) boxes supplied (counts_in self.old.positions) left waiting
+            (counts_in self.new.positions) progress) }
+        ensures stopped { HasStored C.behaviour (answers_of model.now) limit (resumed limit phase)
+            (counts_in self.old.positions) self.new.stood (counts_in self.new.positions) }
         ensures shown { let left = world_in SimpleModule-box self.new.kernel in
-            IfOk result (λ advance.
-            IsShownAfter (answers_of model.now) left.records shown.new advance) }
+            IfOk result (λ progress.
+            IsShownAfter (answers_of model.now) left.records shown.new progress) }
     {
-        self.advance_as::<Brand, W>(alloc, model, phase, limit, shown, observer)
-    }
-
-    /// Runs the model M for at most so many events, from the last position up to there or from
-    /// setup, or finds the box that is needed first. The observer is told of each event that is
-    /// executed.
-    fn advance_as<M: ModelMarker, W: Observer>(
-        &mut self,
-        alloc: Global,
-        model: &EvaluatedModel,
-        phase: Phase,
-        limit: u64,
-        shown: &mut CallViews,
-        observer: &mut W,
-    ) -> Result<RunStatus<Ended>, NoMemory>
-        requires asked { answers_of model.now ≡ M.answers }
-        requires live { let world = world_in SimpleModule-box self.old.kernel in
-            let waiting = waiting_in SimpleModule-box self.old in
-            IsLive C.behaviour M.answers world waiting phase }
-        requires kinds { HasKinds C.behaviour SimpleModule-box self.old.kernel }
-        requires good { HasGood C.behaviour M.answers SimpleModule-box self.old }
-        requires alone { HasNoneAlone SimpleModule-box self.old }
-        requires shown { let before = world_in SimpleModule-box self.old.kernel in
-            AreShown M.answers before.records shown.old }
-        ensures kinds { HasKinds C.behaviour SimpleModule-box self.new.kernel }
-        ensures good { HasGood C.behaviour M.answers SimpleModule-box self.new }
-        ensures alone { HasNoneAlone SimpleModule-box self.new }
-        ensures advances { let boxes = standing_in SimpleModule-box self.old in
-            let left = world_in SimpleModule-box self.new.kernel in
-            let waiting = waiting_in SimpleModule-box self.new in
-            IfOk result (λ advance.
-            Advances C.behaviour M.answers limit phase boxes (counts_in self.old.positions)
-            left waiting
-            (counts_in self.new.positions) advance) }
-        ensures stopped { HasStored C.behaviour M.answers limit (counts_in self.old.positions)
-            self.new.stood (counts_in self.new.positions) }
-        ensures shown { let left = world_in SimpleModule-box self.new.kernel in
-            IfOk result (λ advance. IsShownAfter M.answers left.records shown.new advance) }
-    {
-        let modules = self.kernel.records().len();
-        match self.go_back::<M>(alloc, limit)? {
-            RunStatus::Waits(request) => Ok(RunStatus::Waits(request)),
-            RunStatus::Done(Some(start)) => {
-                let mut answers = AskedModel::<M>::new(alloc, model)?;
-                keep_shown(alloc, shown, modules, self.kernel.records().len());
-                let outcome = self.run_on(alloc, &mut answers, shown, limit, observer)?;
-                Ok(RunStatus::Done(Ended {
-                    start: Some(start),
-                    outcome,
-                }))
+        match goes_on_at(limit, phase) {
+            Some(at) => {
+                let onwards = self.go_on::<Brand, W>(alloc, model, at, limit, shown, observer)?;
+                Ok(onwards)
             }
-            RunStatus::Done(None) => {
-                self.positions.clear();
-                self.stood = Stood::Before;
-                self.run_from_setup::<M, W>(alloc, model, phase, limit, shown, observer)
+            None => {
+                let at = at_setup(phase);
+                let anew = self.begin::<Brand, W>(alloc, model, at, limit, shown, observer)?;
+                Ok(anew)
             }
         }
     }
@@ -685,10 +767,9 @@ fn is_multiple(interval: u64, count: u64) -> bool
     count % interval == 0
 }
 
-/// Whether a run that went on from so many events owes a position after its last one: where none is
-/// taken there.
-fn is_owed(from: u64, fault: bool, last: u64, ends_there: bool) -> bool
-    ensures { result ≡ not fault && (nat_lt from last && not ends_there) }
+/// Whether a run owes a position after its last event: where none is stored there.
+fn is_owed(fault: bool, ends_there: bool) -> bool
+    ensures { result ≡ not fault && not ends_there }
 {
-    !fault && from < last && !ends_there
+    !fault && !ends_there
 }

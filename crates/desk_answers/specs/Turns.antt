@@ -1,5 +1,5 @@
 -- What the desk answers, and what it keeps.
-use Rattle.std.specs.Prelude.{◌≡◌, ◌⊎◌, ℕ, List, length, Option, Some, None, codes}
+use Rattle.std.specs.Prelude.{◌≡◌, ◌⊎◌, ℕ, ◌+◌, List, [], length, Option, Some, None, codes}
 use Rattle.module_api.specs.Behaviour.{Behaviour}
 use Rattle.model_data.specs.declared.model.Model.{Model}
 use Rattle.model_answers.specs.Answering.{answers_of}
@@ -10,10 +10,10 @@ use Rattle.desk_commands.specs.Commands.{command_of}
 use Rattle.desk_commands.specs.declared.commands.Command.{Command}
 use Rattle.desk_commands.specs.declared.commands.Command.TheVariants as command
 use Rattle.kernel_boxes.specs.Seats.{Members}
-use Rattle.edit_session.specs.Editing.{Editing, completed, IsGivenUp, WaitsFor}
-use Rattle.checkpoint_runs.specs.Running.{boxes_left, fresh_run}
+use Rattle.edit_session.specs.Editing.{Editing, completed, start_in, IsGivenUp, WaitsFor}
+use Rattle.checkpoint_runs.specs.Running.{boxes_left, fresh_run, resumed}
 use Rattle.checkpoint_runs.specs.Positions.{cut, events_behind, positions_after, start_of}
-use Rattle.checkpoint_runs.specs.declared.running.Phase.TheVariants.{Idle}
+use Rattle.checkpoint_runs.specs.declared.phases.Phase.TheVariants.{Idle}
 use Rattle.edit_session.specs.Reuse.{IsValidTo}
 use Rattle.edit_session.specs.Sessions.{editing_of, IsSound, KeepsModel}
 use Rattle.desk_client.specs.Answers.{done_text, edit_refusal_text, edited_text, held_text}
@@ -53,18 +53,20 @@ answer_from b m limit start =
 abbrev pub run_answer : Behaviour → Model → ℕ → List ℕ → List ℕ
 run_answer b m limit old = answer_from b m limit (start_of limit old)
 
--- A run to that limit is done: what is kept of it, and what it leaves.
+-- A run to that limit is done: what is kept of it, and what it leaves. No box waits for a start.
 pub record IsDone (b : Behaviour) (before : Editing) (limit : ℕ) (after : Editing) : Type 0 where
   pub done : after.done ≡ Some (completed b before.model limit)
   pub boxes : after.boxes ≡ boxes_left b (answers_of before.model) limit
+  pub supplied : after.supplied ≡ []
   pub known : after.known ≡ Some (fresh_run b (answers_of before.model) limit).world.count
-  pub positions : after.positions
-      ≡ positions_after b (answers_of before.model) limit before.positions
+  pub positions : after.positions ≡ positions_after b (answers_of before.model) limit
+      (resumed limit before.phase) before.positions
 
--- The same, and the text is its answer.
+-- The same, and the text is its answer: that of a fresh run of the model. Where it waited and went
+-- on it began where it had begun before.
 pub record HasRun (b : Behaviour) (before : Editing) (limit : ℕ) (text : List ℕ)
     (after : Editing) : Type 0 where
-  pub answer : text ≡ run_answer b before.model limit before.positions.stored
+  pub answer : text ≡ answer_from b before.model limit (start_in before limit)
   pub done : IsDone b before limit after
 
 -- WHAT A RUN COMES TO: it is done, and its answer is that of a fresh run; or it waits for a box
@@ -95,8 +97,8 @@ pub record IsRefused (m : Model) (e : Edit) (text : List ℕ) : Type 0 where
   pub due : Refuses m e why
   pub none : (new : Model) → IsEditOf m e new → ⊥
 
--- The edit is made: no run waits or is done, and the positions stay up to which the last run stays
--- valid. Or it is refused, and nothing changed.
+-- The edit is made: no run waits or is done, the boxes are dropped that were supplied for a start,
+-- and the positions stay up to which the last run stays valid. Or it is refused, and nothing changed.
 abbrev pub AnswersEdit : Behaviour → Editing → Edit → List ℕ → Editing → Type 0
 AnswersEdit b before e text after =
     ((valid : Option ℕ) × IsMade b before.model before.known e text after.model valid
@@ -105,6 +107,7 @@ AnswersEdit b before e text after =
       done = None;
       phase = Idle;
       boxes = before.boxes;
+      supplied = [];
       known = valid;
       positions = cut valid before.positions;
     }))
@@ -133,7 +136,8 @@ AnswersCommand b before (command.Ned number path) answer after =
 AnswersCommand b before command.Positions answer after =
     IsTextOf answer (λ text. text ≡ positions_text before.positions.stored) × (after ≡ before)
 AnswersCommand b before command.Held answer after =
-    IsTextOf answer (λ text. text ≡ held_text (length before.boxes)) × (after ≡ before)
+    IsTextOf answer (λ text. text ≡ held_text (length before.boxes + length before.supplied))
+    × (after ≡ before)
 AnswersCommand b before command.Write answer after =
     IsTextOf answer (λ text. text ≡ codes "refused Command") × (after ≡ before)
 AnswersCommand b before command.Unknown answer after =

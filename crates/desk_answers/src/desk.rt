@@ -1,12 +1,12 @@
 //! The desk.
 
-ghost use Rattle.std.specs.Prelude.{◌≡◌, ◌↔◌, None, IsSome, length, OnOk, OnErr, IfOk, IfErr};
+ghost use Rattle.std.specs.Prelude.{◌≡◌, ◌↔◌, ◌+◌, None, IsSome, length, OnOk, OnErr, IfOk, IfErr};
 ghost use Rattle.std.specs.Prelude.{codes, option_map, option_copied};
-ghost use Rattle.edit_session.specs.Editing.{Completed, IsFor, IsUnknown, wanted_of, with_box};
+ghost use Rattle.edit_session.specs.Editing.{Completed, IsFor, IsUnknown, declined_at, given_up};
+ghost use Rattle.edit_session.specs.Editing.{wanted_of, with_box};
 ghost use Rattle.edit_session.specs.Files.{files_of_last, scalars_of_run, vectors_of_run};
 ghost use Rattle.edit_session.specs.Files.{AreFilesOf, FileWritten, IsFileWritten};
 ghost use Rattle.edit_session.specs.Sessions.{editing_of, IsSound};
-ghost use Rattle.checkpoint_runs.specs.declared.running.Phase.{Phase};
 ghost use Rattle.edit_session.specs.declared.session.SupplyReason.{SupplyReason};
 ghost use Rattle.desk_commands.specs.Commands.{command_of};
 ghost use Rattle.desk_client.specs.Answers.{held_text, positions_text, IsTold};
@@ -17,7 +17,7 @@ ghost use Rattle.desk_answers.specs.Turns.{IsSettled, IsToldIn, MayBeDone, Stays
 
 use crate::answers::{Answer, done, edited_text, held_text, positions_text, refused};
 use checkpoint_runs::observer::Observer;
-use checkpoint_runs::running::RunStatus;
+use checkpoint_runs::phases::RunStatus;
 use desk_client::told::AnswerContent;
 use desk_commands::commands::{Command, command_of};
 use edit_session::session::{FileFault, NotWanted, Session, SupplyFault};
@@ -187,9 +187,9 @@ impl<C: Catalogue> Desk<C> {
         self.edit(Edit::ReplaceNed(file as usize, text))
     }
 
-    /// Runs the model for at most so many events, from the greatest stored position up to there or
-    /// from setup, or goes on with the run that waits. The observer is told of each event that is
-    /// executed. Where memory runs out there is no answer: no run is done, or this one is.
+    /// Runs the model for at most so many events: goes on with the run that waits, unless it waits
+    /// after more events, or begins at the greatest stored position up to there, or with setup. The
+    /// observer is told of each event that is executed. Where memory runs out there is no answer: no run is done, or this one is.
     pub fn run<W: Observer>(&mut self, limit: u64, observer: &mut W) -> Result<DeskTurn, NoMemory>
         requires sound { IsSettled C.behaviour SimpleModule-box self.old }
         ensures kept { StaysSettled C.behaviour SimpleModule-box self.old self.new }
@@ -252,13 +252,26 @@ impl<C: Catalogue> Desk<C> {
         ensures sound { IsSettled C.behaviour SimpleModule-box self.new }
         ensures ok { let editing = editing_at SimpleModule-box self.old in
             OnOk result (IsSome (wanted_of C.behaviour editing)
-            × (editing_at SimpleModule-box self.new ≡ record editing { phase = Phase.Declined })) }
+            × (editing_at SimpleModule-box self.new
+            ≡ record editing { phase = declined_at editing.phase })) }
         ensures err { let editing = editing_at SimpleModule-box self.old in
             OnErr result ((wanted_of C.behaviour editing ≡ None)
             × (editing_at SimpleModule-box self.new ≡ editing)) }
         ensures limit { limit_at self.new ≡ limit_at self.old }
     {
         self.session.decline()
+    }
+
+    /// Gives up a run that waits, as one is given up for which memory runs out: no run is done, and
+    /// the boxes are dropped that were supplied for a start.
+    pub fn give_up_run(&mut self)
+        requires sound { IsSettled C.behaviour SimpleModule-box self.old }
+        ensures sound { IsSettled C.behaviour SimpleModule-box self.new }
+        ensures left { editing_at SimpleModule-box self.new
+            ≡ given_up (editing_at SimpleModule-box self.old) }
+        ensures limit { limit_at self.new ≡ limit_at self.old }
+    {
+        self.session.give_up_run();
     }
 
     /// Answers after which events a position is stored.
@@ -276,7 +289,8 @@ impl<C: Catalogue> Desk<C> {
     /// Answers how many boxes there are.
     pub fn held(&self) -> Result<Answer, NoMemory>
         ensures text { let editing = editing_at SimpleModule-box self.now in
-            IfOk result (λ answer. answer.text ≡ held_text (length editing.boxes)) }
+            IfOk result (λ answer. answer.text
+            ≡ held_text (length editing.boxes + length editing.supplied)) }
         ensures told { IfOk result (λ answer. IsTold answer.told answer.text) }
     {
         Ok(Answer {

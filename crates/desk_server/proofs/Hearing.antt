@@ -1,12 +1,16 @@
 -- What a client hears of one command.
-use Rattle.std.proofs.Common.{◌≡◌, ℕ, List, [], ◌∷◌, ◌++◌, Option, Some, None, IsSome, length, option_map, codes, inl, inr, refl, sym, ap, ◌∙◌, subst}
+use Rattle.std.proofs.Common.{◌≡◌, ℕ, ◌+◌, List, [], ◌∷◌, ◌++◌, Option, Some, None, IsSome, length, option_map, codes, arith, inl, inr, refl, sym, ap, ◌∙◌, subst}
 use Rattle.module_api.specs.Behaviour.{Behaviour}
 use Rattle.model_data.specs.declared.model.Model.{Model}
 use Rattle.model_answers.specs.Answering.{answers_of}
-use Rattle.checkpoint_runs.specs.Running.{boxes_left}
-use Rattle.run_semantics.specs.declared.outcome.Outcome.{Outcome}
-use Rattle.edit_session.specs.Editing.{Completed, Editing, completed}
-use Rattle.checkpoint_runs.specs.declared.running.Stood.{Stood}
+use Rattle.checkpoint_runs.specs.Running.{boxes_left, resumed}
+use Rattle.checkpoint_runs.specs.declared.phases.Phase.{Phase}
+use Rattle.checkpoint_runs.specs.declared.phases.Phase.TheVariants.{Idle, Waiting, Declined}
+use Rattle.checkpoint_runs.specs.declared.phases.Point.TheVariants as point
+use Rattle.run_semantics.specs.Run.{Part}
+use Rattle.kernel_actions.specs.declared.position.Position.{Position}
+use Rattle.edit_session.specs.Editing.{Completed, Editing, completed, IsUndone}
+use Rattle.checkpoint_runs.specs.declared.phases.Stood.{Stood}
 use Rattle.checkpoints.specs.Stored.{Timeline}
 use Rattle.checkpoint_runs.specs.Positions.{cut, last_count, HasStored}
 use Rattle.edit_session.specs.Files.{files_of_last, scalars_of_run, vectors_of_run, AreFilesOf}
@@ -65,27 +69,44 @@ tells b c before after what (next.Stop (stop.Device page written)) asked may run
 
 -- the same of a run
 tells_going : (b : Behaviour) (limit : ℕ) (before after : Seen) (what : Heard) (n : Next) → after.asked ≡ before.asked → after.may ≡ before.may → after.running ≡ None
-    → HearsOne what before.heard after.heard n → ((s : Machine) → RunsAlike limit before.editing s → Told b (command.Run limit) what s after.editing)
+    → HearsOne what before.heard after.heard n → ((s : Machine) → RunsAlike b limit before.editing s → Told b (command.Run limit) what s after.editing)
     → IsRunIn b limit before after (turn.Over n)
 tells_going b limit before after what next.GoOn asked may running heard told =
     inr (asked, may, running, λ s same. let t = told s same in (what ∷ [], t.0, heard, t.1, t.2))
 tells_going b limit before after what (next.Stop stop.Gone) asked may running heard told =
-    cut_off b (command.Run limit) (RunsAlike limit before.editing) before after what asked heard told
+    cut_off b (command.Run limit) (RunsAlike b limit before.editing) before after what asked heard told
 tells_going b limit before after what (next.Stop stop.End) asked may running heard told = absurd heard
 tells_going b limit before after what (next.Stop (stop.Device page written)) asked may running heard told = absurd heard
 
 -- ---- runs
 
--- its model stays
+-- its model stays, and no run waits where one is done
 pub record StaysOf (before after : Editing) : Type 0 where
   pub model : after.model ≡ before.model
+  pub idle : IsSome after.done → after.phase ≡ Idle
+
+none_some : {A : Type 0} (o : Option A) → o ≡ None → IsSome o → ⊥
+none_some None e is = cc
+none_some (Some x) e is = cc
+
+-- while a run waits none is done
+pub idle_done : (phase : Phase) (done : Option Completed) (known : Option ℕ) (ps : Timeline Position) → IsUndone phase done known ps → IsSome done → phase ≡ Idle
+idle_done Idle done known ps left is = refl
+idle_done (Waiting from point.Setup) done known ps left is = absurd (none_some done left.0 is)
+idle_done (Waiting from point.Position) done known ps left is = absurd (none_some done left.none is)
+idle_done (Waiting from (point.Start k id)) done known ps left is = absurd (none_some done left.none is)
+idle_done (Declined from point.Setup) done known ps left is = absurd (none_some done left.0 is)
+idle_done (Declined from point.Position) done known ps left is = absurd (none_some done left.none is)
+idle_done (Declined from (point.Start k id)) done known ps left is = absurd (none_some done left.none is)
 
 -- a run is done: the session is where the machine then is
-at_done : (b : Behaviour) (limit : ℕ) (before after : Editing) (s : Machine) → StaysOf before after → IsDone b before limit after → RunsAlike limit before s
+at_done : (b : Behaviour) (limit : ℕ) (before after : Editing) (s : Machine) → StaysOf before after → IsDone b before limit after → RunsAlike b limit before s
     → IsAt b after (behind_run b s limit)
 at_done b limit before after s stays done same = record {
   model = stays.model ∙ same.model;
   done = done.done ∙ ap (λ (m : Model). Some (completed b m limit)) same.model;
+  idle = stays.idle (subst (λ (o : Option Completed). IsSome o) (sym done.done) refl);
+  supplied = done.supplied;
   held = ap length done.boxes ∙ ap (λ (m : Model). length (boxes_left b (answers_of m) limit)) same.model;
   known = done.known ∙ ap (λ (m : Model). Some (events_of b m limit)) same.model;
   positions = done.positions ∙ same_positions b limit before s same;
@@ -105,11 +126,13 @@ tells_run b limit before after text n asked may running stays ran heard = tells_
 -- stood, and nothing is known but the events up to the last of them.
 pub record LeavesNone (b : Behaviour) (before : Editing) (limit : ℕ) (after : Editing) : Type 0 where
   pub done : after.done ≡ None
+  pub idle : after.phase ≡ Idle
+  pub supplied : after.supplied ≡ []
   pub known : after.known ≡ last_count after.positions.stored
   pub stood : Stood
-  pub positions : HasStored b (answers_of before.model) limit before.positions stood after.positions
+  pub positions : HasStored b (answers_of before.model) limit (resumed limit before.phase) before.positions stood after.positions
 
-none_left : (b : Behaviour) (limit : ℕ) (before after : Editing) (s : Machine) → StaysOf before after → LeavesNone b before limit after → RunsAlike limit before s
+none_left : (b : Behaviour) (limit : ℕ) (before after : Editing) (s : Machine) → StaysOf before after → LeavesNone b before limit after → RunsAlike b limit before s
     → Told b (command.Run limit) OutOfMemory s after
 none_left b limit before after s stays none same = (
   record { model = s.model; last = None; held = length after.boxes; known = last_count after.positions.stored; positions = after.positions },
@@ -120,6 +143,8 @@ none_left b limit before after s stays none same = (
   record {
     model = stays.model ∙ same.model;
     done = none.done;
+    idle = none.idle;
+    supplied = none.supplied;
     held = refl;
     known = none.known;
     positions = refl;
@@ -134,10 +159,10 @@ tells_none b limit before after n asked may running stays none heard =
     tells_going b limit before after OutOfMemory n asked may running heard (λ s same. none_left b limit before.editing after.editing s stays none same)
 
 -- memory ran out for a run: none is done, or this one is
-after_memory : (b : Behaviour) (limit : ℕ) (before after : Editing) (s : Machine) → StaysOf before after → MayBeDone b before limit after → RunsAlike limit before s
+after_memory : (b : Behaviour) (limit : ℕ) (before after : Editing) (s : Machine) → StaysOf before after → MayBeDone b before limit after → RunsAlike b limit before s
     → Told b (command.Run limit) OutOfMemory s after
 after_memory b limit before after s stays (inl none) same =
-    none_left b limit before after s stays (record { done = none.done; known = none.known; stood = none.stood; positions = none.positions }) same
+    none_left b limit before after s stays (record { done = none.done; idle = none.idle; supplied = none.supplied; known = none.known; stood = none.stood; positions = none.positions }) same
 after_memory b limit before after s stays (inr done) same =
     (behind_run b s limit, inr (refl, inr refl), at_done b limit before after s stays done same)
 
@@ -159,6 +184,8 @@ edited b e before after text (inl made) s at = (
   record {
     model = refl;
     done = ap (λ (x : Editing). x.done) made.2;
+    idle = ap (λ (x : Editing). x.phase) made.2;
+    supplied = ap (λ (x : Editing). x.supplied) made.2;
     held = ap (λ (x : Editing). length x.boxes) made.2 ∙ at.held;
     known = ap (λ (x : Editing). x.known) made.2;
     positions = ap (λ (x : Editing). x.positions) made.2 ∙ ap (cut made.0) at.positions;
@@ -258,12 +285,16 @@ pub tells_no_positions : (b : Behaviour) (before after : Seen) (n : Next) → af
 tells_no_positions b before after n asked may running same heard =
     tells b command.Positions before after OutOfMemory n asked may running heard (λ s at. (s, (inr refl, refl), subst (λ x. IsAt b x s) (sym same) at))
 
+-- no box waits for a start
+no_more : (boxes supplied : List Part) → supplied ≡ [] → length boxes + length supplied ≡ length boxes
+no_more boxes supplied none = omega (arith, ap (λ (ps : List Part). length ps) none)
+
 -- what is told of the boxes
 pub tells_held : (b : Behaviour) (before after : Seen) (text : List ℕ) (n : Next) → after.asked ≡ before.asked → after.may ≡ before.may → after.running ≡ None
-    → after.editing ≡ before.editing → text ≡ held_text (length before.editing.boxes) → HearsOne (Answer text) before.heard after.heard n → HearsNext b command.Held before after n
+    → after.editing ≡ before.editing → text ≡ held_text (length before.editing.boxes + length before.editing.supplied) → HearsOne (Answer text) before.heard after.heard n → HearsNext b command.Held before after n
 tells_held b before after text n asked may running same is heard = tells b command.Held before after (Answer text) n asked may running heard (λ s at. (
   s,
-  (inl (ap (λ (t : List ℕ). Answer t ∷ []) (is ∙ ap held_text at.held)), refl),
+  (inl (ap (λ (t : List ℕ). Answer t ∷ []) (is ∙ ap held_text (no_more before.editing.boxes before.editing.supplied at.supplied ∙ at.held))), refl),
   subst (λ x. IsAt b x s) (sym same) at,
 ))
 

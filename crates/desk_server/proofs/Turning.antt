@@ -1,34 +1,61 @@
 -- What is left to be done, from one turn to the next.
-use Rattle.std.proofs.Common.{◌≡◌, ℕ, suc, ◌+◌, ◌<◌, ◌≤◌, ◌==◌, ◌||◌, nat_lt, bytes_eq, Bool, true, false, cond, List, [], ◌∷◌, Option, Some, None, IsSome, Result, Ok, Err, OnOk, OnErr, option_map, arith, refl, sym, ap, ◌∙◌, subst, eq-eqb, eqb-true}
+use Rattle.std.proofs.Common.{◌≡◌, ℕ, suc, ◌+◌, ◌-◌, ◌*◌, ◌<◌, ◌≤◌, ◌^◌, ◌==◌, ◌||◌, nat_lt, bytes_eq, Bool, true, false, cond, List, [], ◌∷◌, ◌++◌, Option, Some, None, IsSome, Result, Ok, Err, OnOk, OnErr, option_map, arith, refl, sym, ap, ◌∙◌, subst, eq-eqb, eqb-true}
+use Rattle.std.proofs.lemmas.Bool.{le-leb}
+use Rattle.std.proofs.lemmas.Bool.Decides.{nat_tests}
 use Rattle.std.proofs.lemmas.Slice.Eq.{bytes_eq-Decides}
 use Rattle.std.specs.List.{filter}
 use Rattle.module_api.specs.Behaviour.{Behaviour}
 use Rattle.model_data.specs.declared.model.Model.{Model}
 use Rattle.model_answers.specs.Answering.{answers_of}
+use Rattle.model_questions.specs.Answers.{Answers}
 use Rattle.run_semantics.specs.Perform.{Flow, On, Stopped, Broken}
-use Rattle.run_semantics.specs.Run.{Part, after as reached, prepared, standing, world_at}
+use Rattle.run_semantics.specs.Run.{Over, Part, Running, Stage, after as reached, prepared, standing, wanted, world_at}
 use Rattle.run_semantics.specs.World.{World}
 use Rattle.kernel.specs.declared.request.Request.{Request}
-use Rattle.kernel.specs.Seats.{missing_part, needs, request_for}
+use Rattle.kernel.specs.Seats.{needs, request_for}
+use Rattle.kernel_boxes.specs.Seats.{BoxAt}
 use Rattle.kernel_boxes.specs.Staying.{first_without, is_held}
-use Rattle.edit_session.specs.Editing.{Editing, kept_in, start_in, wanted_of, waited_for, with_box, with_wanted, WaitsFor}
-use Rattle.checkpoint_runs.specs.Running.{is_one_of, kept_at, wanted_after, wanted_back, waiting_at, with_part, IsUndeclined}
+use Rattle.checkpoints.specs.Stored.{Timeline}
+use Rattle.edit_session.specs.Editing.{Editing, declined_at, part_for, wait_in, waited_for, waits_at, wanted_of, with_box, with_wanted, WaitsFor}
+use Rattle.checkpoint_runs.specs.Positions.{cut, start_of, starts_within}
+use Rattle.checkpoint_runs.specs.Running.{at_setup, boxes_at, is_one_of, kept_at_setup, kept_back, positions_at, resumed, supplied_at, supplied_before, wanted_after, wanted_back, wanted_next, with_part, IsLive}
 use Rattle.checkpoint_runs.proofs.Back.{kept_again, start_again}
-use Rattle.checkpoint_runs.specs.declared.running.Phase.{Phase}
-use Rattle.checkpoint_runs.specs.declared.running.Phase.TheVariants.{Idle, Waiting, Declined}
+use Rattle.checkpoint_runs.specs.declared.phases.AtSetup.{AtSetup}
+use Rattle.checkpoint_runs.specs.declared.phases.AtSetup.TheVariants.{Anew, Filling, Refused}
+use Rattle.checkpoint_runs.specs.declared.phases.Phase.{Phase}
+use Rattle.checkpoint_runs.specs.declared.phases.Phase.TheVariants.{Idle, Waiting, Declined}
+use Rattle.checkpoint_runs.specs.declared.phases.Point.{Point}
+use Rattle.checkpoint_runs.specs.declared.phases.Point.TheVariants as point
+use Rattle.checkpoint_runs.specs.declared.phases.Resumed.{Resumed}
+use Rattle.checkpoint_runs.specs.declared.phases.Wait.{Wait}
 use Rattle.edit_session.specs.declared.session.NotWanted.{NotWanted}
-use Rattle.desk_server.proofs.Boxes.{few_from}
-use Rattle.desk_server.specs.Boxes.{lacking, lacking_after, lacking_from, left_of, most_boxes}
-use Rattle.desk_server.specs.Serving.{left_in_run}
+use Rattle.desk_server.proofs.Boxes.{few_back, few_boxes, few_next}
+use Rattle.desk_server.proofs.Places.{IsAsking, IsThere, is_there, limited_resumed}
+use Rattle.desk_server.specs.Boxes.{lacking, lacking_after, lacking_back, lacking_next, left_anew, left_at_setup, left_of, left_onwards, most_boxes, most_turns, turns_from}
+use Rattle.desk_server.specs.Serving.{left_in_run, WaitsAt}
 
 -- ---- a run that waits
 
--- it would begin there again
-begins_there : (b : Behaviour) (before after : Editing) (limit : ℕ) (request : Request) → WaitsFor b before limit request after → start_in after limit ≡ start_in before limit
-begins_there b before after limit request w = ap (λ (e : Editing). start_in e limit) w.waits ∙ start_again limit before.positions
+-- it would begin there again, or goes on from there
+waits_where : (b : Behaviour) (m : Answers) (limit : ℕ) (at : AtSetup) (r : Option Resumed) (from : Option ℕ) (there : Point) (old : Timeline ℕ) → IsThere b m limit at r (start_of limit old.stored) from there
+    → WaitsAt limit (positions_at limit r there old).stored (Waiting from there)
+waits_where b m limit at None from point.Setup old is = refl
+waits_where b m limit at (Some r) from point.Setup old is = absurd is
+waits_where b m limit at None from point.Position old is = (is.0, is.2, start_again limit old ∙ is.1)
+waits_where b m limit at (Some r) from point.Position old is = absurd is
+waits_where b m limit at None from (point.Start k id) old is = is.1.limited
+waits_where b m limit at (Some r) from (point.Start k id) old is = is.1.limited
 
-pub waits_there : (b : Behaviour) (before after : Editing) (limit : ℕ) (request : Request) → WaitsFor b before limit request after → after.phase ≡ waiting_at (start_in after limit)
-waits_there b before after limit request w = ap (λ (e : Editing). e.phase) w.waits ∙ ap waiting_at (sym (begins_there b before after limit request w))
+-- where it waits
+waits_there_is : (b : Behaviour) (before : Editing) (limit : ℕ) (wait : Wait) → wait_in b before limit ≡ Some wait
+    → IsThere b (answers_of before.model) limit (at_setup before.phase) (resumed limit before.phase) (start_of limit before.positions.stored) wait.from wait.at
+waits_there_is b before limit wait is =
+    is_there b (answers_of before.model) limit (at_setup before.phase) (resumed limit before.phase) before.positions.stored before.boxes before.supplied wait (limited_resumed limit before.phase) is
+
+pub waits_there : (b : Behaviour) (before after : Editing) (limit : ℕ) (request : Request) → WaitsFor b before limit request after → WaitsAt limit after.positions.stored after.phase
+waits_there b before after limit request w =
+    subst (λ (e : Editing). WaitsAt limit e.positions.stored e.phase) (sym w.waits)
+    (waits_where b (answers_of before.model) limit (at_setup before.phase) (resumed limit before.phase) w.wait.from w.wait.at before.positions (waits_there_is b before limit w.wait w.is))
 
 -- it hears that there is no box
 pub heard : (before after declined : Editing) (w : Option Request) (request : Request) (r : Result Unit NotWanted)
@@ -101,10 +128,6 @@ held_all f id (p ∷ boxes) e = by (f p) e (held_all f id boxes)
     by true e later = one (p.id == id) e later
     by false e later = either_true (p.id == id) (is_held id boxes) (later e)
 
-all_of : (boxes : List Part) → filter (λ (p : Part). true) boxes ≡ boxes
-all_of [] = refl
-all_of (p ∷ boxes) = ap (λ (ps : List Part). p ∷ ps) (all_of boxes)
-
 -- the modules that have one of these boxes have one of those
 abbrev AreHeldBy : List Part → List Part → Type 0
 AreHeldBy old new = (id : ℕ) → is_held id old ≡ true → is_held id new ≡ true
@@ -164,92 +187,196 @@ one_first boxes (x ∷ ps) p e = by (is_held x.id boxes) refl e (one_first boxes
         let kind : bytes_eq x.kind p.kind ≡ true = (bytes_eq-Decides x.kind p.kind).1 (ap (λ (y : Part). y.kind) same) in
         (ap (λ u. cond u (bytes_eq x.kind p.kind) (is_one_of ps one)) id ∙ kind, sym (ap (λ (y : Part). is_held y.id boxes) same) ∙ t)
 
-box_less : (flow : Flow) (boxes : List Part) → IsSome (wanted_after flow boxes) → lacking_after flow (with_wanted (wanted_after flow boxes) boxes) < lacking_after flow boxes
-box_less (On w) boxes is = by (missing_part w boxes) refl is
+-- one more box behind the others
+held_behind : (id : ℕ) (q : Part) (boxes : List Part) → is_held id boxes ≡ true → is_held id (boxes ++ q ∷ []) ≡ true
+held_behind id q [] e = cc
+held_behind id q (p ∷ boxes) e = by (p.id == id) e (held_behind id q boxes)
   where
-    by : (o : Option Part) → missing_part w boxes ≡ o → IsSome (option_map (request_for w) o) → lacking (with_wanted (option_map (request_for w) o) boxes) (needs w) < lacking boxes (needs w)
-    by None e is = cc
-    by (Some p) e is =
-        let q : Part = record { id = p.id; kind = p.kind } in
-        let more : AreHeldBy boxes (with_part q boxes) = λ id h. subst (λ (ps : List Part). is_held id ps ≡ true) (all_of (with_part q boxes)) (held_more (λ (x : Part). true) id q boxes (subst (λ (ps : List Part). is_held id ps ≡ true) (sym (all_of boxes)) h)) in
-        let one : is_held p.id (with_part q boxes) ≡ true = subst (λ (ps : List Part). is_held p.id ps ≡ true) (all_of (with_part q boxes)) (held_one (λ (x : Part). true) q boxes refl) in
-        lacking_less boxes boxes (with_part q boxes) (needs w) p (λ id h. h) more e one
-box_less (Stopped w) boxes is = cc
-box_less (Broken w path f) boxes is = cc
+    by : (t : Bool) → (t || is_held id boxes) ≡ true → (is_held id boxes ≡ true → is_held id (boxes ++ q ∷ []) ≡ true) → (t || is_held id (boxes ++ q ∷ [])) ≡ true
+    by true e later = refl
+    by false e later = later e
+
+held_last : (q : Part) (boxes : List Part) → is_held q.id (boxes ++ q ∷ []) ≡ true
+held_last q [] = ap (λ t. t || false) (eq-eqb q.id q.id refl)
+held_last q (p ∷ boxes) = either_true (p.id == q.id) (is_held q.id (boxes ++ q ∷ [])) (held_last q boxes)
+
+-- what is wanted is wanted for the first that has none
+wanted_first : (w : World) (o : Option Part) (request : Request) → option_map (request_for w) o ≡ Some request → (p : Part) × (o ≡ Some p) × (p ≡ part_for request)
+wanted_first w None request e = cc
+wanted_first w (Some p) request e = (p, refl, ap (λ (o : Option Request). part_or p o) e)
+  where
+    part_or : Part → Option Request → Part
+    part_or other None = other
+    part_or other (Some r) = part_for r
+
+-- with the box that is wanted less are lacking
+request_less : (w : World) (supplied ps : List Part) (request : Request) → option_map (request_for w) (first_without supplied ps) ≡ Some request → lacking (supplied ++ part_for request ∷ []) ps < lacking supplied ps
+request_less w supplied ps request e =
+    let f = wanted_first w (first_without supplied ps) request e in
+    let q : Part = part_for request in
+    lacking_less supplied supplied (supplied ++ q ∷ []) ps q (λ id h. h) (λ id h. held_behind id q supplied h) (f.1 ∙ ap (λ (p : Part). Some p) f.2) (held_last q supplied)
+
+setup_less : (flow : Flow) (supplied : List Part) (request : Request) → wanted_after flow supplied ≡ Some request → lacking_after flow (supplied ++ part_for request ∷ []) < lacking_after flow supplied
+setup_less (On w) supplied request e = request_less w supplied (needs w) request e
+setup_less (Stopped w) supplied request e = cc
+setup_less (Broken w path f) supplied request e = cc
+
+next_less : (m : Answers) (stage : Stage) (supplied : List Part) (request : Request) → wanted_next m stage supplied ≡ Some request → lacking_next m stage (supplied ++ part_for request ∷ []) < lacking_next m stage supplied
+next_less m (Running w) supplied request e = request_less w supplied (wanted m w) request e
+next_less m (Over w outcome) supplied request e = cc
 
 -- the same of those that stay at a position
-back_less : (w : World) (boxes : List Part) → IsSome (wanted_back w boxes)
-    → lacking (filter (is_one_of (standing w.modules)) (with_wanted (wanted_back w boxes) boxes)) (standing w.modules) < lacking (filter (is_one_of (standing w.modules)) boxes) (standing w.modules)
-back_less w boxes is = by (first_without boxes (standing w.modules)) refl is
-  where
-    f : Part → Bool
-    f = is_one_of (standing w.modules)
-
-    by : (o : Option Part) → first_without boxes (standing w.modules) ≡ o → IsSome (option_map (request_for w) o)
-        → lacking (filter f (with_wanted (option_map (request_for w) o) boxes)) (standing w.modules) < lacking (filter f boxes) (standing w.modules)
-    by None e is = cc
-    by (Some p) e is =
-        let q : Part = record { id = p.id; kind = p.kind } in
-        lacking_less boxes (filter f boxes) (filter f (with_part q boxes)) (standing w.modules) p (λ id h. held_all f id boxes h) (λ id h. held_more f id q boxes h) e
-        (held_one f q boxes (one_first boxes (standing w.modules) p e).0)
+back_less : (w : World) (boxes : List Part) (request : Request) → wanted_back w boxes ≡ Some request
+    → lacking (filter (is_one_of (standing w.modules)) (with_part (part_for request) boxes)) (standing w.modules) < lacking (filter (is_one_of (standing w.modules)) boxes) (standing w.modules)
+back_less w boxes request e =
+    let ps : List Part = standing w.modules in
+    let f : Part → Bool = is_one_of ps in
+    let q : Part = part_for request in
+    let first = wanted_first w (first_without boxes ps) request e in
+    let is : first_without boxes ps ≡ Some q = first.1 ∙ ap (λ (p : Part). Some p) first.2 in
+    lacking_less boxes (filter f boxes) (filter f (with_part q boxes)) ps q (λ id h. held_all f id boxes h) (λ id h. held_more f id q boxes h) is
+    (held_one f q boxes (one_first boxes ps q is).0)
 
 -- ---- what is left
 
-left_small : (b : Behaviour) (phase : Phase) (m : Model) (start : Option ℕ) (boxes : List Part) → left_of b phase m start boxes ≤ most_boxes + 2
-left_small b Idle m start boxes = omega (arith, few_from b m start (kept_at b (answers_of m) start Idle boxes))
-left_small b (Waiting from at) m start boxes = omega (arith, few_from b m start (kept_at b (answers_of m) start (Waiting from at) boxes))
-left_small b Declined m start boxes = omega arith
+few_at_setup : (m : Model) (at : AtSetup) (supplied : List Part) → left_at_setup m at supplied ≤ most_boxes + 1
+few_at_setup m Anew supplied = omega (arith, few_boxes m [])
+few_at_setup m Filling supplied = omega (arith, few_boxes m supplied)
+few_at_setup m Refused supplied = omega arith
 
--- what stays there stays there again
-kept_there : (b : Behaviour) (m : Model) (start : Option ℕ) (phase : Phase) (boxes : List Part) → kept_at b (answers_of m) start (waiting_at start) (kept_at b (answers_of m) start phase boxes) ≡ kept_at b (answers_of m) start phase boxes
-kept_there b m None phase boxes = refl
-kept_there b m (Some k) phase boxes = kept_again b (answers_of m) k boxes
+few_turns : (limit event : ℕ) → limit < 2 ^ 64 → turns_from limit event ≤ 2 ^ 64 * (most_boxes + 1)
+few_turns limit event less = omega (arith, less)
 
-waits_is : (b : Behaviour) (m : Model) (start : Option ℕ) (boxes : List Part) → left_of b (waiting_at start) m start boxes ≡ lacking_from b m start (kept_at b (answers_of m) start (waiting_at start) boxes) + 1
-waits_is b m None boxes = refl
-waits_is b m (Some k) boxes = refl
+few_onwards : (b : Behaviour) (m : Model) (limit : ℕ) (r : Resumed) (supplied : List Part) → limit < 2 ^ 64 → left_onwards b m limit r supplied ≤ most_turns
+few_onwards b m limit r supplied less = by r.declined
+  where
+    by : (t : Bool) → cond t 0 (lacking_next (answers_of m) (reached b (answers_of m) r.count) supplied + 1 + turns_from limit (suc r.count)) ≤ most_turns
+    by true = omega arith
+    by false = omega (arith, few_next b (answers_of m) r.count supplied, few_turns limit (suc r.count) less)
 
-undeclined_is : (b : Behaviour) (phase : Phase) (m : Model) (start : Option ℕ) (boxes : List Part) → IsUndeclined phase → left_of b phase m start boxes ≡ lacking_from b m start (kept_at b (answers_of m) start phase boxes) + 1
-undeclined_is b Idle m start boxes is = refl
-undeclined_is b (Waiting from at) m start boxes is = refl
-undeclined_is b Declined m start boxes is = absurd is
-
--- it waits: as much is left as before
-waits_same : (b : Behaviour) (before after : Editing) (limit : ℕ) (request : Request) → WaitsFor b before limit request after → left_in_run b limit after ≡ left_in_run b limit before
-waits_same b before after limit request w =
-    let m = before.model in
-    let start : Option ℕ = start_in before limit in
-    let kept : List Part = kept_in b before start in
-    ap (left_in_run b limit) w.waits
-    ∙ ap (λ o. left_of b (waiting_at start) m o kept) (start_again limit before.positions)
-    ∙ waits_is b m start kept
-    ∙ ap (λ boxes. lacking_from b m start boxes + 1) (kept_there b m start before.phase before.boxes)
-    ∙ sym (undeclined_is b before.phase m start before.boxes w.undeclined)
-
-pub waits_left : (b : Behaviour) (before after : Editing) (limit : ℕ) (request : Request) → WaitsFor b before limit request after → left_in_run b limit after ≤ left_in_run b limit before
-waits_left b before after limit request w = omega (arith, waits_same b before after limit request w)
-
--- it waited, and heard that there is no box: less is left
-pub declined_left : (b : Behaviour) (before mid after : Editing) (limit : ℕ) (request : Request) → WaitsFor b before limit request mid → after ≡ record mid { phase = Declined } → left_in_run b limit after < left_in_run b limit before
-declined_left b before mid after limit request w e =
-    let none : left_in_run b limit after ≡ 0 = ap (left_in_run b limit) e in
-    let some : left_in_run b limit before ≡ lacking_from b before.model (start_in before limit) (kept_in b before (start_in before limit)) + 1 = undeclined_is b before.phase before.model (start_in before limit) before.boxes w.undeclined in
-    omega (arith, none, some)
-
--- one box less is lacking
-one_less : (b : Behaviour) (m : Model) (start : Option ℕ) (boxes : List Part) → IsSome (waited_for b (waiting_at start) m boxes)
-    → left_of b (waiting_at start) m start (with_wanted (waited_for b (waiting_at start) m boxes) boxes) < left_of b (waiting_at start) m start boxes
-one_less b m None boxes is = let less = box_less (prepared (answers_of m)) boxes is in omega (arith, less)
-one_less b m (Some k) boxes is = let less = back_less (world_at (reached b (answers_of m) k)) boxes is in omega (arith, less)
-
--- it has a box more: less is left
-pub supplied_left : (b : Behaviour) (limit : ℕ) (before after : Editing) → IsSome (wanted_of b before) → before.phase ≡ waiting_at (start_in before limit) → after ≡ with_box b before → left_in_run b limit after < left_in_run b limit before
-supplied_left b limit before after is at e =
-    subst (λ (x : Editing). left_in_run b limit x < left_in_run b limit before) (sym e)
-    (subst (λ (phase : Phase). IsSome (waited_for b phase before.model before.boxes)
-    → left_of b phase before.model (start_in before limit) (with_wanted (waited_for b phase before.model before.boxes) before.boxes) < left_of b phase before.model (start_in before limit) before.boxes)
-    (sym at) (one_less b before.model (start_in before limit) before.boxes) is)
+left_small : (b : Behaviour) (m : Model) (limit : ℕ) (at : AtSetup) (r : Option Resumed) (start : Option ℕ) (stored : List ℕ) (boxes supplied : List Part) → start_of limit stored ≡ start → limit < 2 ^ 64 → left_of b m limit at r stored boxes supplied ≤ most_turns
+left_small b m limit at (Some r) start stored boxes supplied is less = few_onwards b m limit r supplied less
+left_small b m limit at None None stored boxes supplied is less =
+    subst (λ (o : Option ℕ). left_anew b m limit at o boxes supplied ≤ most_turns) (sym is) (omega (arith, few_at_setup m at supplied, few_turns limit 0 less))
+left_small b m limit at None (Some event) stored boxes supplied is less =
+    subst (λ (o : Option ℕ). left_anew b m limit at o boxes supplied ≤ most_turns) (sym is) (omega (arith, few_back b m event (kept_back b (answers_of m) event boxes), few_turns limit event less))
 
 -- no run has more to do
-pub few_left : (b : Behaviour) (limit : ℕ) (e : Editing) → left_in_run b limit e ≤ most_boxes + 2
-few_left b limit e = left_small b e.phase e.model (start_in e limit) e.boxes
+pub few_left : (b : Behaviour) (limit : ℕ) (e : Editing) → limit < 2 ^ 64 → left_in_run b limit e ≤ most_turns
+few_left b limit e less = left_small b e.model limit (at_setup e.phase) (resumed limit e.phase) (start_of limit e.positions.stored) e.positions.stored e.boxes e.supplied refl less
+
+-- ---- it waits: no more is left than before
+
+-- for the events from that one on more turns are left than for those after it, and for its boxes
+enough : (limit k lacks : ℕ) → k < limit → lacks ≤ most_boxes → lacks + 1 + turns_from limit (suc k) ≤ turns_from limit k
+enough limit k lacks less few = omega (arith, less, few)
+
+later_less : (limit j k : ℕ) → j ≤ k → turns_from limit k ≤ turns_from limit j
+later_less limit j k l = omega (arith, l)
+
+waits_setup : (b : Behaviour) (m : Model) (limit : ℕ) (at : AtSetup) (start : Option ℕ) (boxes supplied : List Part) → start ≡ None → IsAsking at
+    → left_at_setup m Filling (kept_at_setup at supplied) + turns_from limit 0 ≤ left_anew b m limit at start boxes supplied
+waits_setup b m limit Anew start boxes supplied is asks = rw is (omega arith)
+waits_setup b m limit Filling start boxes supplied is asks = rw is (omega arith)
+waits_setup b m limit Refused start boxes supplied is asks = absurd asks
+
+-- it waits before an event, and began with setup, or at a position
+waits_anew : (b : Behaviour) (m : Model) (limit k : ℕ) (at : AtSetup) (start : Option ℕ) (boxes supplied : List Part) → starts_within start k → turns_from limit k ≤ left_anew b m limit at start boxes supplied
+waits_anew b m limit k at None boxes supplied within = omega (arith, later_less limit 0 k (omega arith))
+waits_anew b m limit k at (Some event) boxes supplied within = omega (arith, later_less limit event k within)
+
+apart : (j k : ℕ) → j ≤ k → (j == k) ≡ false → j < k
+apart j k l e = grind (arith, nat_tests, l, e)
+
+-- before an event after that from which it went on, or before the same
+waits_onwards : (b : Behaviour) (m : Model) (limit k : ℕ) (r : Resumed) (supplied : List Part) → r.declined ≡ false → r.count ≤ k → k < limit
+    → lacking_next (answers_of m) (reached b (answers_of m) k) (supplied_before (Some r) k supplied) + 1 + turns_from limit (suc k) ≤ left_onwards b m limit r supplied
+waits_onwards b m limit k r supplied told grew less = rw told (by (r.count == k) refl)
+  where
+    kept : List Part → ℕ
+    kept boxes = lacking_next (answers_of m) (reached b (answers_of m) k) boxes + 1 + turns_from limit (suc k)
+
+    by : (t : Bool) → (r.count == k) ≡ t → kept (cond t supplied []) ≤ lacking_next (answers_of m) (reached b (answers_of m) r.count) supplied + 1 + turns_from limit (suc r.count)
+    by true e =
+        let same : r.count ≡ k = eqb-true r.count k e in
+        subst (λ (j : ℕ). kept supplied ≤ lacking_next (answers_of m) (reached b (answers_of m) j) supplied + 1 + turns_from limit (suc j)) (sym same) (omega arith)
+    by false e =
+        let later : r.count < k = apart r.count k grew e in
+        omega (arith, enough limit k (lacking_next (answers_of m) (reached b (answers_of m) k) []) less (few_next b (answers_of m) k []), later_less limit (suc r.count) k later)
+
+stays_left : (b : Behaviour) (m : Model) (limit : ℕ) (at : AtSetup) (r : Option Resumed) (from : Option ℕ) (there : Point) (old : Timeline ℕ) (boxes supplied : List Part) → IsThere b (answers_of m) limit at r (start_of limit old.stored) from there
+    → left_of b m limit (at_setup (Waiting from there)) (resumed limit (Waiting from there)) (positions_at limit r there old).stored (boxes_at b (answers_of m) from there boxes) (supplied_at at r there supplied) ≤ left_of b m limit at r old.stored boxes supplied
+stays_left b m limit at None from point.Setup old boxes supplied is = waits_setup b m limit at (start_of limit old.stored) boxes supplied is.0 is.1
+stays_left b m limit at (Some r) from point.Setup old boxes supplied is = absurd is
+stays_left b m limit at None from point.Position old boxes supplied is =
+    let event : ℕ = is.0 in
+    let kept : List Part = kept_back b (answers_of m) event boxes in
+    let again : start_of limit (cut (start_of limit old.stored) old).stored ≡ Some event = start_again limit old ∙ is.1 in
+    let same : lacking_back b m event (kept_back b (answers_of m) event kept) ≡ lacking_back b m event kept = ap (lacking_back b m event) (kept_again b (answers_of m) event boxes) in
+    rw (is.2, again, is.1) (omega (arith, same))
+stays_left b m limit at (Some r) from point.Position old boxes supplied is = absurd is
+stays_left b m limit at None from (point.Start k id) old boxes supplied is =
+    rw is.1.least (omega (arith, enough limit k (lacking_next (answers_of m) (reached b (answers_of m) k) []) is.1.less (few_next b (answers_of m) k []), waits_anew b m limit k at (start_of limit old.stored) boxes supplied is.2))
+stays_left b m limit at (Some r) from (point.Start k id) old boxes supplied is = rw is.1.least (waits_onwards b m limit k r supplied is.2 is.3 is.1.less)
+
+waits_stays : (b : Behaviour) (before : Editing) (limit : ℕ) (wait : Wait) → wait_in b before limit ≡ Some wait → left_in_run b limit (waits_at b before limit wait) ≤ left_in_run b limit before
+waits_stays b before limit wait is =
+    stays_left b before.model limit (at_setup before.phase) (resumed limit before.phase) wait.from wait.at before.positions before.boxes before.supplied (waits_there_is b before limit wait is)
+
+pub waits_left : (b : Behaviour) (before after : Editing) (limit : ℕ) (request : Request) → WaitsFor b before limit request after → left_in_run b limit after ≤ left_in_run b limit before
+waits_left b before after limit request w = subst (λ (e : Editing). left_in_run b limit e ≤ left_in_run b limit before) (sym w.waits) (waits_stays b before limit w.wait w.is)
+
+-- ---- it hears that there is no box: less is left
+
+-- where a run goes back to a position no box is declined
+abbrev pub IsNotBack : Phase → Type 0
+IsNotBack (Declined from point.Position) = ⊥
+IsNotBack (Declined from point.Setup) = Unit {0}
+IsNotBack (Declined from (point.Start k id)) = Unit {0}
+IsNotBack (Waiting from at) = Unit {0}
+IsNotBack Idle = Unit {0}
+
+pub live_not_back : (b : Behaviour) (m : Answers) (w : World) (waiting : List BoxAt) (phase : Phase) → IsLive b m w waiting phase → IsNotBack phase
+live_not_back b m w waiting (Declined from point.Position) live = absurd live
+live_not_back b m w waiting (Declined from point.Setup) live = tt
+live_not_back b m w waiting (Declined from (point.Start k id)) live = tt
+live_not_back b m w waiting (Waiting from at) live = tt
+live_not_back b m w waiting Idle live = tt
+
+declined_less : (b : Behaviour) (m : Model) (limit : ℕ) (from : Option ℕ) (there : Point) (stored : List ℕ) (boxes supplied : List Part) → WaitsAt limit stored (Waiting from there) → IsNotBack (Declined from there)
+    → left_of b m limit (at_setup (Declined from there)) (resumed limit (Declined from there)) stored boxes supplied < left_of b m limit (at_setup (Waiting from there)) (resumed limit (Waiting from there)) stored boxes supplied
+declined_less b m limit from point.Setup stored boxes supplied at told = rw at (omega arith)
+declined_less b m limit from point.Position stored boxes supplied at told = absurd told
+declined_less b m limit from (point.Start k id) stored boxes supplied at told = rw (le-leb k limit at) (omega arith)
+
+pub declined_left : (b : Behaviour) (before mid after : Editing) (limit : ℕ) (request : Request) → WaitsFor b before limit request mid → after ≡ record mid { phase = declined_at mid.phase } → IsNotBack after.phase → left_in_run b limit after < left_in_run b limit before
+declined_left b before mid after limit request w e told =
+    let there : Editing = waits_at b before limit w.wait in
+    let other : Editing = record there { phase = Declined w.wait.from w.wait.at } in
+    let is : after ≡ other = e ∙ ap (λ (x : Editing). record x { phase = declined_at x.phase }) w.waits in
+    let same : left_in_run b limit after ≡ left_in_run b limit other = ap (left_in_run b limit) is in
+    let waits : WaitsAt limit there.positions.stored there.phase = subst (λ (x : Editing). WaitsAt limit x.positions.stored x.phase) w.waits (waits_there b before mid limit request w) in
+    let less : left_in_run b limit other < left_in_run b limit there = declined_less b before.model limit w.wait.from w.wait.at there.positions.stored there.boxes there.supplied waits (subst (λ (x : Editing). IsNotBack x.phase) is told) in
+    omega (arith, same, less, waits_stays b before limit w.wait w.is)
+
+-- ---- it has a box more: less is left
+
+supplied_less : (b : Behaviour) (limit : ℕ) (e : Editing) (phase : Phase) (o : Option Request) → waited_for b phase e.model e.boxes e.supplied ≡ o → IsSome o → WaitsAt limit e.positions.stored phase
+    → left_in_run b limit (with_wanted o (record e { phase = phase })) < left_in_run b limit (record e { phase = phase })
+supplied_less b limit e phase None wants some at = cc
+supplied_less b limit e (Waiting from point.Setup) (Some request) wants some at =
+    rw at (omega (arith, setup_less (prepared (answers_of e.model)) e.supplied request wants))
+supplied_less b limit e (Waiting None point.Position) (Some request) wants some at = cc
+supplied_less b limit e (Waiting (Some event) point.Position) (Some request) wants some at =
+    let start : start_of limit e.positions.stored ≡ Some event = at.2 ∙ sym at.1 in
+    rw start (omega (arith, back_less (world_at (reached b (answers_of e.model) event)) e.boxes request wants))
+supplied_less b limit e (Waiting from (point.Start k (Some id))) (Some request) wants some at =
+    rw (le-leb k limit at) (omega (arith, next_less (answers_of e.model) (reached b (answers_of e.model) k) e.supplied request wants))
+supplied_less b limit e (Waiting from (point.Start k None)) (Some request) wants some at = cc
+supplied_less b limit e Idle (Some request) wants some at = absurd at
+supplied_less b limit e (Declined from there) (Some request) wants some at = absurd at
+
+pub supplied_left : (b : Behaviour) (limit : ℕ) (before after : Editing) → IsSome (wanted_of b before) → WaitsAt limit before.positions.stored before.phase → after ≡ with_box b before → left_in_run b limit after < left_in_run b limit before
+supplied_left b limit before after is at e =
+    subst (λ (x : Editing). left_in_run b limit x < left_in_run b limit before) (sym e)
+    (supplied_less b limit before before.phase (wanted_of b before) refl is at)

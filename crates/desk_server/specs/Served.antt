@@ -10,7 +10,7 @@ use Rattle.desk_commands.specs.declared.commands.Command.{Command}
 use Rattle.desk_commands.specs.declared.commands.Command.TheVariants as command
 use Rattle.checkpoint_runs.specs.Running.{boxes_left, fresh_run}
 use Rattle.edit_session.specs.Files.{scalars_of_run, vectors_of_run}
-use Rattle.checkpoint_runs.specs.declared.running.Stood.{Stood}
+use Rattle.checkpoint_runs.specs.declared.phases.Stood.{Stood}
 use Rattle.checkpoints.specs.Stored.{begun, Timeline}
 use Rattle.checkpoint_runs.specs.Positions.{cut, last_count, positions_after, HasStored}
 use Rattle.desk_client.specs.Answers.{held_text, positions_text}
@@ -46,7 +46,7 @@ behind_run b s limit = record {
   last = Some limit;
   held = length (boxes_left b (answers_of s.model) limit);
   known = Some (events_of b s.model limit);
-  positions = positions_after b (answers_of s.model) limit s.positions;
+  positions = positions_after b (answers_of s.model) limit None s.positions;
 }
 
 -- Memory ran out for a run to that limit, and none is done: its positions are those that it stored
@@ -57,7 +57,7 @@ pub record GivesUpRun (b : Behaviour) (s : Machine) (limit : ℕ) (s' : Machine)
   pub last : s'.last ≡ None
   pub known : s'.known ≡ last_count s'.positions.stored
   pub stood : Stood
-  pub positions : HasStored b (answers_of s.model) limit s.positions stood s'.positions
+  pub positions : HasStored b (answers_of s.model) limit None s.positions stood s'.positions
 
 -- A RUN is answered as a fresh run of the model that begins at the greatest position up to the
 -- limit. Or memory ran out: the run may be done nevertheless.

@@ -1,20 +1,29 @@
 -- A desk with a client, from one turn to the next.
-use Rattle.std.specs.Prelude.{◌≡◌, ◌⊎◌, ◌≤◌, ◌<◌, ℕ, ◌+◌, ◌*◌, List, [], ◌∷◌, ◌++◌, length, Option}
-use Rattle.std.specs.Prelude.{Some, None, IsSome, option_map}
+use Rattle.std.specs.Prelude.{◌≡◌, ◌⊎◌, ◌≤◌, ◌<◌, ◌^◌, ℕ, suc, ◌+◌, ◌-◌, ◌*◌, List, [], ◌∷◌, ◌++◌}
+use Rattle.std.specs.Prelude.{length, Option, Some, None, IsSome, option_map}
 use Rattle.module_api.specs.Behaviour.{Behaviour}
 use Rattle.model_data.specs.declared.model.Model.{Model}
 use Rattle.desk_commands.specs.declared.commands.Command.{Command}
 use Rattle.desk_commands.specs.declared.commands.Command.TheVariants as command
 use Rattle.module_network.specs.Library.{box_of}
 use Rattle.module_network.specs.declared.library.LibraryModule.{LibraryModule}
-use Rattle.edit_session.specs.Editing.{Completed, Editing, completed, start_in, wanted_of, IsFor}
+use Rattle.edit_session.specs.Editing.{Completed, Editing, completed, declined_at, wait_in}
+use Rattle.edit_session.specs.Editing.{wanted_of, IsFor}
 use Rattle.edit_session.specs.Files.{scalars_of_run, vectors_of_run}
-use Rattle.checkpoint_runs.specs.Positions.{cut, start_of}
-use Rattle.checkpoint_runs.specs.Running.{waiting_at}
+use Rattle.model_questions.specs.Answers.{Answers}
+use Rattle.model_answers.specs.Answering.{answers_of}
+use Rattle.checkpoints.specs.Stored.{Timeline}
+use Rattle.checkpoint_runs.specs.Positions.{cut, first_behind, positions_begun, start_of}
+use Rattle.checkpoint_runs.specs.Positions.{starts_within, CanGoOn}
+use Rattle.checkpoint_runs.specs.Running.{at_setup, positions_at, resumed}
 use Rattle.kernel_boxes.specs.Seats.{Members}
 use Rattle.desk_answers.specs.Turns.{editing_at, IsSettled}
-use Rattle.checkpoint_runs.specs.declared.running.Phase.TheVariants.{Declined}
-use Rattle.desk_server.specs.Boxes.{left_of, most_boxes}
+use Rattle.checkpoint_runs.specs.declared.phases.Phase.{Phase}
+use Rattle.checkpoint_runs.specs.declared.phases.Phase.TheVariants.{Idle, Waiting, Declined}
+use Rattle.checkpoint_runs.specs.declared.phases.Point.TheVariants as point
+use Rattle.checkpoint_runs.specs.declared.phases.Resumed.{Resumed}
+use Rattle.checkpoint_runs.specs.declared.phases.Wait.{Wait}
+use Rattle.desk_server.specs.Boxes.{left_of, most_turns}
 use Rattle.desk_server.specs.Served.{Machine, AreHeard, BeginsToHear, Hears, HearsRun, IsBroken}
 use Rattle.desk_server.specs.Served.{command_asked}
 use Rattle.transcripts.specs.Heard.{Heard}
@@ -42,21 +51,42 @@ seen e asked heard may running =
 
 -- ---- what stays true
 
--- the session is where the plain machine is
+-- The session is where the plain machine is: no run waits, and no box for a start.
 pub record IsAt (b : Behaviour) (e : Editing) (s : Machine) : Type 0 where
   pub model : e.model ≡ s.model
   pub done : e.done ≡ option_map (completed b s.model) s.last
+  pub idle : e.phase ≡ Idle
+  pub supplied : e.supplied ≡ []
   pub held : length e.boxes ≡ s.held
   pub known : e.known ≡ s.known
   pub positions : e.positions ≡ s.positions
 
--- A run to that limit is the same of the session and of the plain machine: of the same model, it
--- begins at the same position, and up to there the same ones stay, with the same interval.
-pub record RunsAlike (limit : ℕ) (e : Editing) (s : Machine) : Type 0 where
+-- A run that begins does so at the same position of the session and of the plain machine, and up to
+-- there the same ones stay, with the same interval.
+pub record BeginsAlike (limit : ℕ) (old machine : Timeline ℕ) : Type 0 where
+  pub start : start_of limit old.stored ≡ start_of limit machine.stored
+  pub kept : cut (start_of limit old.stored) old ≡ cut (start_of limit machine.stored) machine
+
+-- A run that waited goes on. It began where one of the plain machine would begin, and of the
+-- positions those are stored that were due from there up to so many events.
+pub record GoesOnAlike (b : Behaviour) (m : Answers) (limit : ℕ) (r : Resumed)
+    (old machine : Timeline ℕ) : Type 0 where
+  pub going : CanGoOn b m r.count
+  pub limited : r.count ≤ limit
+  pub start : start_of limit machine.stored ≡ r.from
+  pub within : starts_within r.from r.count
+  pub positions : old ≡ positions_begun machine r.from (suc r.count - first_behind r.from)
+
+abbrev pub StartsAlike : Behaviour → Answers → ℕ → Option Resumed → Timeline ℕ → Timeline ℕ → Type 0
+StartsAlike b m limit None old machine = BeginsAlike limit old machine
+StartsAlike b m limit (Some r) old machine = GoesOnAlike b m limit r old machine
+
+-- A RUN to that limit IS THE SAME of the session and of the plain machine, of which it is a fresh
+-- one: of the same model, and it begins alike, or goes on.
+pub record RunsAlike (b : Behaviour) (limit : ℕ) (e : Editing) (s : Machine) : Type 0 where
   pub model : e.model ≡ s.model
-  pub start : start_of limit e.positions.stored ≡ start_of limit s.positions.stored
-  pub kept : cut (start_of limit e.positions.stored) e.positions
-      ≡ cut (start_of limit s.positions.stored) s.positions
+  pub starts : StartsAlike b (answers_of s.model) limit (resumed limit e.phase) e.positions
+      s.positions
 
 -- All that was asked is heard.
 pub record IsServed (b : Behaviour) (s : Machine) (v : Seen) : Type 0 where
@@ -64,15 +94,14 @@ pub record IsServed (b : Behaviour) (s : Machine) (v : Seen) : Type 0 where
   pub at : IsAt b v.editing machine
   pub heard : AreHeard b s v.asked v.heard machine
 
--- A run to that limit was asked last, and goes on; all before is heard. Where it waits the session
--- has the positions up to where it began, and no others.
+-- A run to that limit was asked last, and goes on; all before is heard.
 pub record IsGoing (b : Behaviour) (s : Machine) (limit : ℕ) (v : Seen) : Type 0 where
   pub before : List AskedLine
   pub last : AskedLine
   pub all : v.asked ≡ before ++ last ∷ []
   pub runs : command_asked last ≡ command.Run limit
   pub machine : Machine
-  pub alike : RunsAlike limit v.editing machine
+  pub alike : RunsAlike b limit v.editing machine
   pub heard : AreHeard b s before v.heard machine
 
 abbrev pub StandsBy : Option ℕ → Behaviour → Machine → Seen → Type 0
@@ -90,16 +119,17 @@ GoesOnServing b before after = (s : Machine) → Stands b s before → Stands b 
 -- ---- what is left to be done
 
 abbrev pub left_in_run : Behaviour → ℕ → Editing → ℕ
-left_in_run b limit e = left_of b e.phase e.model (start_in e limit) e.boxes
+left_in_run b limit e = left_of b e.model limit (at_setup e.phase) (resumed limit e.phase)
+    e.positions.stored e.boxes e.supplied
 
 abbrev pub going : Behaviour → Option ℕ → Editing → ℕ
 going b None e = 0
 going b (Some limit) e = left_in_run b limit e + 1
 
--- how many turns are left at most: for each thing that may be asked, as many as a model may need
--- boxes, and four more
+-- how many turns are left at most: for each thing that may be asked as many as a run may take, and
+-- three more
 abbrev pub left_seen : Behaviour → Seen → ℕ
-left_seen b v = v.may * (most_boxes + 4) + going b v.running v.editing
+left_seen b v = v.may * (most_turns + 3) + going b v.running v.editing
 
 -- ---- how it ends
 
@@ -138,10 +168,19 @@ IsNextServing b before after next.GoOn =
 IsNextServing b before after (next.Stop why) = (s : Machine) → Stands b s before
     → EndsServing b s after why
 
--- the run to that limit goes on, and waits where it begins
+-- a run to that limit waits where it begins, or before an event that is not after the limit
+abbrev pub WaitsAt : ℕ → List ℕ → Phase → Type 0
+WaitsAt limit stored (Waiting from point.Setup) = start_of limit stored ≡ None
+WaitsAt limit stored (Waiting from point.Position) =
+    (event : ℕ) × (from ≡ Some event) × (start_of limit stored ≡ Some event)
+WaitsAt limit stored (Waiting from (point.Start k id)) = k ≤ limit
+WaitsAt limit stored Idle = ⊥
+WaitsAt limit stored (Declined from at) = ⊥
+
+-- the run to that limit goes on, and waits there
 abbrev pub IsHeldAt : Option ℕ → Editing → Type 0
 IsHeldAt None e = ⊥
-IsHeldAt (Some limit) e = e.phase ≡ waiting_at (start_in e limit)
+IsHeldAt (Some limit) e = WaitsAt limit e.positions.stored e.phase
 
 -- A run waits for a box, and a module was made for it.
 pub record NeedsBox (b : Behaviour) (before after : Seen) (made : LibraryModule) : Type 0 where
@@ -167,7 +206,7 @@ IsHeardNow b c before after = (s : Machine) → IsAt b before.editing s
 abbrev pub IsHeardRun : Behaviour → ℕ → Seen → Seen → Type 0
 IsHeardRun b limit before after = (after.asked ≡ before.asked) × (after.may ≡ before.may)
     × (after.running ≡ None)
-    × ((s : Machine) → RunsAlike limit before.editing s
+    × ((s : Machine) → RunsAlike b limit before.editing s
     → (front : List Heard) × (s' : Machine) × (after.heard ≡ before.heard ++ front)
     × HearsRun b s limit front s' × IsAt b after.editing s')
 
@@ -258,37 +297,47 @@ module _ {O K X : Type 0} {Y : X → Type 0} where
 
 -- ---- runs
 
--- It waits for a box where it begins, or was told that there is none: of the positions those up to
--- there are left.
-pub record WaitsIn (before after : Seen) (limit : ℕ) : Type 0 where
+-- where it stands that waits there: it waits still, or was told that there is no such box
+abbrev pub StandsThere : Wait → Phase → Type 0
+StandsThere wait phase =
+    (phase ≡ Waiting wait.from wait.at) ⊎ (phase ≡ Declined wait.from wait.at)
+
+-- It waits for a box that is missing first, or was told that there is none: of the positions those
+-- are left that it has up to there.
+pub record WaitsIn (b : Behaviour) (before after : Seen) (limit : ℕ) : Type 0 where
   pub asked : after.asked ≡ before.asked
   pub heard : after.heard ≡ before.heard
   pub may : after.may ≡ before.may
   pub running : after.running ≡ Some limit
+  pub limited : limit < 2 ^ 64
   pub model : after.editing.model ≡ before.editing.model
+  pub wait : Wait
+  pub is : wait_in b before.editing limit ≡ Some wait
+  pub phase : StandsThere wait after.editing.phase
   pub positions : after.editing.positions
-      ≡ cut (start_in before.editing limit) before.editing.positions
+      ≡ positions_at limit (resumed limit before.editing.phase) wait.at before.editing.positions
 
 -- a box is made for what the run waits for, or there may be no such box, and the run is told so
 abbrev pub IsMetIn : Behaviour → Editing → Editing → ServerStep → Type 0
 IsMetIn b before after (turn.Need made) =
     (after ≡ before) × IsFor b (wanted_of b after) (box_of made)
-IsMetIn b before after (turn.Over next.GoOn) = after ≡ record before { phase = Declined }
+IsMetIn b before after (turn.Over next.GoOn) =
+    after ≡ record before { phase = declined_at before.phase }
 IsMetIn b before after (turn.Over (next.Stop why)) = ⊥
 
 -- A run to that limit is done and its answer is heard, or memory ran out; it waits for a box of
 -- what is made, or was told that there is none; or the client is gone.
 abbrev pub IsRunIn : Behaviour → ℕ → Seen → Seen → ServerStep → Type 0
 IsRunIn b limit before after (turn.Need made) =
-    WaitsIn before after limit × IsFor b (wanted_of b after.editing) (box_of made)
+    WaitsIn b before after limit × IsFor b (wanted_of b after.editing) (box_of made)
     × IsSome (wanted_of b after.editing) × IsHeldAt (Some limit) after.editing
     × (left_in_run b limit after.editing ≤ left_in_run b limit before.editing)
 IsRunIn b limit before after (turn.Over next.GoOn) =
-    (WaitsIn before after limit
+    (WaitsIn b before after limit
     × (left_in_run b limit after.editing < left_in_run b limit before.editing))
     ⊎ IsHeardRun b limit before after
 IsRunIn b limit before after (turn.Over (next.Stop stop.Gone)) =
-    IsCutOff b (command.Run limit) (RunsAlike limit before.editing) before after
+    IsCutOff b (command.Run limit) (RunsAlike b limit before.editing) before after
 IsRunIn b limit before after (turn.Over (next.Stop _)) = ⊥
 
 -- What a command comes to that is asked where no run goes on: a run goes on or is heard; all else

@@ -313,10 +313,23 @@ impl<O: Out + Drop, K: Client<O> + Drop> Server<O, K> {
         match self.desk.supply(held) {
             Ok(()) => Next::GoOn,
             Err(fault) => match fault.reason {
-                SupplyReason::NoMemory(error) => self.out_of_memory(error),
+                SupplyReason::NoMemory(error) => self.give_up(error),
                 SupplyReason::NotWanted => unreachable!(),
             },
         }
+    }
+
+    /// Gives up the run that waits, as memory ran out for its box, and the client hears that.
+    fn give_up(&mut self, error: NoMemory) -> Next
+        requires going { IsHeldAt self.old.running
+            (editing_at SimpleModule-box self.old.desk) }
+        requires sound { IsServer library SimpleModule-box self.old }
+        requires kept { K.keeps self.old.client }
+        ensures { Serves library SimpleModule-box K.asked K.heard K.left K.keeps K.label K.stops
+            MayStopAt (IsNextServing library) self.old self.new result }
+    {
+        self.desk.give_up_run();
+        self.out_of_memory(error)
     }
 
     /// The client, which is served no more.
@@ -383,7 +396,7 @@ pub fn serve<O: Out + Drop, K: Client<O> + Drop, W: Observer>(
                     let held: Box<dyn SimpleModule> = held;
                     server.supply(held)
                 }
-                Err(failed) => server.out_of_memory(failed.into()),
+                Err(failed) => server.give_up(failed.into()),
             },
             ServerStep::Over(next) => next,
         };

@@ -4,6 +4,9 @@ pub mod Changes
 pub mod Edited
 pub mod GivenUp
 pub mod Giving
+pub mod Leaving
 pub mod Valid
+pub mod Waiting
+pub mod Waits
 pub mod Lasting
 pub mod Showing

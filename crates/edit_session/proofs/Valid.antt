@@ -1,5 +1,5 @@
 -- Up to which event a run stays valid.
-use Rattle.std.proofs.Common.{◌≡◌, inl, inr, ◌≤◌, ◌<◌, ℕ, List, [], ◌∷◌, ◌++◌, Option, Some, None, Result, Ok, Err, IfOk, refl, sym, ap, ◌∙◌, arith, subst}
+use Rattle.std.proofs.Common.{◌≡◌, ◌≤◌, ℕ, List, [], ◌∷◌, Option, Some, None, Result, Ok, Err, IfOk, refl, sym, ap, ◌∙◌, arith, subst}
 use Rattle.sim_values.specs.declared.NoMemory.{NoMemory}
 use Rattle.module_api.specs.Behaviour.{Behaviour}
 use Rattle.module_api.specs.Laws.{IsLawful}
@@ -19,17 +19,18 @@ use Rattle.run_semantics.proofs.Reached.{stands, reached_before}
 use Rattle.run_semantics.proofs.Reuse.{reached_same_up_to}
 use Rattle.kernel_actions.specs.declared.position.Position.{Position}
 use Rattle.kernel_boxes.specs.Seats.{BoxAt, AreOfKinds}
-use Rattle.checkpoint_runs.specs.Kept.{kept_up_to, AreGood, IsAlone}
-use Rattle.checkpoint_runs.specs.declared.running.Phase.{Phase}
-use Rattle.checkpoint_runs.specs.declared.running.Phase.TheVariants.{Idle}
+use Rattle.checkpoint_runs.specs.Kept.{kept_up_to, AreGood}
+use Rattle.checkpoint_runs.specs.declared.phases.Phase.{Phase}
+use Rattle.checkpoint_runs.specs.declared.phases.Phase.TheVariants.{Idle}
 use Rattle.edit_session.specs.declared.session.Change.{Change}
-use Rattle.checkpoints.specs.Stored.{begun, counts_in, up_to, Timeline}
+use Rattle.checkpoints.specs.Stored.{begun, counts_in, Timeline}
 use Rattle.checkpoint_runs.specs.Positions.{cut, events_behind, CanBeStored, begins, is_cut}
 use Rattle.edit_session.specs.Editing.{Completed, Editing, edited_by, start_in, IsFreshRun, IsKept}
 use Rattle.edit_session.specs.declared.session.Report.{Report}
-use Rattle.checkpoint_runs.specs.Running.{fresh_run, parts_in, whole_run, IsEnded}
+use Rattle.checkpoint_runs.specs.Running.{at_setup, fresh_run, parts_in, resumed, whole_run, IsEnded}
+use Rattle.checkpoint_runs.specs.declared.phases.Ended.{Ended}
 use Rattle.checkpoint_runs.proofs.Whole.{stopped_world}
-use Rattle.checkpoint_runs.proofs.Counting.{kept_counts, left_stored}
+use Rattle.checkpoint_runs.proofs.Counting.{kept_counts}
 use Rattle.edit_session.specs.Reuse.{IsValidTo, IsAskedUpTo, IsKnown}
 
 -- ---- a run that is done
@@ -134,74 +135,66 @@ known_of b m n w known last (Ok found) e h a = known_edited b m n w last found (
 
 -- what is kept of a run that is done
 pub kept_done : (b : Behaviour) (ss xs : List BoxAt) (w : World) (m : Model) (limit : ℕ) (outcome : Outcome) (known : ℕ) (ps : Timeline Position) → AreOfKinds b ss → whole_run b (answers_of m) limit w outcome
-    → known ≡ w.count → AreGood b (answers_of m) w ps.stored → IsAlone xs ps → CanBeStored (counts_in ps) → IsKept b ss xs w m Idle (Some (record { limit = limit; outcome = outcome })) (Some known) ps
-kept_done b ss xs w m limit outcome known ps kinds whole n good alone stored = record {
+    → known ≡ w.count → AreGood b (answers_of m) w ps.stored → xs ≡ [] → CanBeStored (counts_in ps) → IsKept b ss xs w m Idle (Some (record { limit = limit; outcome = outcome })) (Some known) ps
+kept_done b ss xs w m limit outcome known ps kinds whole n good none stored = record {
   kinds = kinds;
-  live = tt;
+  live = none;
   left = whole;
   undone = tt;
   asked = subst (IsAskedUpTo b (answers_of m) w) (sym n) (known_done b (answers_of m) limit w outcome whole);
   good = good;
-  alone = alone;
   stored = stored;
 }
 
 -- what it tells, and what callers see of it
-pub fresh_done : (b : Behaviour) (before after : Editing) (limit : ℕ) (report : Report) (w : World) (waiting : List BoxAt) (new : Timeline ℕ) (start : Option ℕ) (outcome : Outcome) (count : ℕ)
-    → IsEnded b (answers_of before.model) limit (start_in before limit) before.phase before.boxes before.positions w waiting new start outcome
-    → report ≡ record { outcome = outcome; started_from = start; executed = events_behind start count } → count ≡ w.count
-    → after.done ≡ Some (record { limit = limit; outcome = outcome }) → after.boxes ≡ standing w.modules ++ parts_in waiting → after.known ≡ Some count → after.positions ≡ new
+pub fresh_done : (b : Behaviour) (before after : Editing) (limit : ℕ) (report : Report) (w : World) (waiting : List BoxAt) (new : Timeline ℕ) (ended : Ended) (count : ℕ)
+    → IsEnded b (answers_of before.model) limit (at_setup before.phase) (resumed limit before.phase) before.boxes before.supplied before.positions w waiting new ended
+    → report ≡ record { outcome = ended.outcome; started_from = ended.start; executed = events_behind ended.start count } → count ≡ w.count
+    → after.done ≡ Some (record { limit = limit; outcome = ended.outcome }) → after.boxes ≡ standing w.modules → after.supplied ≡ parts_in waiting → after.known ≡ Some count → after.positions ≡ new
     → IsFreshRun b before limit report after
-fresh_done b before after limit report w waiting new start outcome count h told n d boxes known positions =
+fresh_done b before after limit report w waiting new ended count h told n d boxes supplied known positions =
     let m : Answers = answers_of before.model in
     let world : w ≡ (fresh_run b m limit).world = sym (ap (λ (r : Ran). r.world) h.whole) in
-    let ended : outcome ≡ (fresh_run b m limit).outcome = sym (ap (λ (r : Ran). r.outcome) h.whole) in
+    let outcome : ended.outcome ≡ (fresh_run b m limit).outcome = sym (ap (λ (r : Ran). r.outcome) h.whole) in
     let counted : count ≡ (fresh_run b m limit).world.count = n ∙ ap (λ (v : World). v.count) world in
     record {
-      outcome = ap (λ (r : Report). r.outcome) told ∙ ended;
-      started_from = ap (λ (r : Report). r.started_from) told ∙ h.start_is;
-      executed = ap (λ (r : Report). r.executed) told ∙ ap (λ s. events_behind s count) h.start_is ∙ ap (events_behind (start_in before limit)) counted;
-      done = d ∙ ap (λ (o : Outcome). Some (completed_with limit o)) ended;
-      boxes = boxes ∙ h.boxes_are;
+      outcome = ap (λ (r : Report). r.outcome) told ∙ outcome;
+      started_from = ap (λ (r : Report). r.started_from) told ∙ h.began;
+      executed = ap (λ (r : Report). r.executed) told ∙ ap (λ s. events_behind s count) h.began ∙ ap (events_behind (start_in before limit)) counted;
+      done = d ∙ ap (λ (o : Outcome). Some (completed_with limit o)) outcome;
+      boxes = boxes ∙ ap (λ (v : World). standing v.modules) world;
+      supplied = supplied ∙ ap parts_in h.none_wait;
       known = known ∙ ap Some counted;
       positions = positions ∙ h.positions;
-      needs_none = h.needs_none;
+      needs_none = h.none;
     }
 
 -- what is kept without a run
-pub kept_begun : (b : Behaviour) (ss xs : List BoxAt) (w : World) (m : Model) (interval : ℕ) (ps : Timeline Position) → 1 ≤ interval → AreOfKinds b ss → ps ≡ begun interval → IsKept b ss xs w m Idle None None ps
-kept_begun b ss xs w m interval ps some kinds e = rw e (record {
+pub kept_begun : (b : Behaviour) (ss xs : List BoxAt) (w : World) (m : Model) (interval : ℕ) (ps : Timeline Position) → 1 ≤ interval → AreOfKinds b ss → xs ≡ [] → ps ≡ begun interval → IsKept b ss xs w m Idle None None ps
+kept_begun b ss xs w m interval ps some kinds none e = rw e (record {
   kinds = kinds;
-  live = tt;
+  live = none;
   left = tt;
   undone = tt;
   asked = tt;
   good = tt;
-  alone = inr refl;
   stored = begins interval some;
 })
 
--- where no position is stored while a box waits there is none when some are cut
-alone_cut : (xs : List BoxAt) (t : Timeline Position) (valid : Option ℕ) → IsAlone xs t → IsAlone xs (kept_up_to valid t)
-alone_cut xs t valid (inl none) = inl none
-alone_cut xs t None (inr none) = inr refl
-alone_cut xs t (Some v) (inr none) = inr (left_stored t (up_to v t.stored) ∙ ap (up_to v) none)
-
 -- what is kept after an accepted edit
 pub kept_edited : (b : Behaviour) (ss ts ws xs : List BoxAt) (w u : World) (m n : Model) (phase : Phase) (done : Option Completed) (known valid : Option ℕ) (ps qs : Timeline Position) → IsKept b ss ws w m phase done known ps → ts ≡ ss → u ≡ w → qs ≡ kept_up_to valid ps
-    → IsKnown b (answers_of n) w valid → AreGood b (answers_of n) w (kept_up_to valid ps).stored → xs ≡ ws → IsKept b ts xs u n Idle None valid qs
-kept_edited b ss ts ws xs w u m n phase last known valid ps qs kept t e q asked good same = rw (t, e, q, same) (record {
+    → IsKnown b (answers_of n) w valid → AreGood b (answers_of n) w (kept_up_to valid ps).stored → xs ≡ [] → IsKept b ts xs u n Idle None valid qs
+kept_edited b ss ts ws xs w u m n phase last known valid ps qs kept t e q asked good none = rw (t, e, q) (record {
   kinds = kept.kinds;
-  live = tt;
+  live = none;
   left = tt;
   undone = tt;
   asked = asked;
   good = good;
-  alone = alone_cut ws ps valid kept.alone;
   stored = subst CanBeStored (sym (kept_counts valid ps)) (is_cut valid (counts_in ps) kept.stored);
 })
 
 -- what an accepted edit leaves
-pub edited_same : (before : Editing) (change : Change) (boxes : List Part) (positions : Timeline ℕ) → boxes ≡ before.boxes → positions ≡ cut change.edited.valid_to before.positions
-    → record { model = change.model; done = None; phase = Idle; boxes = boxes; known = change.edited.valid_to; positions = positions } ≡ edited_by before change
-edited_same before change boxes positions h p = rw (h, p) refl
+pub edited_same : (before : Editing) (change : Change) (boxes supplied : List Part) (positions : Timeline ℕ) → boxes ≡ before.boxes → supplied ≡ [] → positions ≡ cut change.edited.valid_to before.positions
+    → record { model = change.model; done = None; phase = Idle; boxes = boxes; supplied = supplied; known = change.edited.valid_to; positions = positions } ≡ edited_by before change
+edited_same before change boxes supplied positions h s p = rw (h, s, p) refl

@@ -9,8 +9,8 @@ use Rattle.kernel_call_views.specs.Tables.{AreShown}
 use Rattle.kernel.specs.Kernels.{boxes_in, world_in}
 use Rattle.edit_session.specs.Editing.{Completed, Editing, IsChangeBy, IsKept}
 use Rattle.checkpoints.specs.Stored.{counts_in}
-use Rattle.checkpoint_runs.specs.Kept.{standing_in, kept_up_to, waiting_in, AreGood}
-use Rattle.checkpoint_runs.specs.declared.running.Stood.{Stood}
+use Rattle.checkpoint_runs.specs.Kept.{kept_up_to, standing_in, supplied_in, waiting_in, AreGood}
+use Rattle.checkpoint_runs.specs.declared.phases.Stood.{Stood}
 use Rattle.edit_session.specs.Reuse.{IsKnown}
 use Rattle.edit_session.specs.declared.session.Change.{Change}
 use Rattle.edit_session.specs.declared.session.Done.{Done}
@@ -27,6 +27,7 @@ module _ {C X : Type 0} {Y : X → Type 0} where
     done = option_map completed_of s.done;
     phase = s.phase;
     boxes = standing_in members s.runner;
+    supplied = supplied_in members s.runner;
     known = s.known;
     positions = counts_in s.runner.positions;
   }

@@ -1,8 +1,7 @@
 //! A session.
 
-ghost use Rattle.std.specs.Prelude.{◌≡◌, ◌↔◌, ◌≤◌, true, Some, None, IsSome, OnOk, OnErr, IfOk};
+ghost use Rattle.std.specs.Prelude.{◌≡◌, ◌↔◌, ◌≤◌, true, Some, None, IsSome, OnOk, OnErr, IfOk, ◌+◌};
 ghost use Rattle.std.specs.Prelude.{IfErr, List, length, option_map, option_copied};
-ghost use Rattle.sim_values.specs.Memory.{no_memory};
 ghost use Rattle.model_data.specs.declared.model.Model.{Model};
 ghost use Rattle.model_answers.specs.Answering.{answers_of};
 ghost use Rattle.model_agreement.specs.Models.{RestOnSame};
@@ -10,14 +9,16 @@ ghost use Rattle.model_reading.specs.Models.{IsModelOf, IsRuledOut, Refuses};
 ghost use Rattle.model_edits.specs.Edited.{number_given, IsRuledOut as IsEditRuledOut};
 ghost use Rattle.model_edits.specs.Edited.{Refuses as RefusesEdit};
 ghost use Rattle.edit_session.specs.Files.{files_in, files_of_last, scalars_of_run};
-ghost use Rattle.edit_session.specs.Files.{vectors_of_run, written_as, AreFilesOf, FileWritten};
+ghost use Rattle.edit_session.specs.Files.{vectors_of_run, AreFilesOf, FileWritten};
 ghost use Rattle.edit_session.specs.Files.{IsFileWritten};
-ghost use Rattle.edit_session.specs.Editing.{Completed, edited_by, fresh_editing, last_used};
+ghost use Rattle.edit_session.specs.Editing.{asked_at_start, declined_at, edited_by, fresh_editing};
+ghost use Rattle.edit_session.specs.Editing.{given_up, last_used, supplied_phase, Completed};
 ghost use Rattle.edit_session.specs.Editing.{wanted_of, with_box, IfDone, IfWaiting, IsAccepted};
 ghost use Rattle.edit_session.specs.Editing.{IsFor, IsFreshRun, IsGivenUp, IsUnknown, WaitsFor};
-ghost use Rattle.checkpoint_runs.specs.Kept.{kept_up_to, AreGood, HasGood, HasNoneAlone};
-ghost use Rattle.checkpoint_runs.specs.Positions.{events_behind, starts_within, HasStored};
-ghost use Rattle.checkpoint_runs.specs.Running.{is_back, waiting_at};
+ghost use Rattle.checkpoint_runs.specs.Kept.{kept_up_to, AreGood, HasGood};
+ghost use Rattle.checkpoint_runs.specs.Positions.{CanBeStored};
+ghost use Rattle.checkpoint_runs.specs.Positions.{HasStored};
+ghost use Rattle.checkpoint_runs.specs.Running.{is_back, resumed};
 ghost use Rattle.kernel.specs.declared.request.Request.{Request};
 ghost use Rattle.edit_session.specs.Lasting.{IsTouched};
 ghost use Rattle.edit_session.specs.Reuse.{IsKnown, IsValidTo};
@@ -29,9 +30,12 @@ ghost use Rattle.model_questions.specs.declared.record.Record.{Record};
 ghost use Rattle.checkpoints.specs.Stored.{counts_in, most_stored};
 ghost use Rattle.model_edits.specs.declared.edit.Edit.{Edit};
 
+use crate::phases::{asked_at_start, declined_at, is_back, supplied_phase};
+use crate::replies::{no_room_for, report_of, written};
 use crate::values::{Following, SessionModel, Touched, touched_by};
 use checkpoint_runs::observer::Observer;
-use checkpoint_runs::running::{Ended, Phase, Point, RunStatus, Runner, Stood};
+use checkpoint_runs::phases::{Ended, Phase, Point, Progress, RunStatus, Stood, Wait};
+use checkpoint_runs::running::Runner;
 use checkpoints::positions::Positions;
 use kernel::kernel::Kernel;
 use kernel::request::Request;
@@ -222,7 +226,7 @@ impl<C: Catalogue> Session<C> {
     }
 
     /// Changes the model as the edit says, or tells why not. An accepted edit gives up a run that
-    /// waits, and no run is done until the next one.
+    /// waits, with the boxes that were supplied for its start, and no run is done until the next one.
     pub fn edit(&mut self, edit: Edit) -> Result<Edited, Refusal>
         requires sound { IsSound C.behaviour SimpleModule-box self.old }
         ensures sound { IsSound C.behaviour SimpleModule-box self.new }
@@ -344,9 +348,10 @@ impl<C: Catalogue> Session<C> {
         )
     }
 
-    /// Makes a change, which takes no memory. A run that waits is given up, and no run is done
-    /// until the next one. Of the stored positions those stay up to which the last run stays valid,
-    /// and what calls show of modules stays where their values rest on what they rested on.
+    /// Makes a change, which takes no memory. A run that waits is given up, with the boxes that were
+    /// supplied for its start, and no run is done until the next one. Of the stored positions those
+    /// stay up to which the last run stays valid, and what calls show of modules stays where their
+    /// values rest on what they rested on.
     pub fn accept(&mut self, change: Change) -> Edited
         requires sound { IsSound C.behaviour SimpleModule-box self.old }
         requires changed { (edit : Edit)
@@ -364,6 +369,7 @@ impl<C: Catalogue> Session<C> {
         keep_shown(self.alloc, &mut self.shown, same);
         self.model = model;
         self.give_up();
+        self.runner.drop_waiting();
         self.known = edited.valid_to;
         self.runner.keep_up_to(edited.valid_to);
         edited
@@ -394,9 +400,10 @@ impl<C: Catalogue> Session<C> {
         self.model.model().config.as_bytes()
     }
 
-    /// Runs the model for at most so many events, from the greatest stored position up to there, or
-    /// from setup, or goes on with the run that waits; or answers which module needs a box first,
-    /// of those without one the one of the least id. The observer is told of each event that is
+    /// Runs the model for at most so many events: goes on with the run that waits, unless it waits
+    /// after more events, or begins at the greatest stored position up to there, or with setup. Or
+    /// answers which module needs a box first where the run begins or before its next event, of
+    /// those without one the one of the least id. The observer is told of each event that is
     /// executed.
     pub fn run<W: Observer>(
         &mut self,
@@ -425,15 +432,13 @@ impl<C: Catalogue> Session<C> {
             (editing_of SimpleModule-box self.new)) }
         ensures stood { let before = editing_of SimpleModule-box self.old in
             let after = editing_of SimpleModule-box self.new in
-            OnErr result (HasStored C.behaviour (answers_of before.model) limit before.positions
-            (stood_in self.new) after.positions) }
+            OnErr result (HasStored C.behaviour (answers_of before.model) limit
+            (resumed limit before.phase) before.positions (stood_in self.new) after.positions) }
     {
         match self.run_through(limit, observer) {
             Ok(progress) => Ok(progress),
             Err(error) => {
-                self.give_up();
-                self.known = self.runner.cut_back();
-                self.shown = CallViews::new(self.alloc);
+                self.drop_run();
                 Err(error)
             }
         }
@@ -450,10 +455,9 @@ impl<C: Catalogue> Session<C> {
         ensures kinds { HasKinds C.behaviour SimpleModule-box self.new.runner.kernel }
         ensures good { HasGood C.behaviour (answers_of self.new.model) SimpleModule-box
             self.new.runner }
-        ensures alone { HasNoneAlone SimpleModule-box self.new.runner }
         ensures stored { HasStored C.behaviour (answers_of self.old.model) limit
-            (counts_in self.old.runner.positions) self.new.runner.stood
-            (counts_in self.new.runner.positions) }
+            (resumed limit self.old.phase) (counts_in self.old.runner.positions)
+            self.new.runner.stood (counts_in self.new.runner.positions) }
         ensures sound { OnOk result (IsSound C.behaviour SimpleModule-box self.new) }
         ensures done { let before = editing_of SimpleModule-box self.old in
             let after = editing_of SimpleModule-box self.new in
@@ -476,13 +480,21 @@ impl<C: Catalogue> Session<C> {
             &mut shown,
             observer,
         )? {
-            RunStatus::Waits(request) => {
-                // What was asked after the event where it begins is given up.
-                self.known = self.runner.cut_back();
-                self.phase = waiting_at(self.known);
+            Progress::Waits(wait) => {
+                let Wait { from, at, request } = wait;
+                self.phase = Phase::Waiting(from, at);
+                match at {
+                    Point::Start(count, _id) => {
+                        self.shown = shown;
+                        self.known = Some(count);
+                    }
+                    // What was asked after the event where it begins is given up.
+                    Point::Setup => self.known = self.runner.cut_back(),
+                    Point::Position => self.known = self.runner.cut_back(),
+                }
                 Ok(RunStatus::Waits(request))
             }
-            RunStatus::Done(ended) => {
+            Progress::Done(ended) => {
                 let Ended { start, outcome } = ended;
                 let count = self.runner.kernel.count();
                 let report = report_of(self.alloc, &outcome, start, count)?;
@@ -492,6 +504,35 @@ impl<C: Catalogue> Session<C> {
                 Ok(RunStatus::Done(report))
             }
         }
+    }
+
+    /// Gives up a run that waits, as one is given up for which memory runs out: no run is done, and
+    /// the boxes are dropped that were supplied for a start. The stored positions stay, and nothing
+    /// is known but the events up to the last of them. It takes no memory.
+    pub fn give_up_run(&mut self)
+        requires sound { IsSound C.behaviour SimpleModule-box self.old }
+        ensures sound { IsSound C.behaviour SimpleModule-box self.new }
+        ensures left { editing_of SimpleModule-box self.new
+            ≡ given_up (editing_of SimpleModule-box self.old) }
+    {
+        self.drop_run();
+    }
+
+    /// The same, wherever the run stands.
+    fn drop_run(&mut self)
+        requires kinds { HasKinds C.behaviour SimpleModule-box self.old.runner.kernel }
+        requires good { HasGood C.behaviour (answers_of self.old.model) SimpleModule-box
+            self.old.runner }
+        requires stored { CanBeStored (counts_in self.old.runner.positions) }
+        ensures sound { IsSound C.behaviour SimpleModule-box self.new }
+        ensures left { editing_of SimpleModule-box self.new
+            ≡ given_up (editing_of SimpleModule-box self.old) }
+        ensures stood { stood_in self.new ≡ stood_in self.old }
+    {
+        self.give_up();
+        self.runner.drop_waiting();
+        self.known = self.runner.cut_back();
+        self.shown = CallViews::new(self.alloc);
     }
 
     /// Where the run stood that was asked for last, where memory ran out for it: up to there its
@@ -538,7 +579,8 @@ impl<C: Catalogue> Session<C> {
         ensures sound { IsSound C.behaviour SimpleModule-box self.new }
         ensures ok { let editing = editing_of SimpleModule-box self.old in
             OnOk result (IsSome (wanted_of C.behaviour editing)
-            × (editing_of SimpleModule-box self.new ≡ record editing { phase = Phase.Declined })) }
+            × (editing_of SimpleModule-box self.new
+            ≡ record editing { phase = declined_at editing.phase })) }
         ensures err { let editing = editing_of SimpleModule-box self.old in
             OnErr result ((wanted_of C.behaviour editing ≡ None)
             × (editing_of SimpleModule-box self.new ≡ editing)) }
@@ -546,7 +588,7 @@ impl<C: Catalogue> Session<C> {
         match self.wanted_id() {
             None => Err(NotWanted),
             Some(_) => {
-                self.phase = Phase::Declined;
+                self.phase = declined_at(self.phase);
                 Ok(())
             }
         }
@@ -563,8 +605,9 @@ impl<C: Catalogue> Session<C> {
                 self.runner.kernel.missing_id(&self.runner.waiting)
             }
             Phase::Waiting(_from, Point::Position) => self.runner.lacking_id(),
+            Phase::Waiting(_from, Point::Start(_count, _id)) => asked_at_start(self.phase),
             Phase::Idle => None,
-            Phase::Declined => None,
+            Phase::Declined(_from, _at) => None,
         }
     }
 
@@ -590,7 +633,9 @@ impl<C: Catalogue> Session<C> {
         if is_back(self.phase) {
             self.runner.kernel.supply(id, held)
         } else {
-            self.runner.supply(id, held)
+            self.runner.supply(id, held)?;
+            self.phase = supplied_phase(self.phase);
+            Ok(())
         }
     }
 
@@ -700,9 +745,11 @@ impl<C: Catalogue> Session<C> {
         self.known
     }
 
-    /// How many boxes the session holds.
+    /// How many boxes the session holds: those of modules that were started, and those that were
+    /// supplied for a start.
     pub fn held(&self) -> u128
-        ensures { result ≡ length (editing_of SimpleModule-box self.now).boxes }
+        ensures { let editing = editing_of SimpleModule-box self.now in
+            result ≡ length editing.boxes + length editing.supplied }
     {
         self.runner.held()
     }
@@ -719,28 +766,6 @@ impl<C: Catalogue> Session<C> {
     }
 }
 
-/// How a run waits that begins there.
-fn waiting_at(start: Option<u64>) -> Phase
-    ensures { result ≡ waiting_at start }
-{
-    match start {
-        None => Phase::Waiting(None, Point::Setup),
-        Some(event) => Phase::Waiting(Some(event), Point::Position),
-    }
-}
-
-/// Whether a run waits that goes back to a position.
-fn is_back(phase: Phase) -> bool
-    ensures { result ≡ is_back phase }
-{
-    match phase {
-        Phase::Waiting(_from, Point::Position) => true,
-        Phase::Waiting(_from, Point::Setup) => false,
-        Phase::Idle => false,
-        Phase::Declined => false,
-    }
-}
-
 /// The last number that was used, where one was given.
 fn last_used(last: u32, given: Option<u64>) -> Option<u32>
     ensures { result ≡ last_used last given }
@@ -748,18 +773,6 @@ fn last_used(last: u32, given: Option<u64>) -> Option<u32>
     match given {
         Some(_) => Some(last),
         None => None,
-    }
-}
-
-/// A box that had no room is handed back.
-fn no_room_for(failed: AllocFailed<Box<dyn SimpleModule>>) -> SupplyFault
-    ensures held { result.held ≡ failed.value }
-    ensures reason { result.reason ≡ SupplyReason.NoMemory no_memory }
-{
-    let (held, error) = NoMemory::with_value(failed);
-    SupplyFault {
-        held,
-        reason: SupplyReason::NoMemory(error),
     }
 }
 
@@ -773,40 +786,4 @@ fn keep_shown(alloc: Global, shown: &mut CallViews, same: bool)
         return;
     }
     *shown = CallViews::new(alloc);
-}
-
-/// What came of writing a file.
-fn written(answer: Result<(), Device>) -> Result<(), FileFault>
-    ensures { result ≡ written_as answer }
-{
-    match answer {
-        Ok(()) => Ok(()),
-        Err(device) => Err(FileFault::Device(device.written)),
-    }
-}
-
-/// What a run that is done tells, which began there and has so many events in all.
-fn report_of(
-    alloc: Global,
-    outcome: &Outcome,
-    start: Option<u64>,
-    count: u64,
-) -> Result<Report, NoMemory>
-    requires { starts_within start count }
-    ensures { IfOk result (λ report. report
-        ≡ record {
-          outcome = outcome.now;
-          started_from = start;
-          executed = events_behind start count;
-        }) }
-{
-    let executed = match start {
-        Some(event) => count - event,
-        None => count,
-    };
-    Ok(Report {
-        outcome: outcome.copy(alloc)?,
-        started_from: start,
-        executed,
-    })
 }

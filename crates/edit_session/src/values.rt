@@ -1,7 +1,7 @@
 //! The model of a session with its values, and the model after an edit with those that stay, or with
 //! others that are found anew.
 
-ghost use Rattle.std.specs.Prelude.{◌≡◌, true, IfOk, OnOk};
+ghost use Rattle.std.specs.Prelude.{◌≡◌, true, IfOk};
 ghost use Rattle.edit_session.specs.Lasting.{touched_by, IsTouched};
 ghost use Rattle.same_entries.specs.Counted.{AreSaid};
 ghost use Rattle.model_agreement.specs.Models.{RestOnSame};

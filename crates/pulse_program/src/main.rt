@@ -12,7 +12,7 @@ ghost use Rattle.module_parts.specs.Scripts.{module_by};
 
 use anyhow::{anyhow, bail};
 use checkpoint_runs::observer::Unobserved;
-use checkpoint_runs::running::RunStatus;
+use checkpoint_runs::phases::RunStatus;
 use desk_answers::answers::{done_text, edit_refusal_text, edited_text, refusal_text};
 use edit_session::session::Session;
 use model_edits::edit::Edit;

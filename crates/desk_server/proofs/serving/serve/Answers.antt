@@ -7,7 +7,7 @@ use Rattle.module_network.specs.Library.{box_of}
 use Rattle.module_network.specs.Library.{library}
 use Rattle.desk_server.specs.Served.{fresh_machine}
 use Rattle.desk_server.specs.Serving.{seen, seen_in, IsNextServing, IsServer, MayStopAt}
-use Rattle.desk_server.proofs.ServingTurns.{ends_served, goes_on_last, memory_turn, served_first, went_serving}
+use Rattle.desk_server.proofs.ServingTurns.{ends_served, served_first, went_serving}
 use Rattle.desk_server.proofs.serving.serve.OwnLists.{at-1-1, own-1}
 use Rattle.desk_server.proofs.serving.serve.Goals.{in-Need+in-Ok, in-Need+in-Err, in-Over}
 use Rattle.desk_server.proofs.serving.serve.Goals as goal
@@ -39,9 +39,7 @@ pub turns-smaller : goal.turns-smaller
 turns-smaller g c =
     let went : IsNextServing library (seen_in (λ b. (own-1.entry b.vtable).1) g.K.Client.asked g.K.Client.heard g.K.Client.left c.turns.server) (seen_in (λ b. (own-1.entry b.vtable).1) g.K.Client.asked g.K.Client.heard g.K.Client.left c.match-turn.server) c.match-turn.next = elim c.match-turn.branch [
       | in-Need+in-Ok w ↦ rw (w.server-is, w.next-is) (went_serving library (seen_in (λ b. (own-1.entry b.vtable).1) g.K.Client.asked g.K.Client.heard g.K.Client.left c.turns.server) (seen_in (λ b. (own-1.entry b.vtable).1) g.K.Client.asked g.K.Client.heard g.K.Client.left c.turn.new.self) (seen_in (λ b. (own-1.entry b.vtable).1) g.K.Client.asked g.K.Client.heard g.K.Client.left w.supply.new.self) w.in-Need.made w.supply.result w.in-Need.ensures.comes w.supply.ensures.comes)
-      | in-Need+in-Err w ↦ rw (w.server-is, w.next-is) (went_serving library (seen_in (λ b. (own-1.entry b.vtable).1) g.K.Client.asked g.K.Client.heard g.K.Client.left c.turns.server) (seen_in (λ b. (own-1.entry b.vtable).1) g.K.Client.asked g.K.Client.heard g.K.Client.left c.turn.new.self) (seen_in (λ b. (own-1.entry b.vtable).1) g.K.Client.asked g.K.Client.heard g.K.Client.left w.out_of_memory.new.self) w.in-Need.made w.out_of_memory.result w.in-Need.ensures.comes
-          (memory_turn library (seen_in (λ b. (own-1.entry b.vtable).1) g.K.Client.asked g.K.Client.heard g.K.Client.left c.turn.new.self) (seen_in (λ b. (own-1.entry b.vtable).1) g.K.Client.asked g.K.Client.heard g.K.Client.left w.out_of_memory.new.self) w.out_of_memory.result c.turn.new.self.desk.session.runner.positions w.in-Need.ensures.comes.going c.turn.ensures.sound.kept.undone (goes_on_last library (λ b. (own-1.entry b.vtable).1) c.turn.new.self.desk.session c.turn.ensures.sound) refl
-          (ap (editing_at (λ b. (own-1.entry b.vtable).1)) w.out_of_memory.ensures.desk) w.out_of_memory.ensures.asked w.out_of_memory.ensures.left w.out_of_memory.ensures.running w.out_of_memory.ensures.heard))
+      | in-Need+in-Err w ↦ rw (w.server-is, w.next-is) (went_serving library (seen_in (λ b. (own-1.entry b.vtable).1) g.K.Client.asked g.K.Client.heard g.K.Client.left c.turns.server) (seen_in (λ b. (own-1.entry b.vtable).1) g.K.Client.asked g.K.Client.heard g.K.Client.left c.turn.new.self) (seen_in (λ b. (own-1.entry b.vtable).1) g.K.Client.asked g.K.Client.heard g.K.Client.left w.give_up.new.self) w.in-Need.made w.give_up.result w.in-Need.ensures.comes w.give_up.ensures.comes)
       | in-Over w ↦ rw (w.server-is, w.next-is) w.in-Over.ensures.comes
     ] in
     let goes_on = subst (IsNextServing library (seen_in (λ b. (own-1.entry b.vtable).1) g.K.Client.asked g.K.Client.heard g.K.Client.left c.turns.server) (seen_in (λ b. (own-1.entry b.vtable).1) g.K.Client.asked g.K.Client.heard g.K.Client.left c.match-turn.server)) c.in_default.is went in
@@ -51,26 +49,24 @@ pub turns-preserved : goal.turns-preserved
 turns-preserved g c =
     let went : IsNextServing library (seen_in (λ b. (own-1.entry b.vtable).1) g.K.Client.asked g.K.Client.heard g.K.Client.left c.turns.server) (seen_in (λ b. (own-1.entry b.vtable).1) g.K.Client.asked g.K.Client.heard g.K.Client.left c.match-turn.server) c.match-turn.next = elim c.match-turn.branch [
       | in-Need+in-Ok w ↦ rw (w.server-is, w.next-is) (went_serving library (seen_in (λ b. (own-1.entry b.vtable).1) g.K.Client.asked g.K.Client.heard g.K.Client.left c.turns.server) (seen_in (λ b. (own-1.entry b.vtable).1) g.K.Client.asked g.K.Client.heard g.K.Client.left c.turn.new.self) (seen_in (λ b. (own-1.entry b.vtable).1) g.K.Client.asked g.K.Client.heard g.K.Client.left w.supply.new.self) w.in-Need.made w.supply.result w.in-Need.ensures.comes w.supply.ensures.comes)
-      | in-Need+in-Err w ↦ rw (w.server-is, w.next-is) (went_serving library (seen_in (λ b. (own-1.entry b.vtable).1) g.K.Client.asked g.K.Client.heard g.K.Client.left c.turns.server) (seen_in (λ b. (own-1.entry b.vtable).1) g.K.Client.asked g.K.Client.heard g.K.Client.left c.turn.new.self) (seen_in (λ b. (own-1.entry b.vtable).1) g.K.Client.asked g.K.Client.heard g.K.Client.left w.out_of_memory.new.self) w.in-Need.made w.out_of_memory.result w.in-Need.ensures.comes
-          (memory_turn library (seen_in (λ b. (own-1.entry b.vtable).1) g.K.Client.asked g.K.Client.heard g.K.Client.left c.turn.new.self) (seen_in (λ b. (own-1.entry b.vtable).1) g.K.Client.asked g.K.Client.heard g.K.Client.left w.out_of_memory.new.self) w.out_of_memory.result c.turn.new.self.desk.session.runner.positions w.in-Need.ensures.comes.going c.turn.ensures.sound.kept.undone (goes_on_last library (λ b. (own-1.entry b.vtable).1) c.turn.new.self.desk.session c.turn.ensures.sound) refl
-          (ap (editing_at (λ b. (own-1.entry b.vtable).1)) w.out_of_memory.ensures.desk) w.out_of_memory.ensures.asked w.out_of_memory.ensures.left w.out_of_memory.ensures.running w.out_of_memory.ensures.heard))
+      | in-Need+in-Err w ↦ rw (w.server-is, w.next-is) (went_serving library (seen_in (λ b. (own-1.entry b.vtable).1) g.K.Client.asked g.K.Client.heard g.K.Client.left c.turns.server) (seen_in (λ b. (own-1.entry b.vtable).1) g.K.Client.asked g.K.Client.heard g.K.Client.left c.turn.new.self) (seen_in (λ b. (own-1.entry b.vtable).1) g.K.Client.asked g.K.Client.heard g.K.Client.left w.give_up.new.self) w.in-Need.made w.give_up.result w.in-Need.ensures.comes w.give_up.ensures.comes)
       | in-Over w ↦ rw (w.server-is, w.next-is) w.in-Over.ensures.comes
     ] in
     let sound : IsServer library (λ b. (own-1.entry b.vtable).1) c.match-turn.server = elim c.match-turn.branch [
       | in-Need+in-Ok w ↦ rw w.server-is w.supply.ensures.sound
-      | in-Need+in-Err w ↦ rw w.server-is (rw w.out_of_memory.ensures.desk c.turn.ensures.sound)
+      | in-Need+in-Err w ↦ rw w.server-is w.give_up.ensures.sound
       | in-Over w ↦ rw w.server-is c.turn.ensures.sound
     ] in
     let goes_on = subst (IsNextServing library (seen_in (λ b. (own-1.entry b.vtable).1) g.K.Client.asked g.K.Client.heard g.K.Client.left c.turns.server) (seen_in (λ b. (own-1.entry b.vtable).1) g.K.Client.asked g.K.Client.heard g.K.Client.left c.match-turn.server)) c.in_default.is went in
     let stands = c.turns.invariant.stands in
     let kept : g.K.Client.keeps c.match-turn.server.client = elim c.match-turn.branch [
       | in-Need+in-Ok w ↦ rw w.server-is w.supply.ensures.kept
-      | in-Need+in-Err w ↦ rw w.server-is w.out_of_memory.ensures.kept
+      | in-Need+in-Err w ↦ rw w.server-is w.give_up.ensures.kept
       | in-Over w ↦ rw w.server-is c.turn.ensures.kept
     ] in
     let label : g.K.Client.label c.match-turn.server.client ≡ g.K.Client.label c.turns.server.client = elim c.match-turn.branch [
       | in-Need+in-Ok w ↦ rw w.server-is (w.supply.ensures.label ∙ c.turn.ensures.label)
-      | in-Need+in-Err w ↦ rw w.server-is (w.out_of_memory.ensures.label ∙ c.turn.ensures.label)
+      | in-Need+in-Err w ↦ rw w.server-is (w.give_up.ensures.label ∙ c.turn.ensures.label)
       | in-Over w ↦ rw w.server-is c.turn.ensures.label
     ] in
     record { sound = sound; kept = kept; label = label ∙ c.turns.invariant.label; stands = (stands.0, stands.1, goes_on.0 (fresh_machine stands.0 c.args.interval) stands.2) }
@@ -79,9 +75,7 @@ pub returns-in-Stop-clause-served : goal.returns-in-Stop-clause-served
 returns-in-Stop-clause-served g c =
     let went : IsNextServing library (seen_in (λ b. (own-1.entry b.vtable).1) g.K.Client.asked g.K.Client.heard g.K.Client.left c.turns.server) (seen_in (λ b. (own-1.entry b.vtable).1) g.K.Client.asked g.K.Client.heard g.K.Client.left c.match-turn.server) c.match-turn.next = elim c.match-turn.branch [
       | in-Need+in-Ok w ↦ rw (w.server-is, w.next-is) (went_serving library (seen_in (λ b. (own-1.entry b.vtable).1) g.K.Client.asked g.K.Client.heard g.K.Client.left c.turns.server) (seen_in (λ b. (own-1.entry b.vtable).1) g.K.Client.asked g.K.Client.heard g.K.Client.left c.turn.new.self) (seen_in (λ b. (own-1.entry b.vtable).1) g.K.Client.asked g.K.Client.heard g.K.Client.left w.supply.new.self) w.in-Need.made w.supply.result w.in-Need.ensures.comes w.supply.ensures.comes)
-      | in-Need+in-Err w ↦ rw (w.server-is, w.next-is) (went_serving library (seen_in (λ b. (own-1.entry b.vtable).1) g.K.Client.asked g.K.Client.heard g.K.Client.left c.turns.server) (seen_in (λ b. (own-1.entry b.vtable).1) g.K.Client.asked g.K.Client.heard g.K.Client.left c.turn.new.self) (seen_in (λ b. (own-1.entry b.vtable).1) g.K.Client.asked g.K.Client.heard g.K.Client.left w.out_of_memory.new.self) w.in-Need.made w.out_of_memory.result w.in-Need.ensures.comes
-          (memory_turn library (seen_in (λ b. (own-1.entry b.vtable).1) g.K.Client.asked g.K.Client.heard g.K.Client.left c.turn.new.self) (seen_in (λ b. (own-1.entry b.vtable).1) g.K.Client.asked g.K.Client.heard g.K.Client.left w.out_of_memory.new.self) w.out_of_memory.result c.turn.new.self.desk.session.runner.positions w.in-Need.ensures.comes.going c.turn.ensures.sound.kept.undone (goes_on_last library (λ b. (own-1.entry b.vtable).1) c.turn.new.self.desk.session c.turn.ensures.sound) refl
-          (ap (editing_at (λ b. (own-1.entry b.vtable).1)) w.out_of_memory.ensures.desk) w.out_of_memory.ensures.asked w.out_of_memory.ensures.left w.out_of_memory.ensures.running w.out_of_memory.ensures.heard))
+      | in-Need+in-Err w ↦ rw (w.server-is, w.next-is) (went_serving library (seen_in (λ b. (own-1.entry b.vtable).1) g.K.Client.asked g.K.Client.heard g.K.Client.left c.turns.server) (seen_in (λ b. (own-1.entry b.vtable).1) g.K.Client.asked g.K.Client.heard g.K.Client.left c.turn.new.self) (seen_in (λ b. (own-1.entry b.vtable).1) g.K.Client.asked g.K.Client.heard g.K.Client.left w.give_up.new.self) w.in-Need.made w.give_up.result w.in-Need.ensures.comes w.give_up.ensures.comes)
       | in-Over w ↦ rw (w.server-is, w.next-is) w.in-Over.ensures.comes
     ] in
     let stops = subst (IsNextServing library (seen_in (λ b. (own-1.entry b.vtable).1) g.K.Client.asked g.K.Client.heard g.K.Client.left c.turns.server) (seen_in (λ b. (own-1.entry b.vtable).1) g.K.Client.asked g.K.Client.heard g.K.Client.left c.match-turn.server)) c.in-Stop.is went in
@@ -92,7 +86,7 @@ pub returns-in-Stop-clause-kept : goal.returns-in-Stop-clause-kept
 returns-in-Stop-clause-kept g c =
     let kept : g.K.Client.keeps c.match-turn.server.client = elim c.match-turn.branch [
       | in-Need+in-Ok w ↦ rw w.server-is w.supply.ensures.kept
-      | in-Need+in-Err w ↦ rw w.server-is w.out_of_memory.ensures.kept
+      | in-Need+in-Err w ↦ rw w.server-is w.give_up.ensures.kept
       | in-Over w ↦ rw w.server-is c.turn.ensures.kept
     ] in
     rw c.into_client.ensures kept
@@ -101,7 +95,7 @@ pub returns-in-Stop-clause-stopped : goal.returns-in-Stop-clause-stopped
 returns-in-Stop-clause-stopped g c =
     let may : MayStopAt (g.K.Client.stops c.match-turn.server.client) c.match-turn.next = elim c.match-turn.branch [
       | in-Need+in-Ok w ↦ rw (w.server-is, w.next-is) w.supply.ensures.stops
-      | in-Need+in-Err w ↦ rw (w.server-is, w.next-is) w.out_of_memory.ensures.stops
+      | in-Need+in-Err w ↦ rw (w.server-is, w.next-is) w.give_up.ensures.stops
       | in-Over w ↦ rw (w.server-is, w.next-is) w.in-Over.ensures.stops
     ] in
     rw c.into_client.ensures (subst (MayStopAt (g.K.Client.stops c.match-turn.server.client)) c.in-Stop.is may)
@@ -110,7 +104,10 @@ pub returns-in-Stop-clause-label : goal.returns-in-Stop-clause-label
 returns-in-Stop-clause-label g c =
     let label : g.K.Client.label c.match-turn.server.client ≡ g.K.Client.label c.turns.server.client = elim c.match-turn.branch [
       | in-Need+in-Ok w ↦ rw w.server-is (w.supply.ensures.label ∙ c.turn.ensures.label)
-      | in-Need+in-Err w ↦ rw w.server-is (w.out_of_memory.ensures.label ∙ c.turn.ensures.label)
+      | in-Need+in-Err w ↦ rw w.server-is (w.give_up.ensures.label ∙ c.turn.ensures.label)
       | in-Over w ↦ rw w.server-is c.turn.ensures.label
     ] in
     rw c.into_client.ensures (label ∙ c.turns.invariant.label)
+
+pub give_up-requires-clause-going : goal.give_up-requires-clause-going
+give_up-requires-clause-going g c = c.in-Need.ensures.comes.going

@@ -1,15 +1,15 @@
-use Rattle.std.proofs.Common.{◌≡◌, [], Some, None, option_map, refl, sym, ap, ◌∙◌, subst}
+use Rattle.std.proofs.Common.{◌≡◌, Some, None, option_map, refl, sym, ap, ◌∙◌, subst}
 use Rattle.kernel_actions.specs.declared.position.Position.{Position}
 use Rattle.kernel.specs.Kernels.{boxes_in, world_in}
 use Rattle.run_semantics.specs.Laws.{GoesOn}
 use Rattle.run_semantics.specs.World.{World}
 use Rattle.checkpoints.specs.Stored.{counts_in, Timeline}
 use Rattle.kernel_boxes.specs.Saved.{seats_held}
-use Rattle.checkpoint_runs.specs.Kept.{standing_in, waiting_in, AreGood}
-use Rattle.checkpoint_runs.specs.Running.{kept_back, needed_by}
+use Rattle.checkpoint_runs.specs.Kept.{standing_in, AreGood}
+use Rattle.checkpoint_runs.specs.Running.{kept_back, needed_back}
 use Rattle.checkpoint_runs.specs.Positions.{CanGoOn}
-use Rattle.checkpoint_runs.specs.declared.running.Stood.TheVariants as stood
-use Rattle.checkpoint_runs.proofs.Back.{alone_none, back_needs, boxes_back}
+use Rattle.checkpoint_runs.specs.declared.phases.Stood.TheVariants as stood
+use Rattle.checkpoint_runs.proofs.Back.{back_needs, boxes_back}
 use Rattle.checkpoint_runs.proofs.Counting.{back_stored, kept_counts, left_stored, on_err, start_is}
 use Rattle.checkpoint_runs.proofs.Good.{back_at, can_go_on_last, good_back, good_found, good_on, good_rises, good_states, good_up_to, grown_beside}
 use Rattle.checkpoint_runs.proofs.running.Runner.go_back.Goals as goal
@@ -70,10 +70,8 @@ returns-in-Some-2-clause-back g c =
     let p = c.in-Some.position.now in
     let ss = boxes_in (λ b. (g.dyn-1.0.entry b.vtable).1) old.kernel in
     let ts = boxes_in (λ b. (g.dyn-1.0.entry b.vtable).1) c.go_back-back.new.self in
-    let xs = waiting_in (λ b. (g.dyn-1.0.entry b.vtable).1) old in
     let found = good_found b m c.args.limit w p old.positions.stored c.requires.good (sym c.in-Some.ensures) in
     let start = start_is c.args.limit old.positions.stored ∙ ap (option_map (λ (p : Position). p.count)) (sym c.in-Some.ensures) ∙ ap Some (sym c.count-start.ensures) in
-    let none : xs ≡ [] = alone_none xs old.positions p c.args.limit c.requires.alone (sym c.in-Some.ensures) in
     let empty = ap (seats_held (λ b. (g.dyn-1.0.entry b.vtable).1)) c.clear.ensures in
     let some = rw c.in-Some-2.is at c.in_ok-request.ensures.wanted in (
       c.count-start.result,
@@ -81,8 +79,8 @@ returns-in-Some-2-clause-back g c =
       record {
         going = subst (CanGoOn b m) (sym c.count-start.ensures) (can_go_on_last b m c.args.limit w p old.positions.stored c.requires.good (sym c.in-Some.ensures));
         none = empty;
-        kept = boxes_back b m w p ss ts xs (seats_held (λ b. (g.dyn-1.0.entry b.vtable).1) c.clear.new.self) found c.go_back-back.ensures.kept none empty ∙ ap (λ k. kept_back b m k (standing_in (λ b. (g.dyn-1.0.entry b.vtable).1) old)) (sym c.count-start.ensures);
-        wanted = subst (λ k. needed_by b m (Some k) (kept_back b m k (standing_in (λ b. (g.dyn-1.0.entry b.vtable).1) old)) ≡ Some c.in-Some-2.request) (sym c.count-start.ensures) (sym (some ∙ back_needs b m w p ss xs found none));
+        kept = boxes_back b m w p ss ts found c.go_back-back.ensures.kept ∙ ap (λ k. kept_back b m k (standing_in (λ b. (g.dyn-1.0.entry b.vtable).1) old)) (sym c.count-start.ensures);
+        wanted = subst (λ k. needed_back b m k (kept_back b m k (standing_in (λ b. (g.dyn-1.0.entry b.vtable).1) old)) ≡ Some c.in-Some-2.request) (sym c.count-start.ensures) (sym (some ∙ back_needs b m w p ss found));
         positions = c.cut_after.ensures;
         stood = refl;
       },
@@ -106,10 +104,8 @@ returns-in-None-clause-back g c =
     let w = world_in (λ b. (g.dyn-1.0.entry b.vtable).1) old.kernel in
     let p = c.in-Some.position.now in
     let ss = boxes_in (λ b. (g.dyn-1.0.entry b.vtable).1) old.kernel in
-    let xs = waiting_in (λ b. (g.dyn-1.0.entry b.vtable).1) old in
     let found = good_found b m c.args.limit w p old.positions.stored c.requires.good (sym c.in-Some.ensures) in
     let start = start_is c.args.limit old.positions.stored ∙ ap (option_map (λ (p : Position). p.count)) (sym c.in-Some.ensures) ∙ ap Some (sym c.count-start.ensures) in
-    let none : xs ≡ [] = alone_none xs old.positions p c.args.limit c.requires.alone (sym c.in-Some.ensures) in
     let without = rw c.in-None.is at c.in_ok-request.ensures.wanted in
     let back = back_at b m c.args.limit w (world_in (λ b. (g.dyn-1.0.entry b.vtable).1) c.go_back-back.new.self) p old.positions.stored c.cut_after.new.self.stored
     c.requires.good (sym c.in-Some.ensures) (c.in_ok-request.ensures.ok c.in-None.is)
@@ -120,7 +116,7 @@ returns-in-None-clause-back g c =
         count = back.count ∙ sym c.count-start.ensures;
         records = subst (λ (v : World). GoesOn v.records w.records) (sym (c.in_ok-request.ensures.ok c.in-None.is ∙ good_back b m w p found)) found.grown.records;
         none = ap (seats_held (λ b. (g.dyn-1.0.entry b.vtable).1)) c.clear.ensures;
-        needs_none = subst (λ k. needed_by b m (Some k) (kept_back b m k (standing_in (λ b. (g.dyn-1.0.entry b.vtable).1) old)) ≡ None) (sym c.count-start.ensures) (sym (without ∙ back_needs b m w p ss xs found none));
+        needs_none = subst (λ k. needed_back b m k (kept_back b m k (standing_in (λ b. (g.dyn-1.0.entry b.vtable).1) old)) ≡ None) (sym c.count-start.ensures) (sym (without ∙ back_needs b m w p ss found));
         positions = c.cut_after.ensures;
       },
     )

@@ -1,16 +1,22 @@
-use Rattle.std.proofs.Common.{refl, ap, ◌∙◌, rules}
-use Rattle.desk_answers.specs.Turns.{editing_at}
+use Rattle.std.proofs.Common.{refl, sym, subst, rules}
+use Rattle.edit_session.specs.Editing.{Editing}
 use Rattle.module_network.specs.Library.{library}
-use Rattle.desk_server.specs.Serving.{seen_in}
-use Rattle.desk_server.proofs.ServingTurns.{goes_on_last, memory_turn, supplied_turn}
-use Rattle.desk_server.proofs.Telling.{serves_told}
+use Rattle.desk_server.specs.Serving.{seen, seen_in, IsHeldAt, IsNextServing}
+use Rattle.desk_server.proofs.ServingTurns.{supplied_turn}
 use Rattle.desk_server.proofs.serving.Server.supply.Goals as goal
 
+pub give_up-requires-clause-going : goal.give_up-requires-clause-going
+give_up-requires-clause-going g c = subst (λ (e : Editing). IsHeldAt c.args.self.now.running e) (sym c.in-Err.ensures.err.1) c.requires.going
+
 pub returns-in-NoMemory : goal.returns-in-NoMemory
-returns-in-NoMemory g c = serves_told c.out_of_memory.ensures c.out_of_memory.ensures.stops c.supply.ensures.sound (search rules)
-    (memory_turn library (seen_in (λ b. (g.dyn-1.0.entry b.vtable).1) g.K.Client.asked g.K.Client.heard g.K.Client.left c.args.self.now)
-    (seen_in (λ b. (g.dyn-1.0.entry b.vtable).1) g.K.Client.asked g.K.Client.heard g.K.Client.left c.out_of_memory.new.self) c.out_of_memory.result c.args.self.now.desk.session.runner.positions
-    c.requires.going c.requires.sound.kept.undone (goes_on_last library (λ b. (g.dyn-1.0.entry b.vtable).1) c.args.self.now.desk.session c.requires.sound) refl (ap (editing_at (λ b. (g.dyn-1.0.entry b.vtable).1)) c.out_of_memory.ensures.desk ∙ c.in-Err.ensures.err.1) c.out_of_memory.ensures.asked c.out_of_memory.ensures.left c.out_of_memory.ensures.running c.out_of_memory.ensures.heard)
+returns-in-NoMemory g c = record {
+  kept = c.give_up.ensures.kept;
+  label = c.give_up.ensures.label;
+  stops = c.give_up.ensures.stops;
+  sound = c.give_up.ensures.sound;
+  comes = subst (λ (e : Editing). IsNextServing library (seen e (g.K.Client.asked c.args.self.now.client) (g.K.Client.heard c.args.self.now.client) (g.K.Client.left c.args.self.now.client) c.args.self.now.running)
+      (seen_in (λ b. (g.dyn-1.0.entry b.vtable).1) g.K.Client.asked g.K.Client.heard g.K.Client.left c.give_up.new.self) c.give_up.result) c.in-Err.ensures.err.1 c.give_up.ensures.comes;
+}
 
 pub returns-in-Ok : goal.returns-in-Ok
 returns-in-Ok g c = record {

@@ -9,7 +9,7 @@ pub returns-in-Some-clause-sound : goal.returns-in-Some-clause-sound
 returns-in-Some-clause-sound g c =
     let runner = c.args.self.now.runner in
     record {
-      kept = kept_declined g.C.Catalogue.behaviour g.C.Catalogue.lawful (boxes_in (λ b. (g.dyn-1.0.entry b.vtable).1) runner.kernel) (waiting_in (λ b. (g.dyn-1.0.entry b.vtable).1) runner) (world_in (λ b. (g.dyn-1.0.entry b.vtable).1) runner.kernel) c.args.self.now.model c.args.self.now.phase (option_map completed_of c.args.self.now.done) c.args.self.now.known c.args.self.now.runner.positions c.in-Some.field-0
-          c.requires.sound.kept (sym c.wanted_id.ensures ∙ c.in-Some.is) c.requires.unknown;
+      kept = kept_declined g.C.Catalogue.behaviour g.C.Catalogue.lawful (boxes_in (λ b. (g.dyn-1.0.entry b.vtable).1) runner.kernel) (waiting_in (λ b. (g.dyn-1.0.entry b.vtable).1) runner) (world_in (λ b. (g.dyn-1.0.entry b.vtable).1) runner.kernel) c.args.self.now.model c.args.self.now.phase c.declined_at-self.result (option_map completed_of c.args.self.now.done) c.args.self.now.known c.args.self.now.runner.positions c.in-Some.field-0
+          c.requires.sound.kept (sym c.wanted_id.ensures ∙ c.in-Some.is) c.requires.unknown c.declined_at-self.ensures;
       shown = c.requires.sound.shown;
     }

@@ -1,0 +1,47 @@
+use Rattle.std.proofs.Common.{◌≡◌, ◌&&◌, false, nat_lt, subst}
+use Rattle.checkpoints.specs.Stored.{counts_in}
+use Rattle.kernel.specs.Kernels.{world_in}
+use Rattle.run_semantics.specs.Run.{run_to}
+use Rattle.checkpoint_runs.specs.Kept.{standing_in, supplied_in, waiting_in}
+use Rattle.checkpoint_runs.specs.Positions.{HasBegun, HasLeft}
+use Rattle.checkpoint_runs.specs.declared.phases.Stood.TheVariants as stood
+use Rattle.checkpoint_runs.proofs.Advancing.{at_the_limit, goes_there, not_declined, onwards_progress, refused_ended}
+use Rattle.checkpoint_runs.proofs.running.Runner.go_on.Goals as goal
+use Rattle.checkpoint_runs.proofs.running.Runner.go_on.Goals.{else-at-via-then-at+else-at-limit, else-at-via-else-at}
+
+-- the run of the model goes on from there
+pub run_on-requires-clause-going : goal.run_on-requires-clause-going
+run_on-requires-clause-going g c = goes_there g.C.Catalogue.behaviour g.M.ModelMarker.answers (λ b. (g.dyn-1.0.entry b.vtable).1) c.args.limit c.args.at c.args.self.now c.requires.waited c.requires.good
+
+pub run_on-requires-clause-first : goal.run_on-requires-clause-first
+run_on-requires-clause-first g c = c.requires.waited.paused.first
+
+pub returns-in_err-status-clause-stopped : goal.returns-in_err-status-clause-stopped
+returns-in_err-status-clause-stopped g c =
+    let b = g.C.Catalogue.behaviour in
+    let m = g.M.ModelMarker.answers in
+    subst (λ n. HasBegun b m c.args.limit n (counts_in c.args.self.now.positions) c.run_on.new.self.stood (counts_in c.run_on.new.self.positions)) c.requires.waited.paused.count c.run_on.ensures.stopped
+
+pub returns-clause-advances : goal.returns-clause-advances
+returns-clause-advances g c = λ setup.
+    let b = g.C.Catalogue.behaviour in
+    let m = g.M.ModelMarker.answers in
+    let old = c.args.self.now in
+    let h = c.requires.waited in
+    let going : (c.args.at.declined && nat_lt c.args.at.count c.args.limit) ≡ false = elim c.else-at.branch [ else-at-via-then-at+else-at-limit w ↦ at_the_limit c.args.at.declined c.args.at.count c.args.limit w.if-at-limit.false | else-at-via-else-at w ↦ not_declined c.args.at.declined (nat_lt c.args.at.count c.args.limit) w.if-at.false ] in
+    rw (c.progress_of.ensures, c.count.ensures)
+    (onwards_progress b m (λ b. (g.dyn-1.0.entry b.vtable).1) c.args.limit c.args.at setup (standing_in (λ b. (g.dyn-1.0.entry b.vtable).1) old) (record old { stood = stood.After c.args.at.count }) c.run_on.new.self c.in_ok-status.status going h.paused.count h.began c.in_ok-status.ensures.ran)
+
+pub returns-then-at-limit-clause-advances : goal.returns-then-at-limit-clause-advances
+returns-then-at-limit-clause-advances g c = λ setup.
+    let b = g.C.Catalogue.behaviour in
+    let m = g.M.ModelMarker.answers in
+    let old = c.args.self.now in
+    let new = c.run_refused.new.self in
+    let h = c.requires.waited in
+    let left = subst (λ n. HasLeft n (counts_in old.positions) (counts_in new.positions) (run_to b m c.args.limit)) h.paused.count c.in_ok-outcome.ensures.left in
+    refused_ended b m c.args.limit c.args.at setup (standing_in (λ b. (g.dyn-1.0.entry b.vtable).1) old) (supplied_in (λ b. (g.dyn-1.0.entry b.vtable).1) old) (counts_in old.positions) (counts_in new.positions) (world_in (λ b. (g.dyn-1.0.entry b.vtable).1) new.kernel) (waiting_in (λ b. (g.dyn-1.0.entry b.vtable).1) new) c.in_ok-outcome.outcome c.if-at.true h.began c.in_ok-outcome.ensures.ran left c.in_ok-outcome.ensures.none
+
+-- its box was declined
+pub run_refused-requires-clause-going : goal.run_refused-requires-clause-going
+run_refused-requires-clause-going g c = goes_there g.C.Catalogue.behaviour g.M.ModelMarker.answers (λ b. (g.dyn-1.0.entry b.vtable).1) c.args.limit c.args.at c.args.self.now c.requires.waited c.requires.good
