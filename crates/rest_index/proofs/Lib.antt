@@ -1,0 +1,4 @@
+pub mod Lists
+mod Going
+pub mod Notes
+mod Back
