@@ -4,6 +4,7 @@ ghost use Rattle.param_engine.specs.Tables.{IsKept};
 ghost use Rattle.inside_keys.specs.Values.{rules_of};
 ghost use Rattle.model_settings.specs.Standings.{setting_of};
 
+use crate::creators::may_create;
 use crate::modules::module_of;
 use crate::paths::{MOST_TRIES, Paths};
 use explain_types::names::shown;
@@ -202,13 +203,17 @@ pub fn names_in(alloc: Global, types: &[TypeDeclaration]) -> Result<Paths, NoMem
 }
 
 /// What keys can be for in a model of these types, of an ini text of so many lines: by paths where
-/// they are known, or else by the names that the types declare.
+/// they are known, or else by the names that the types declare. Paths of modules that others create
+/// are not known.
 pub fn paths_in(
     alloc: Global,
     model: &Model,
     types: &[TypeDeclaration],
     lines: usize,
 ) -> Result<Paths, NoMemory> {
+    if may_create(alloc, model)? {
+        return names_in(alloc, types);
+    }
     match paths_of(alloc, model, lines)? {
         Some(mut paths) => {
             paths.push_open(types)?;

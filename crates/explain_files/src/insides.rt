@@ -34,7 +34,7 @@ fn words_of_value(fault: ValueFault) -> &'static str {
 }
 
 /// What a fault of an inside says, and what would be right.
-fn words_of(fault: ModelFault) -> &'static str {
+pub fn words_of(fault: ModelFault) -> &'static str {
     match fault {
         ModelFault::Value(fault) => words_of_value(fault),
         ModelFault::UnknownType =>

@@ -6,6 +6,8 @@
 
 mod built;
 mod configurations;
+mod created;
+mod creators;
 mod ends;
 mod foreign;
 mod given;

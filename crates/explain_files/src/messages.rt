@@ -1,5 +1,6 @@
 //! Where messages from outside arrive.
 
+use crate::creators::may_create;
 use crate::modules::module_of;
 use explain_types::explanation::Explanation;
 use explain_types::names::shown;
@@ -27,7 +28,7 @@ enum PathEnd {
     Simple,
     Compound,
     Nothing,
-    /// What is around it has a fault.
+    /// What is around it has a fault, or modules may be created there.
     Unknown,
 }
 
@@ -131,10 +132,18 @@ fn standing_around(
     Ok(PathEnd::Nothing)
 }
 
-/// What stands at a path.
-fn standing_at(alloc: Global, setting: &ModelSetting<'_>, path: &str) -> Result<PathEnd, NoMemory> {
-    if !is_in_network(setting.model(), path) {
+/// What stands at a path. Where modules may be created in the network it is not known.
+fn standing_at(
+    alloc: Global,
+    setting: &ModelSetting<'_>,
+    path: &str,
+    creates: bool,
+) -> Result<PathEnd, NoMemory> {
+    if !is_in_network(setting.model(), path) || !is_path(alloc, path)? {
         return Ok(PathEnd::Nothing);
+    }
+    if creates {
+        return Ok(PathEnd::Unknown);
     }
     match typed_at(alloc, setting, path)? {
         PathEnd::Nothing => standing_around(alloc, setting, path.as_bytes()),
@@ -145,9 +154,6 @@ fn standing_at(alloc: Global, setting: &ModelSetting<'_>, path: &str) -> Result<
 /// What the type of the module of a path says that stands there. No more of the model is looked at
 /// than that rests on.
 fn typed_at(alloc: Global, setting: &ModelSetting<'_>, path: &str) -> Result<PathEnd, NoMemory> {
-    if !is_path(alloc, path)? {
-        return Ok(PathEnd::Nothing);
-    }
     let mut table = empty_table(alloc, setting);
     let site = module_of(alloc, path.as_bytes())?;
     let key = Key {
@@ -184,6 +190,16 @@ fn tell_standing(told: &mut Explanation, path: &[u8], standing: PathEnd) {
 #[derive(Drop)]
 pub struct MessageModel {
     model: Option<Model>,
+    /// Modules may be created in its network.
+    creates: bool,
+}
+
+/// Whether modules may be created in the network of a model, where there is one.
+fn creates_in(alloc: Global, model: &Option<Model>) -> Result<bool, NoMemory> {
+    match model {
+        Some(model) => may_create(alloc, model),
+        None => Ok(false),
+    }
 }
 
 impl MessageModel {
@@ -194,16 +210,17 @@ impl MessageModel {
             Ok(model) => Some(model),
             Err(_) => None,
         };
-        Ok(MessageModel { model })
+        let creates = creates_in(alloc, &model)?;
+        Ok(MessageModel { model, creates })
     }
 
     /// What is said of a message to that path: that it is discarded, where no simple module stands
-    /// there. Empty where one does, or the files make no model.
+    /// there. Empty where one does, or may be created, or the files make no model.
     pub fn discarded_line(&self, alloc: Global, path: &[u8]) -> Result<Text, NoMemory> {
         let mut told = Explanation::new(alloc);
         if let Some(model) = &self.model {
             let setting = ModelSetting::new(alloc, model)?;
-            let standing = standing_at(alloc, &setting, shown(path))?;
+            let standing = standing_at(alloc, &setting, shown(path), self.creates)?;
             tell_standing(&mut told, path, standing);
         }
         told.said()

@@ -1,5 +1,6 @@
 //! Why a run ended with a fault.
 
+use crate::created::{is_created, tell_created};
 use crate::given::entry_giving;
 use crate::insides::{fault_of, tell_inside};
 use crate::kinds::{kind_of, kind_of_value, literal_in, say_unit};
@@ -525,8 +526,8 @@ fn tell_classes(told: &mut Explanation, of: &TypeDeclaration, classes: &[&[u8]])
     told.say_list(classes);
 }
 
-/// What led to a fault, where it is one of a message that a simple module sends.
-fn why_not_sent(fault: &RunFault) -> Option<&'static str> {
+/// What led to a fault, where it is one of what a simple module does.
+fn why_not_done(fault: &RunFault) -> Option<&'static str> {
     Some(match fault {
         RunFault::NotConnected =>
             "the connections of the gate through which it sends lead to no simple module",
@@ -536,8 +537,14 @@ fn why_not_sent(fault: &RunFault) -> Option<&'static str> {
             "more than one channel on the way of its message has a datarate",
         RunFault::Busy =>
             "its message reaches a channel before the transmission of an earlier one has ended: a higher datarate, shorter messages or longer gaps",
-        RunFault::AlreadyConnected => "it sends directly to a gate to which something is connected",
-        RunFault::NoModule => "it sends directly to a path at which there is no module",
+        RunFault::AlreadyConnected =>
+            "it sends directly to a gate to which something is connected, or joins one that is connected already",
+        RunFault::NoModule =>
+            "no module that it could mean stands at a path that it names: one to send to, to join or to free a gate of, or to delete, or a compound one to create another in",
+        RunFault::DuplicateName =>
+            "a module that it creates has the name, and the index if it has one, of a module beside it",
+        RunFault::BadName =>
+            "the name of a module that it creates is no name of NED; or that of a scalar that it records is empty, longer than 255 bytes, or has a byte that is no visible ASCII character, or a quote or backslash",
         RunFault::PayloadTooLarge => "a message that it sends has more than 4,096 bytes",
         _ => return None,
     })
@@ -571,7 +578,7 @@ fn tell_of_call(
     of: &TypeDeclaration,
     classes: &[&[u8]],
 ) -> bool {
-    if let (TypeKind::Simple, Some(why)) = (of.kind, why_not_sent(fault.fault)) {
+    if let (TypeKind::Simple, Some(why)) = (of.kind, why_not_done(fault.fault)) {
         told.say_front(fault.path.as_bytes());
         told.say(": ");
         told.say(why);
@@ -609,6 +616,57 @@ fn is_no_gate(fault: &RunFault) -> bool {
     )
 }
 
+/// Says what is wrong with the inside of the module at the path of a fault, of that type if it has
+/// one, or with the module itself among others.
+fn tell_of_inside(
+    told: &mut Explanation,
+    sources: &Sources<'_>,
+    answers: &PlainAnswers<'_>,
+    fault: ToldFault<'_>,
+    of: Option<&TypeDeclaration>,
+) -> Result<(), NoMemory> {
+    match fault_of(fault.fault) {
+        Some(kind) if sources.has_other_connections => {
+            tell_inside(told, fault.path, kind);
+            Ok(())
+        }
+        Some(kind) => tell_fault_inside(told, sources, answers, fault, kind, of),
+        None => Ok(()),
+    }
+}
+
+/// Says what led to a fault of the module that was found at its path.
+fn tell_built(
+    told: &mut Explanation,
+    sources: &Sources<'_>,
+    it: &Found<'_>,
+    fault: ToldFault<'_>,
+    classes: &[&[u8]],
+) -> Result<(), NoMemory> {
+    if is_no_gate(fault.fault) && tell_misplaced(told, sources, it.answers, fault, it.of)? {
+        return Ok(());
+    }
+    if tell_own(told, sources, it, fault, classes)? {
+        return Ok(());
+    }
+    tell_of_inside(told, sources, it.answers, fault, Some(it.of))
+}
+
+/// Says what led to a fault of a path at which the model has no module.
+fn tell_unbuilt(
+    told: &mut Explanation,
+    sources: &Sources<'_>,
+    answers: &PlainAnswers<'_>,
+    fault: ToldFault<'_>,
+    classes: &[&[u8]],
+) -> Result<(), NoMemory> {
+    if is_created(told.alloc(), answers, fault.path.as_bytes())? {
+        tell_created(told, fault, classes);
+        return Ok(());
+    }
+    tell_of_inside(told, sources, answers, fault, None)
+}
+
 /// Says what led to a fault of the module that was found at its path, if one was.
 fn tell_found(
     told: &mut Explanation,
@@ -618,23 +676,9 @@ fn tell_found(
     fault: ToldFault<'_>,
     classes: &[&[u8]],
 ) -> Result<(), NoMemory> {
-    let mut of = None;
-    if let Some(it) = found {
-        if is_no_gate(fault.fault) && tell_misplaced(told, sources, answers, fault, it.of)? {
-            return Ok(());
-        }
-        if tell_own(told, sources, &it, fault, classes)? {
-            return Ok(());
-        }
-        of = Some(it.of);
-    }
-    match fault_of(fault.fault) {
-        Some(kind) if sources.has_other_connections => {
-            tell_inside(told, fault.path, kind);
-            Ok(())
-        }
-        Some(kind) => tell_fault_inside(told, sources, answers, fault, kind, of),
-        None => Ok(()),
+    match found {
+        Some(it) => tell_built(told, sources, &it, fault, classes),
+        None => tell_unbuilt(told, sources, answers, fault, classes),
     }
 }
 

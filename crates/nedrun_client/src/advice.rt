@@ -18,12 +18,13 @@ use std::rt::Files;
 use std::{fs, io};
 
 /// The classes that the program has modules of.
-const CLASSES: [&[u8]; 13] = [
+const CLASSES: [&[u8]; 14] = [
     b"Tick",
     b"Source",
     b"Queue",
     b"Sink",
     b"Router",
+    b"Spawner",
     b"Generator",
     b"Meter",
     b"L2Queue",
