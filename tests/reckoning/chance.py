@@ -3,6 +3,7 @@ import pathlib
 import random
 import re
 
+from coming import Coming
 from protocols import SIGNALS, VALUES, Protocols
 
 # The declarations of the modules, as users have them, without the comments.
@@ -16,14 +17,16 @@ PARTS = [("cells",), ("cells",), ("flow",), ("flow",), ("mesh",), ("mesh",), ("c
 PARTS += [("transfer",), ("transfer",), ("lan",), ("lan",), ("ring",), ("ring",), ("row",), ("row",), ("transfer", "lan"), ("cells", "ring"), ("mesh", "row")]
 
 
-class Maker(Protocols):
-    """Makes the texts of one network, `ned` and `ini`, and command lines of a session."""
+class Maker(Protocols, Coming):
+    """Makes the texts of one network, `ned` and `ini`, and command lines of a session: of one in which modules come and go, or of one in which they stay."""
 
-    def __init__(self, number):
-        self.dice, self.types, self.subs, self.wires, self.routers, self.paths = random.Random(number), [], [], [], [], []
-        self.keys, self.made, self.files, self.selected, self.hears = [], set(), {}, "General", []
-        for part in self.dice.choice(PARTS):
+    def __init__(self, number, comes=False):
+        self.dice, self.types, self.subs, self.wires, self.routers, self.paths = random.Random(f"{number} comes" if comes else number), [], [], [], [], []
+        self.keys, self.made, self.files, self.selected, self.hears, self.inside, self.comers = [], set(), {}, "General", [], [], []
+        for part in self.dice.choice(PARTS) if not comes or self.likely(3) else ():
             getattr(self, part)()
+        if comes:
+            self.coming()
         self.write()
 
     # ---- small choices
@@ -58,6 +61,7 @@ class Maker(Protocols):
 
     def write(self):
         inner = [it.replace("1kbps", "8bps").replace("250ms", "300ms") for it in self.types if it.startswith("channel") and self.likely(5)]
+        inner += [it for it in self.inside if it]
         if self.likely(1):
             self.odd()
         parts = ["parameters: int few = default(2); double far @unit(s) = default(300ms); int c = default(1); double g @unit(s) = default(1s);" + self.statistics()]
@@ -234,6 +238,8 @@ class Maker(Protocols):
             return self.one(*TIMES, "2 * 250ms", "1s + 500ms")
         if key in VALUES:
             return self.one(*VALUES[key], *(["default"] if self.likely(2) else []))
+        if key == "polite":
+            return self.one("true", "false", "default")
         if key == "typename":
             return self.one('"Fast"', '"Fast"', '"Group"', '"Named"', '"Tick"', "default")
         if key in ("datarate", "r", "disabled"):
@@ -277,7 +283,7 @@ class Maker(Protocols):
         made, number, sent, held = [], self.general, 0, []
         for _ in range(self.dice.randint(1, 4)):
             how = self.dice.randrange(8)
-            if (self.routers or self.hears) and how < 3:
+            if (self.routers or self.hears or self.comers) and how < 3:
                 sent += 1
                 held.append(sent)
                 made.append(self.message())
@@ -296,8 +302,8 @@ class Maker(Protocols):
             elif self.keys:
                 made.append(f"ini insert {self.dice.randint(3, number + 1)} {self.recording() if self.likely(2) or not self.paths else self.line()}")
                 number += 1
-            made += [f"run {self.one(2, 5, 40, 80, 100)}"] * self.likely(8)
-        return made + ["run 100", "positions"]
+            made += [f"run {self.one(*(range(1, 8) if self.comers else (2, 5, 40, 80, 100)))}"] * self.likely(8)
+        return made + [f"run {self.one(1, 2, 3, 4, 100, 100) if self.comers else 100}", "positions", "held"]
 
     def file(self):
         """A file with something changed. Connections that were edited are gone with its old text."""
@@ -314,6 +320,8 @@ class Maker(Protocols):
         return f"ned {number} {name}"
 
     def message(self):
+        if self.comers and (not (self.routers or self.hears) or self.likely(5)):
+            return f"inject {self.one(*self.comers)} {self.one(*TIMES)} {self.one(-32768, -1, 0, 0, 1)} 0 {self.one(0, 8, 1000)} -"
         if self.hears and (not self.routers or self.likely(5)):
             return self.told(TIMES)
         payload = bytes(self.dice.randrange(3) for _ in range(self.dice.randrange(5))).hex() or "-"

@@ -41,21 +41,21 @@ MAKES = {"count": len, "sum": sum, "min": min, "max": max, "last": lambda it: it
 def scalars_of(world, module):
     """The scalars of a module with their values: those that it recorded, and then those of its statistics."""
     yield from (it[1:] for it in world.scalars if it[0] is module)
-    for name, source, modes in statistics(world, module) if world.finished else []:
+    for name, source, modes in statistics(world, module) if module.finished else []:
         values = [world.emitted[it][4] for it in heard(world, module, source)]
         yield from ((f"{name}:{mode}", MAKES[mode](values)) for mode in modes if mode != "vector" and (values or mode in ("count", "sum")))
 
 
 def scalar_file(world):
     lines, ini = header(world), world.model.ini
-    for module in world.modules:
+    for module in world.parts:
         lines += [f"scalar {module.path} {name} {value}" for name, value in scalars_of(world, module) if ini.is_on(f"{module.path}.{name}", "scalar-recording")]
     return "\n".join(lines) + "\n"
 
 
 def vector_file(world):
     lines, data, number = header(world), {}, 0
-    for module, name, source, modes in ((module, *it) for module in world.modules for it in statistics(world, module)):
+    for module, name, source, modes in ((module, *it) for module in world.parts for it in statistics(world, module)):
         places = list(heard(world, module, source))
         if "vector" in modes and places and world.model.ini.is_on(f"{module.path}.{name}:vector", "vector-recording"):
             lines.append(f"vector {number} {module.path} {name}:vector ETV")

@@ -40,7 +40,7 @@ class Flat:
     def __init__(self, kind, name):
         self.kind, self.name, self.root = kind, name, name
         self.parameters, self.gates, self.statistics, self.subs, self.items, self.likes = {}, {}, {}, [], [], []
-        self.allows, self.class_, self.odd = False, None, False
+        self.allows, self.class_, self.odd, self.home = False, None, False, None
 
     def copy(self, name):
         made = Flat(self.kind, name)
@@ -105,7 +105,7 @@ class Types:
             flat = self.flat(base).copy(made.name) if base else Flat(made.kind, made.name)
             if base and (base.kind == "simple") != (made.kind == "simple") or base and (base.kind == "channel") != (made.kind == "channel"):
                 self.refuse(made, "another kind")
-        flat.kind = made.kind
+        flat.kind, flat.home = made.kind, made
         flat.class_ = next((it[1] for it in made.lines if it[0] == "class"), None) or flat.class_ or made.name
         self.add_lines(flat, made)
         for direction, name, vector, size, loose in made.gates:
@@ -189,20 +189,22 @@ class Types:
 
 
 class Module:
-    """A module that the model has, or a channel, which has parameters too."""
+    """A module that the model has, by where it stands, or that is created in one, with its plan: the name of its type, values and sizes."""
 
-    def __init__(self, name, index, parent, flat, line):
-        self.name, self.index, self.parent, self.type, self.line = name, index, parent, flat, line
+    def __init__(self, name, index, parent, flat, line, plan=None):
+        self.name, self.index, self.parent, self.type, self.line, self.plan = name, index, parent, flat, line, plan
         own = name if index is None else f"{name}[{index}]"
         self.path = f"{parent.path}.{own}" if parent else own
         self.depth = parent.depth + 1 if parent else 1
         self.values = {it[1]: it[2:] for it in (line.values if line else [])}
+        self.given, self.sizes = (dict(it) for it in (plan or ((), (), ()))[1:])
         self.place = (name, index)
+        self.site = (*(parent.site if parent else ()), (name, index, plan))
 
 
 class Channel:
     def __init__(self, path, flat, values, around):
-        self.path, self.type, self.around = path, flat, around
+        self.path, self.type, self.around, self.site, self.given = path, flat, around, (around.site, path), {}
         self.values = {it[1]: it[2:] for it in values}
 
 
@@ -314,7 +316,7 @@ class Model:
     # ---- parameters
     def parameter(self, owner, name):
         declared = owner.type.parameters.get(name)
-        return self.once(("parameter", owner.path, name), lambda: self.found(owner, name, declared)) if declared else self.unassigned()
+        return self.once(("parameter", owner.site, name), lambda: self.found(owner, name, declared)) if declared else self.unassigned()
 
     def found(self, owner, name, declared):
         value = self.chosen(owner, name, declared)
@@ -323,6 +325,8 @@ class Model:
         return value
 
     def chosen(self, owner, name, declared):
+        if name in owner.given:
+            return owner.given[name]
         is_default, body = owner.values.get(name, (None, None))
         if declared.fixed:
             return self.value(declared.fixed, self.type_scope(owner))
@@ -347,10 +351,10 @@ class Model:
     def is_there(self, module, line):
         if not line.condition:
             return True
-        return self.once(("condition", module.path, line.name), lambda: truth(self.value(line.condition, own_scope(module, True))))
+        return self.once(("condition", module.site, line.name), lambda: truth(self.value(line.condition, own_scope(module, True))))
 
     def count(self, module, line):
-        return self.once(("count", module.path, line.name), lambda: self.counted(whole(self.value(line.size, own_scope(module, True)))))
+        return self.once(("count", module.site, line.name), lambda: self.counted(whole(self.value(line.size, own_scope(module, True)))))
 
     def counted(self, size):
         if size < 0:
@@ -360,12 +364,12 @@ class Model:
         return size
 
     def submodule(self, module, line, at):
-        key = (module.path, line.name, at)
+        key = (module.site, line.name, at)
         if key not in self.modules:
             if module.depth == DEEPEST:
                 raise Fault("TooDeep")
             made = Module(line.name, at, module, None, line)
-            made.type = self.once(("type", made.path), lambda: self.chosen_type(module, line, made))
+            made.type = self.once(("type", made.site), lambda: self.chosen_type(module, line, made))
             self.modules[key] = made
         return self.modules[key]
 
@@ -398,6 +402,30 @@ class Model:
             raise Fault("Mismatch")
         return value[1].decode()
 
+    # ---- what is created
+    def created(self, around, name, index, plan):
+        """What is created in a compound module as planned, where its plan names a type."""
+        key = (around.site, name, index, plan)
+        if key not in self.modules:
+            if around.depth == DEEPEST:
+                raise Fault("TooDeep")
+            self.modules[key] = Module(name, index, around, self.planned_type(around, plan[0]), None, plan)
+        return self.modules[key]
+
+    def planned_type(self, around, told):
+        names = told.split(".")
+        found = self.types.find(names[-1], around.type.home)
+        if not all(NAME.fullmatch(it) and it not in WORDS for it in names) or not found or found.kind not in ("simple", "module", "network"):
+            raise Fault("UnknownType")
+        return self.types.flat(found)
+
+    def look_at_created(self, made):
+        if not set(made.given) <= set(made.type.parameters):
+            raise Fault("Mismatch")
+        if any(it not in made.type.gates or not made.type.gates[it].vector for it in made.sizes):
+            raise Fault("NoGate")
+        self.look_at_values(made)
+
     def elements(self, module, line):
         """The indices of what a line makes: none for one submodule."""
         if not self.is_there(module, line):
@@ -406,13 +434,15 @@ class Model:
 
     # ---- gates
     def declared_size(self, module, name):
-        return self.once(("gate", module.path, name), lambda: self.gate_size(module, module.type.gates[name], name))
+        return self.once(("gate", module.site, name), lambda: self.gate_size(module, module.type.gates[name], name))
 
     def gate_size(self, module, gate, name):
         if not gate.vector:
             return 1
         given = [it for it in (module.line.gates if module.line else []) if it[1] == name and it[3]]
-        if given:
+        if name in module.sizes:
+            size = module.sizes[name]
+        elif given:
             size = whole(self.value(given[-1][3], self.body_scope(module)))
         else:
             size = whole(self.value(gate.size, own_scope(module, True))) if gate.size else 0
@@ -428,12 +458,12 @@ class Model:
         return {name: self.declared_size(module, name) for name in its}
 
     def finished_size(self, module, name):
-        if not module.parent or not module.type.gates[name].vector:
+        if not module.parent or module.plan is not None or not module.type.gates[name].vector:
             return self.declared_size(module, name)
         return self.wiring(module.parent).sizes[module.place, name]
 
     def wiring(self, module):
-        return self.once(("inside", module.path), lambda: self.wired(module, False))
+        return self.once(("inside", module.site), lambda: self.wired(module, False))
 
     def wired(self, module, with_channels):
         wiring = Wiring()
@@ -544,9 +574,9 @@ class Model:
 
     # ---- the whole inside of a module, with the path of what is at fault
     def inside_of(self, module):
-        if module.path not in self.insides:
-            self.insides[module.path] = self.inside(module)
-        return self.insides[module.path]
+        if module.site not in self.insides:
+            self.insides[module.site] = self.inside(module)
+        return self.insides[module.site]
 
     def inside(self, module):
         """The submodules of a module, and its connections."""

@@ -1,5 +1,5 @@
 """The stock modules: what each does when it is called."""
-from ned import NotReckoned
+SECOND = 10**12
 
 
 class Message:
@@ -28,13 +28,13 @@ class Outside(Message):
 class Call:
     """A call of a module, with what it read: `message` is none for a timer and at the start. What is read and absent, or wrong, is kept."""
 
-    def __init__(self, world, module, state, message):
-        self.world, self.module, self.state, self.message, self.now = world, module, state, message, world.now
-        self.starts, self.absent, self.wrong = world.count == 0 and world.event == 0, [], []
+    def __init__(self, world, part, message, starts):
+        self.world, self.part, self.state, self.message, self.now = world, part, part.state, message, world.now
+        self.starts, self.absent, self.wrong = starts, [], []
 
     def read(self, name, kind="whole", suits=lambda _: True, other=0):
         """The value of a parameter; another one, that stands for it, where it is absent or wrong."""
-        value = self.world.value(self.module, name)
+        value = self.world.value(self.part, name)
         if value is None:
             self.absent.append("NoParameter")
         elif value[0] != kind or not suits(value[1]):
@@ -54,7 +54,7 @@ class Call:
 
     def ports(self, name):
         """The size of an inout gate; none of it where it is absent or wrong."""
-        gate = self.world.ask("gate", self.module.path, name)
+        gate = self.world.ask("gate", self.part.module.site, name)
         if not gate:
             self.absent.append("NoGate")
         elif gate[0] != "inout":
@@ -65,8 +65,6 @@ class Call:
 
     def comes(self, gate):
         """Whether a message comes from outside, or from that gate, which is no half of another one."""
-        if self.message is not None and self.message.gate == gate and self.module.type.gates[gate].direction == "inout":
-            raise NotReckoned(f"a message from a half of {gate}")
         return isinstance(self.message, Outside) or self.message is not None and self.message.gate == gate
 
 
@@ -150,4 +148,23 @@ class Router:
         return [("fail", "route")], None
 
 
-CLASSES = {"Tick": Tick, "Source": Source, "Queue": Queue, "Sink": Sink, "Router": Router}
+class Spawner:
+    """Its state is how much it has done."""
+
+    initial = staticmethod(lambda: 0)
+
+    @staticmethod
+    def handle(call):
+        if call.starts:
+            return [("schedule", SECOND, 0)], 0
+        if call.message or call.state == 2:
+            return [], call.state
+        around = call.part.path.rpartition(".")[0]
+        makes = ("create", around, "w", None, ("Sink", (), ()))
+        if call.state == 0:
+            delay = call.time("delay")
+            return [makes, ("send_direct", f"{around}.w", "in", 0, Message(0, 0, 8, b""), delay, 0), ("schedule", SECOND, 0)], 1
+        return [("delete", f"{around}.w", call.read("polite", "truth", other=False)), makes], 2
+
+
+CLASSES = {it.__name__: it for it in (Tick, Source, Queue, Sink, Router, Spawner)}

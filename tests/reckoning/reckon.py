@@ -123,5 +123,9 @@ class Session:
         number = f" injection {edited.number}" if line.startswith("inject") else ""
         return f"edited valid {'none' if valid is None else valid}{number}"
 
+    def held(self):
+        """How many boxes there are, which is as the last run left it."""
+        return f"held {self.last.world.held() if self.last else 0}"
+
     def sorted(self, texts):
         return sorted(texts.messages, key=lambda it: (it.time, it.priority, it.number))

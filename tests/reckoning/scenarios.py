@@ -23,6 +23,8 @@ def play(text):
             out.append(getattr(session.last, line) if has_files else "no file\n")
         elif line == "positions":
             out.append("positions " + (" ".join(map(str, session.positions)) or "none") + "\n")
+        elif line == "held":
+            out.append(session.held() + "\n")
         elif re.fullmatch(r"run \d+", line):
             out.append(session.run(int(line[4:])) + "\n")
             has_files = True
