@@ -1,3 +1,4 @@
 pub mod Clerk
 pub mod Wire
 pub mod Reaper
+pub mod Maker

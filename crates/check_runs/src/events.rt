@@ -37,7 +37,7 @@ fn set_timer(events: &mut EventSet, row: Row) -> Result<bool, NoMemory>
 fn timer_of(event: &Pending) -> Option<u32> {
     match &event.what {
         Happening::Timer(timer, _) => Some(*timer),
-        Happening::Arrival(_, _, _) | Happening::Delivery(_) => None,
+        Happening::Arrival(_, _, _) | Happening::Delivery(_) | Happening::Start(_) => None,
     }
 }
 
@@ -258,7 +258,7 @@ fn mixed_events(alloc: Global) -> Result<EventSet, NoMemory>
 /// The payload of a message that arrives.
 fn payload_of(event: Pending) -> Option<Text> {
     match event.what {
-        Happening::Timer(_, _) | Happening::Delivery(_) => None,
+        Happening::Timer(_, _) | Happening::Delivery(_) | Happening::Start(_) => None,
         Happening::Arrival(_, _, payload) => Some(payload),
     }
 }

@@ -1,11 +1,15 @@
 //! Tests of `event_set`, `module_stock`, `result_files`, scalars that modules record, gates that
-//! modules join and free, and modules that are deleted, apart from the crates that they test.
+//! modules join and free, and modules that are created and deleted, apart from the crates that they
+//! test.
 #![tactic(auto)]
 
 #[cfg(test)]
 mod events;
 #[cfg(test)]
 mod files;
+pub mod maker;
+#[cfg(test)]
+mod making;
 #[cfg(test)]
 mod modules;
 pub mod reaper;

@@ -237,6 +237,28 @@ fn sink_hears_its_gate_and_the_outside(rt: HostRuntime) -> Result<(), Fail> {
     Ok(())
 }
 
+/// The delay of a Spawner's message, and a number in the place of `polite`.
+const SPAWNING: [Row; 2] = [
+    Row("delay", Some(Dimension::Time), 5),
+    Row("polite", None, 1),
+];
+
+/// What it replies to its calls: it can't do its second step, and stays before it.
+const SPAWNED: [&str; 4] = [
+    ": timer0+1000000000000/0",
+    " delay: create net.w: Sink send net.w.in[0] 8+5 timer0+1000000000000/0",
+    " polite: fail=polite",
+    " polite: fail=polite",
+];
+
+#[test]
+fn spawner_spawns(rt: HostRuntime) -> Result<(), Fail> {
+    let alloc = rt.alloc();
+    let mut held = boxed(alloc, b"Spawner".as_slice())?;
+    let rows = SPAWNING.as_slice();
+    replies(&rt, alloc, &mut held, rows, SPAWNED.as_slice())
+}
+
 #[test]
 fn pulse_keeps_its_state(rt: HostRuntime) -> Result<(), Fail> {
     let alloc = rt.alloc();

@@ -41,7 +41,7 @@ impl Scripted for Reaper {
                 Ok(simply(alloc, actions))
             }
             Cue::Timer => {
-                delete(&mut actions, alloc, "N.h", false)?;
+                delete(&mut actions, alloc, "N.h".as_bytes(), false)?;
                 Ok(simply(alloc, actions))
             }
             Cue::Other => Ok(nothing(alloc)),

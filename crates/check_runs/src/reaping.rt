@@ -38,9 +38,9 @@ const NED: &str =
 const INI: &str = "[General]\nnetwork = N\n**.start = 2s\n**.count = 1\n**.bits = 8\n";
 
 /// A Sink that counts, in a counter that it shares with a test, how many of it are dropped.
-struct Mourned {
-    held: Player<Sink>,
-    drops: Rc<Cell<u64>>,
+pub struct Mourned {
+    pub held: Player<Sink>,
+    pub drops: Rc<Cell<u64>>,
 }
 
 impl Drop for Mourned {

@@ -28,14 +28,14 @@ pub struct Wire {
 fn from(alloc: Global) -> Result<GatePlace, NoMemory>
     ensures { IfOk result (λ place. place ≡ from) }
 {
-    gate_at(alloc, "N.s", "out", 0)
+    gate_at(alloc, "N.s".as_bytes(), "out", 0)
 }
 
 /// The gate to which it joins that.
 fn to(alloc: Global) -> Result<GatePlace, NoMemory>
     ensures { IfOk result (λ place. place ≡ to) }
 {
-    gate_at(alloc, "N.k", "in", 0)
+    gate_at(alloc, "N.k".as_bytes(), "in", 0)
 }
 
 /// So many milliseconds.

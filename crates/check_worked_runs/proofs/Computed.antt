@@ -6,6 +6,7 @@ use Rattle.ned_trees.specs.declared.declarations.TypeKind.TheVariants as kind
 use Rattle.sim_values.specs.declared.model_fault.ModelFault.{ModelFault}
 use Rattle.inside_keys.specs.declared.found.Found.{Found}
 use Rattle.inside_keys.specs.declared.key.Key.{Key}
+use Rattle.inside_keys.specs.declared.key.Module.{Module}
 use Rattle.inside_keys.specs.declared.key.What.TheVariants as what
 use Rattle.inside_keys.specs.Blamed.{placed}
 use Rattle.inside_keys.specs.Keys.{key}
@@ -15,64 +16,65 @@ use Rattle.model_data.specs.declared.model.Model.{Model}
 use Rattle.model_questions.specs.declared.answer.Answer.{Answer}
 use Rattle.model_questions.specs.declared.answer.Answer.TheVariants as answer
 use Rattle.model_questions.specs.Answers.{Answers}
-use Rattle.model_questions.specs.Records.{Lineage, path_along}
-use Rattle.model_settings.specs.Standings.{setting_of}
+use Rattle.model_questions.specs.Records.{Lineage}
 use Rattle.model_answers.specs.Answering.{answers_of}
 use Rattle.model_answers.specs.Insides.{built_answer, inside_answer, inside_by}
-use Rattle.model_answers.specs.Keyed.{module_at, param_answer, type_in, typed, value_answer}
+use Rattle.model_answers.specs.Keyed.{param_answer, type_in, typed, value_answer}
+use Rattle.model_answers.specs.Lines.{rules_at, site_of}
 use Rattle.check_worked_runs.proofs.Literals.{alike, asks_of, value_by, value_so}
 
 -- ---- answers where keys have these values
 
-abbrev pub value_with : (Key → Result Found ModelFault) → List ℕ → Option TypeDeclaration → List ℕ → Answer
-value_with values path None name = answer.Absent
-value_with values path (Some t) name = value_answer path (values (key (module_at path) (what.Param name)))
+abbrev pub value_with : (Key → Result Found ModelFault) → Module → Option TypeDeclaration → List ℕ → Answer
+value_with values at None name = answer.Absent
+value_with values at (Some t) name = value_answer at.path (values (key at (what.Param name)))
 
-abbrev pub found_with : (Key → Result Found ModelFault) → ModuleRules → List ℕ → Result Found (List ℕ × ModelFault)
-found_with values s path = placed values (module_at path) (s.stands (module_at path)).around (asking_of s (key (module_at path) what.Inside))
+abbrev pub found_with : (Key → Result Found ModelFault) → ModuleRules → Module → Result Found (List ℕ × ModelFault)
+found_with values s at = placed values at (s.stands at).around (asking_of s (key at what.Inside))
 
-abbrev pub inside_kind : (Key → Result Found ModelFault) → ModuleRules → List ℕ → TypeDeclaration → TypeKind → Answer
-inside_kind values s path t kind.Network = built_answer s path t (found_with values s path)
-inside_kind values s path t kind.Module = built_answer s path t (found_with values s path)
-inside_kind values s path t kind.Simple = answer.Absent
-inside_kind values s path t kind.Channel = answer.Absent
-inside_kind values s path t kind.ModuleInterface = answer.Absent
-inside_kind values s path t kind.ChannelInterface = answer.Absent
+abbrev pub inside_kind : (Key → Result Found ModelFault) → ModuleRules → Module → TypeDeclaration → TypeKind → Answer
+inside_kind values s at t kind.Network = built_answer s at t (found_with values s at)
+inside_kind values s at t kind.Module = built_answer s at t (found_with values s at)
+inside_kind values s at t kind.Simple = answer.Absent
+inside_kind values s at t kind.Channel = answer.Absent
+inside_kind values s at t kind.ModuleInterface = answer.Absent
+inside_kind values s at t kind.ChannelInterface = answer.Absent
 
-abbrev pub inside_with : (Key → Result Found ModelFault) → ModuleRules → List ℕ → Option TypeDeclaration → Answer
-inside_with values s path t = typed t (λ u. inside_kind values s path u u.kind)
+abbrev pub inside_with : (Key → Result Found ModelFault) → ModuleRules → Module → Option TypeDeclaration → Answer
+inside_with values s at t = typed t (λ u. inside_kind values s at u u.kind)
 
-value_same : (s : ModuleRules) (path : List ℕ) (t : Option TypeDeclaration) (name : List ℕ) → param_answer s path t name ≡ value_with (value_at s) path t name
-value_same s path None name = refl
-value_same s path (Some t) name = refl
+value_same : (s : ModuleRules) (at : Module) (t : Option TypeDeclaration) (name : List ℕ) → param_answer s at t name ≡ value_with (value_at s) at t name
+value_same s at None name = refl
+value_same s at (Some t) name = refl
 
-kind_same : (s : ModuleRules) (path : List ℕ) (t : TypeDeclaration) (k : TypeKind) → inside_by s path t k ≡ inside_kind (value_at s) s path t k
-kind_same s path t kind.Network = refl
-kind_same s path t kind.Module = refl
-kind_same s path t kind.Simple = refl
-kind_same s path t kind.Channel = refl
-kind_same s path t kind.ModuleInterface = refl
-kind_same s path t kind.ChannelInterface = refl
+kind_same : (s : ModuleRules) (at : Module) (t : TypeDeclaration) (k : TypeKind) → inside_by s at t k ≡ inside_kind (value_at s) s at t k
+kind_same s at t kind.Network = refl
+kind_same s at t kind.Module = refl
+kind_same s at t kind.Simple = refl
+kind_same s at t kind.Channel = refl
+kind_same s at t kind.ModuleInterface = refl
+kind_same s at t kind.ChannelInterface = refl
 
-inside_same : (s : ModuleRules) (path : List ℕ) (t : Option TypeDeclaration) → inside_answer s path t ≡ inside_with (value_at s) s path t
-inside_same s path None = refl
-inside_same s path (Some t) = kind_same s path t t.kind
+inside_same : (s : ModuleRules) (at : Module) (t : Option TypeDeclaration) → inside_answer s at t ≡ inside_with (value_at s) s at t
+inside_same s at None = refl
+inside_same s at (Some t) = kind_same s at t t.kind
 
 -- ---- the same, where literals compute
 
 values_are : (s : ModuleRules) → value_at s ≡ value_by (asks_of s)
 values_are s = alike (value_at s) (value_by (asks_of s)) (value_so s)
 
-value_is : (s : ModuleRules) (path : List ℕ) (t : Option TypeDeclaration) (name : List ℕ) → param_answer s path t name ≡ value_with (value_by (asks_of s)) path t name
-value_is s path t name = value_same s path t name ∙ ap (λ (v : Key → Result Found ModelFault). value_with v path t name) (values_are s)
+value_is : (s : ModuleRules) (at : Module) (t : Option TypeDeclaration) (name : List ℕ) → param_answer s at t name ≡ value_with (value_by (asks_of s)) at t name
+value_is s at t name = value_same s at t name ∙ ap (λ (v : Key → Result Found ModelFault). value_with v at t name) (values_are s)
 
-inside_is : (s : ModuleRules) (path : List ℕ) (t : Option TypeDeclaration) → inside_answer s path t ≡ inside_with (value_by (asks_of s)) s path t
-inside_is s path t = inside_same s path t ∙ ap (λ (v : Key → Result Found ModelFault). inside_with v s path t) (values_are s)
+inside_is : (s : ModuleRules) (at : Module) (t : Option TypeDeclaration) → inside_answer s at t ≡ inside_with (value_by (asks_of s)) s at t
+inside_is s at t = inside_same s at t ∙ ap (λ (v : Key → Result Found ModelFault). inside_with v s at t) (values_are s)
 
 -- the answers of a model, with these of what is inside and of values
 abbrev pub answers_with : Model → (Lineage → Answer) → (Lineage → List ℕ → Answer) → Answers
 answers_with m f g = record {
   root = (answers_of m).root;
+  class_there = (answers_of m).class_there;
   inside = f;
   names = (answers_of m).names;
   value = g;
@@ -84,10 +86,10 @@ answers_with m f g = record {
 }
 
 abbrev pub insides : Model → Lineage → Answer
-insides m p = inside_with (value_by (asks_of (setting_of m))) (setting_of m) (path_along p) (type_in (setting_of m) p)
+insides m p = inside_with (value_by (asks_of (rules_at m p))) (rules_at m p) (site_of p) (type_in (rules_at m p) p)
 
 abbrev pub values : Model → Lineage → List ℕ → Answer
-values m p name = value_with (value_by (asks_of (setting_of m))) (path_along p) (type_in (setting_of m) p) name
+values m p name = value_with (value_by (asks_of (rules_at m p))) (site_of p) (type_in (rules_at m p) p) name
 
 abbrev pub computed : Model → Answers
 computed m = answers_with m (insides m) (values m)
@@ -95,15 +97,15 @@ computed m = answers_with m (insides m) (values m)
 insides_are : (m : Model) → (answers_of m).inside ≡ insides m
 unfolding answers_of
 insides_are m =
-    alike (λ (p : Lineage). inside_answer (setting_of m) (path_along p) (type_in (setting_of m) p)) (insides m)
-    (λ p. inside_is (setting_of m) (path_along p) (type_in (setting_of m) p))
+    alike (λ (p : Lineage). inside_answer (rules_at m p) (site_of p) (type_in (rules_at m p) p)) (insides m)
+    (λ p. inside_is (rules_at m p) (site_of p) (type_in (rules_at m p) p))
 
 values_so : (m : Model) → (answers_of m).value ≡ values m
 unfolding answers_of
 values_so m =
-    alike (λ (p : Lineage). param_answer (setting_of m) (path_along p) (type_in (setting_of m) p)) (values m) (λ p.
-    alike (λ (name : List ℕ). param_answer (setting_of m) (path_along p) (type_in (setting_of m) p) name) (values m p)
-    (λ name. value_is (setting_of m) (path_along p) (type_in (setting_of m) p) name))
+    alike (λ (p : Lineage). param_answer (rules_at m p) (site_of p) (type_in (rules_at m p) p)) (values m) (λ p.
+    alike (λ (name : List ℕ). param_answer (rules_at m p) (site_of p) (type_in (rules_at m p) p) name) (values m p)
+    (λ name. value_is (rules_at m p) (site_of p) (type_in (rules_at m p) p) name))
 
 same_answers : (m : Model) → answers_of m ≡ answers_with m (answers_of m).inside (answers_of m).value
 unfolding answers_of

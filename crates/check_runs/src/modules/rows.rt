@@ -112,9 +112,10 @@ fn add_action(text: &mut String, action: &Action) -> Result<(), AllocError> {
             let (name, index, bits) = (spelled(&gate.name), gate.index, message.bits);
             write!(text, " send {name}[{index}] {bits}+{}", delay.ps())
         }
-        Action::SendDirect(place, message, _) => {
-            let (path, name, bits) = (written(&place.path), spelled(&place.name), message.bits);
-            write!(text, " send {path}.{name}[{}] {bits}", place.index)
+        Action::SendDirect(place, message, flight) => {
+            write!(text, " send")?;
+            add_place(text, place)?;
+            write!(text, " {}+{}", message.bits, flight.delay.ps())
         }
         Action::ScheduleAfter(set) => {
             let (timer, delay, priority) = (set.timer, set.delay.ps(), set.priority);
@@ -133,6 +134,14 @@ fn add_action(text: &mut String, action: &Action) -> Result<(), AllocError> {
         Action::Disconnect(place) => {
             write!(text, " disconnect")?;
             add_place(text, place)
+        }
+        Action::Create(creation) => {
+            let (parent, name) = (written(&creation.parent), spelled(&creation.name));
+            write!(
+                text,
+                " create {parent}.{name}: {}",
+                written(&creation.plan.type_name)
+            )
         }
         Action::Delete(path, finish) => write!(text, " delete {} {finish}", written(path)),
         Action::End => write!(text, " end"),
