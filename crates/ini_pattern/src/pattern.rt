@@ -77,6 +77,13 @@ impl Pattern {
         })
     }
 
+    /// Its pieces, the first one first.
+    pub fn pieces(&self) -> &[Piece]
+        ensures { result.now ≡ self.now }
+    {
+        self.pieces.as_slice()
+    }
+
     /// Whether the pattern matches a name. It allocates nothing.
     pub fn matches(&self, name: &str) -> bool
         ensures relation { IsTrue result ↔ Matches self.now (chars name.now) }
