@@ -3,4 +3,5 @@ pub mod Keys
 pub mod Sets
 pub mod Firsts
 pub mod Slots
+pub mod Modules
 pub mod Dropping

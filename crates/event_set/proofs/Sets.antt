@@ -1,4 +1,4 @@
--- What the tree of events and the places of timers say of the list of events.
+-- What the tree of events and the places by modules say of the list of events.
 use Rattle.std.proofs.Common.{◌≡◌, ◌⊎◌, inl, inr, ⊎_elim, ℕ, ◌+◌, ◌<◌, Bool, true, false, true≢false, cond, List, [], ◌∷◌, Option, Some, None, refl, sym, ap, ◌∙◌, ◌==◌, ◌&&◌, ◌||◌, if◌then◌else◌, arith, subst, is_some, eqb-true, eq-eqb}
 use Rattle.std.specs.declared.cmp.Ordering.{Ordering}
 use Rattle.std.specs.declared.cmp.Ordering.TheVariants.{Less, Equal, Greater}
@@ -7,24 +7,27 @@ use Rattle.std.specs.BTreeMap.{is_at, insert_entry}
 use Rattle.std.specs.List.{AllByRecursion}
 use Rattle.std.specs.List.Sorted.{IsStrictlySortedBy}
 use Rattle.std.specs.Map.{keys_of, remove_entry}
-use Rattle.std.specs.Option.{option_and_then}
+use Rattle.std.specs.Option.{option_map}
 use Rattle.event_set.specs.declared.pending.Happening.{Happening}
 use Rattle.event_set.specs.declared.pending.Happening.TheVariants.{Timer, Arrival, Delivery, Start}
 use Rattle.event_set.specs.declared.pending.Pending.{Pending}
 use Rattle.event_set.specs.declared.entry.EventEntry.{EventEntry}
 use Rattle.event_set.specs.declared.places.Key.{Key}
 use Rattle.event_set.specs.declared.places.TimerKey.{TimerKey}
-use Rattle.event_set.specs.Keys.{key_order, timer_order, pending_of, list_of, id_of, what_of, timer_in, timer_of, at_key, AreSound, noted, forgotten, IsFree}
+use Rattle.event_set.specs.declared.places.MessageKey.{MessageKey}
+use Rattle.event_set.specs.declared.places.Mark.{Mark}
+use Rattle.event_set.specs.declared.places.Mark.TheVariants as mark
+use Rattle.event_set.specs.Keys.{key_order, pending_of, list_of, id_of, what_of, mark_in, mark_of, same_mark, at_key, AreSound, with_mark, without_mark}
 use Rattle.event_set.specs.Order.{comes_before, inserted, Each, AreInOrder}
 use Rattle.event_set.specs.Timers.{is_timer, is_timer_number, has_timer, is_pending, without_timer}
 use Rattle.event_set.proofs.Order.{each_map}
-use Rattle.event_set.proofs.Keys.{key_total, key_at, key_itself, timer_at, timer_itself, before_is, equal_numbers}
+use Rattle.event_set.proofs.Keys.{key_total, key_at, key_itself, mark_at, mark_itself, before_is, equal_numbers}
 
 abbrev Held : Type 0
 Held = List (Key × EventEntry)
 
 abbrev Where : Type 0
-Where = TimerKey → Option Key
+Where = Mark → Option Key
 
 -- ---- one more event
 
@@ -62,7 +65,7 @@ places_more x all (y ∷ ys) h p =
     let turned : key_order y.0 x.0 ≡ Greater = key_total.antisymm y.0 x.0 ∙ ap ordering_reverse h.0 in
     (rw turned p.0, places_more x all ys h.1 p.1)
 
-own_places : (es : Held) → IsStrictlySortedBy key_order (keys_of es) → Each (λ (y : Key × EventEntry). at_key es y.0 ≡ Some y.1) es
+pub own_places : (es : Held) → IsStrictlySortedBy key_order (keys_of es) → Each (λ (y : Key × EventEntry). at_key es y.0 ≡ Some y.1) es
 unfolding IsStrictlySortedBy
 own_places [] h = tt
 own_places (x ∷ xs) h = (rw (key_itself x.0) refl, places_more x xs xs h.0 (own_places xs h.1))
@@ -77,71 +80,68 @@ no_and : (a : Bool) → a && false ≡ true → ⊥
 no_and true h = true≢false (sym h)
 no_and false h = true≢false (sym h)
 
-number_is : (id timer : ℕ) (other : ℕ) (what : Happening) → (other == id) && is_timer_number timer what ≡ true → timer_in other what ≡ Some (record { id = id; timer = timer })
-number_is id timer other (Timer number kind) h =
+number_is : (id timer : ℕ) (other n : ℕ) (what : Happening) → (other == id) && is_timer_number timer what ≡ true → mark_in other n what ≡ mark.Timer (record { id = id; timer = timer })
+number_is id timer other n (Timer number kind) h =
     let both = and_is (other == id) (number == timer) h in
     let one : other ≡ id = eqb-true other id both.0 in
     let two : number ≡ timer = eqb-true number timer both.1 in
-    λ i. Some (record { id = one i; timer = two i })
-number_is id timer other (Arrival kind bits payload) h = absurd (no_and (other == id) h)
-number_is id timer other (Delivery delivery) h = absurd (no_and (other == id) h)
-number_is id timer other (Start last) h = absurd (no_and (other == id) h)
+    λ i. mark.Timer (record { id = one i; timer = two i })
+number_is id timer other n (Arrival kind bits payload) h = absurd (no_and (other == id) h)
+number_is id timer other n (Delivery delivery) h = absurd (no_and (other == id) h)
+number_is id timer other n (Start last) h = absurd (no_and (other == id) h)
 
-abbrev pub id_in : ℕ → Option TimerKey → ℕ
-id_in d None = d
-id_in d (Some t) = t.id
+-- what a mark has of a timer
+abbrev timer_in : TimerKey → Mark → TimerKey
+timer_in d (mark.Timer t) = t
+timer_in d (mark.Message m) = d
 
-abbrev number_in : ℕ → Option TimerKey → ℕ
-number_in d None = d
-number_in d (Some t) = t.timer
-
-is_number : (t : TimerKey) (other : ℕ) (what : Happening) → timer_in other what ≡ Some t → (other == t.id) && is_timer_number t.timer what ≡ true
-is_number t other (Timer number kind) h =
-    let one : other ≡ t.id = ap (λ (o : Option TimerKey). id_in other o) h in
-    let two : number ≡ t.timer = ap (λ (o : Option TimerKey). number_in number o) h in
+is_number : (t : TimerKey) (other n : ℕ) (what : Happening) → mark_in other n what ≡ mark.Timer t → (other == t.id) && is_timer_number t.timer what ≡ true
+is_number t other n (Timer number kind) h =
+    let one : other ≡ t.id = ap (λ (m : Mark). (timer_in t m).id) h in
+    let two : number ≡ t.timer = ap (λ (m : Mark). (timer_in t m).timer) h in
     rw (eq-eqb other t.id one) (eq-eqb number t.timer two)
-is_number t other (Arrival kind bits payload) h = cc
-is_number t other (Delivery delivery) h = cc
-is_number t other (Start last) h = cc
-
--- what stands where the place is known
-timer_there : (es : Held) (k : Key) (e : EventEntry) (t : TimerKey) → at_key es k ≡ Some e → option_and_then timer_of (at_key es k) ≡ Some t → timer_of e ≡ Some t
-timer_there es k e t h s = ap (option_and_then timer_of) (sym h) ∙ s
+is_number t other n (Arrival kind bits payload) h = cc
+is_number t other n (Delivery delivery) h = cc
+is_number t other n (Start last) h = cc
 
 some_is : {X : Type 0} (a b : X) → Some a ≡ Some b → a ≡ b
 some_is a b h = cc
 
+-- what stands where the place is known
+pub mark_there : (es : Held) (k : Key) (e : EventEntry) (m : Mark) → at_key es k ≡ Some e → option_map (mark_of k) (at_key es k) ≡ Some m → mark_of k e ≡ m
+mark_there es k e m h s = some_is (mark_of k e) m (ap (option_map (mark_of k)) (sym h) ∙ s)
+
 -- of a timer that stands somewhere: the two tests are the same
-same_by : (es : Held) (ts : Where) (n : ℕ) (t : TimerKey) (k : Key) → AreSound es ts n → ts t ≡ Some k → (x : Key × EventEntry) → at_key es x.0 ≡ Some x.1
+same_by : (es : Held) (ts : Where) (n : ℕ) (t : TimerKey) (k : Key) → AreSound es ts n → ts (mark.Timer t) ≡ Some k → (x : Key × EventEntry) → at_key es x.0 ≡ Some x.1
     → (a b : Bool) → is_timer t.id t.timer (pending_of x) ≡ a → is_at (key_order k) x.0 ≡ b → a ≡ b
 same_by es ts n t k s h x at true true p q = refl
 same_by es ts n t k s h x at false false p q = refl
 same_by es ts n t k s h x at true false p q =
-    let there : ts t ≡ Some x.0 = s.placed x.0 x.1 t at (number_is t.id t.timer (id_of x.1) (what_of x.1) p) in
+    let there : ts (mark.Timer t) ≡ Some x.0 = ap ts (sym (number_is t.id t.timer (id_of x.1) x.0.number (what_of x.1) p)) ∙ s.placed x.0 x.1 at in
     let same : k ≡ x.0 = some_is k x.0 (sym h ∙ there) in
     absurd (true≢false (sym (key_itself k) ∙ ap (λ q. is_at (key_order k) q) same ∙ q))
 same_by es ts n t k s h x at false true p q =
     let same : k ≡ x.0 = key_at k x.0 q in
-    let here : timer_of x.1 ≡ Some t = timer_there es x.0 x.1 t at (subst (λ j. option_and_then timer_of (at_key es j) ≡ Some t) same (s.standing t k h)) in
-    absurd (true≢false (sym (is_number t (id_of x.1) (what_of x.1) here) ∙ p))
+    let here : mark_of x.0 x.1 ≡ mark.Timer t = mark_there es x.0 x.1 (mark.Timer t) at (subst (λ j. option_map (mark_of j) (at_key es j) ≡ Some (mark.Timer t)) same (s.standing (mark.Timer t) k h)) in
+    absurd (true≢false (sym (is_number t (id_of x.1) x.0.number (what_of x.1) here) ∙ p))
 
 abbrev SameTests : TimerKey → Key → Held → Type 0
 SameTests t k es = Each (λ (x : Key × EventEntry). is_timer t.id t.timer (pending_of x) ≡ is_at (key_order k) x.0) es
 
-same_tests : (es : Held) (ts : Where) (n : ℕ) (t : TimerKey) (k : Key) → AreSound es ts n → ts t ≡ Some k → SameTests t k es
+same_tests : (es : Held) (ts : Where) (n : ℕ) (t : TimerKey) (k : Key) → AreSound es ts n → ts (mark.Timer t) ≡ Some k → SameTests t k es
 same_tests es ts n t k s h =
     each_map (λ (x : Key × EventEntry). at_key es x.0 ≡ Some x.1) (λ (x : Key × EventEntry). is_timer t.id t.timer (pending_of x) ≡ is_at (key_order k) x.0) es
     (λ x at. same_by es ts n t k s h x at (is_timer t.id t.timer (pending_of x)) (is_at (key_order k) x.0) refl refl) (own_places es s.ordered)
 
-none_by : (es : Held) (ts : Where) (n : ℕ) (t : TimerKey) → AreSound es ts n → ts t ≡ None → (x : Key × EventEntry) → at_key es x.0 ≡ Some x.1 → (a : Bool) → is_timer t.id t.timer (pending_of x) ≡ a → a ≡ false
+none_by : (es : Held) (ts : Where) (n : ℕ) (t : TimerKey) → AreSound es ts n → ts (mark.Timer t) ≡ None → (x : Key × EventEntry) → at_key es x.0 ≡ Some x.1 → (a : Bool) → is_timer t.id t.timer (pending_of x) ≡ a → a ≡ false
 none_by es ts n t s h x at false p = refl
 none_by es ts n t s h x at true p =
-    let there : ts t ≡ Some x.0 = s.placed x.0 x.1 t at (number_is t.id t.timer (id_of x.1) (what_of x.1) p) in cc
+    let there : ts (mark.Timer t) ≡ Some x.0 = ap ts (sym (number_is t.id t.timer (id_of x.1) x.0.number (what_of x.1) p)) ∙ s.placed x.0 x.1 at in cc
 
 abbrev NoTests : TimerKey → Held → Type 0
 NoTests t es = Each (λ (x : Key × EventEntry). is_timer t.id t.timer (pending_of x) ≡ false) es
 
-no_tests : (es : Held) (ts : Where) (n : ℕ) (t : TimerKey) → AreSound es ts n → ts t ≡ None → NoTests t es
+no_tests : (es : Held) (ts : Where) (n : ℕ) (t : TimerKey) → AreSound es ts n → ts (mark.Timer t) ≡ None → NoTests t es
 no_tests es ts n t s h =
     each_map (λ (x : Key × EventEntry). at_key es x.0 ≡ Some x.1) (λ (x : Key × EventEntry). is_timer t.id t.timer (pending_of x) ≡ false) es
     (λ x at. none_by es ts n t s h x at (is_timer t.id t.timer (pending_of x)) refl) (own_places es s.ordered)
@@ -160,17 +160,17 @@ any_some : (t : TimerKey) (k : Key) (es : Held) → SameTests t k es → has_tim
 any_some t k [] h = refl
 any_some t k (x ∷ xs) h = rw h.0 (any_by (is_at (key_order k) x.0) t k x.1 xs (any_some t k xs h.1))
 
-there_is : (o : Option EventEntry) (t : TimerKey) → option_and_then timer_of o ≡ Some t → is_some o ≡ true
-there_is None t h = cc
-there_is (Some e) t h = refl
+there_is : (o : Option EventEntry) (k : Key) (m : Mark) → option_map (mark_of k) o ≡ Some m → is_some o ≡ true
+there_is None k m h = cc
+there_is (Some e) k m h = refl
 
-has_by : (o : Option Key) (es : Held) (ts : Where) (n : ℕ) (t : TimerKey) → AreSound es ts n → ts t ≡ o → is_some o ≡ has_timer t.id t.timer (list_of es)
+has_by : (o : Option Key) (es : Held) (ts : Where) (n : ℕ) (t : TimerKey) → AreSound es ts n → ts (mark.Timer t) ≡ o → is_some o ≡ has_timer t.id t.timer (list_of es)
 has_by None es ts n t s h = sym (any_none t es (no_tests es ts n t s h))
-has_by (Some k) es ts n t s h = sym (any_some t k es (same_tests es ts n t k s h) ∙ there_is (at_key es k) t (s.standing t k h))
+has_by (Some k) es ts n t s h = sym (any_some t k es (same_tests es ts n t k s h) ∙ there_is (at_key es k) k (mark.Timer t) (s.standing (mark.Timer t) k h))
 
 -- it is known which timers are pending
-pub has : (es : Held) (ts : Where) (n : ℕ) (t : TimerKey) → AreSound es ts n → is_some (ts t) ≡ has_timer t.id t.timer (list_of es)
-has es ts n t s = has_by (ts t) es ts n t s refl
+pub has : (es : Held) (ts : Where) (n : ℕ) (t : TimerKey) → AreSound es ts n → is_some (ts (mark.Timer t)) ≡ has_timer t.id t.timer (list_of es)
+has es ts n t s = has_by (ts (mark.Timer t)) es ts n t s refl
 
 -- ---- one less
 
@@ -183,14 +183,14 @@ same_removed t k [] h = refl
 same_removed t k (x ∷ xs) h = rw h.0 (removed_by (is_at (key_order k) x.0) (pending_of x) x xs (remove_entry (is_at (key_order k)) xs) (without_timer t.id t.timer (list_of xs)) (same_removed t k xs h.1))
 
 -- the entry that leaves is the event that leaves
-pub list_removed : (es : Held) (ts : Where) (n : ℕ) (t : TimerKey) (k : Key) → AreSound es ts n → ts t ≡ Some k → list_of (remove_entry (is_at (key_order k)) es) ≡ without_timer t.id t.timer (list_of es)
+pub list_removed : (es : Held) (ts : Where) (n : ℕ) (t : TimerKey) (k : Key) → AreSound es ts n → ts (mark.Timer t) ≡ Some k → list_of (remove_entry (is_at (key_order k)) es) ≡ without_timer t.id t.timer (list_of es)
 list_removed es ts n t k s h = same_removed t k es (same_tests es ts n t k s h)
 
 none_removed : (t : TimerKey) (es : Held) → NoTests t es → without_timer t.id t.timer (list_of es) ≡ list_of es
 none_removed t [] h = refl
 none_removed t (x ∷ xs) h = rw h.0 (ap (λ ps. pending_of x ∷ ps) (none_removed t xs h.1))
 
-pub list_kept : (es : Held) (ts : Where) (n : ℕ) (t : TimerKey) → AreSound es ts n → ts t ≡ None → without_timer t.id t.timer (list_of es) ≡ list_of es
+pub list_kept : (es : Held) (ts : Where) (n : ℕ) (t : TimerKey) → AreSound es ts n → ts (mark.Timer t) ≡ None → without_timer t.id t.timer (list_of es) ≡ list_of es
 list_kept es ts n t s h = none_removed t es (no_tests es ts n t s h)
 
 below_by : (b : Bool) (n : ℕ) (x : Key × EventEntry) (xs rest : Held) → x.0.number < n → Each (λ (y : Key × EventEntry). y.0.number < n) xs → Each (λ (y : Key × EventEntry). y.0.number < n) rest → Each (λ (y : Key × EventEntry). y.0.number < n) (cond b xs (x ∷ rest))
@@ -220,112 +220,103 @@ new_there : (b : Bool) (k q : Key) (e f : EventEntry) (o : Option EventEntry) �
 new_there true k q e f o h p = inl (key_at k q h, some_is e f p)
 new_there false k q e f o h p = inr (refl, p)
 
--- another timer stands where it stood
-other_timer : (b : Bool) (u t : TimerKey) (k q : Key) (ts : Where) → is_at (timer_order u) t ≡ b → ts u ≡ None → ts t ≡ Some q → cond b (Some k) (ts t) ≡ Some q
-other_timer true u t k q ts h free there = absurd (none_some (sym free ∙ ap ts (timer_at u t h) ∙ there))
-other_timer false u t k q ts h free there = there
+-- another mark's event stands where it stood
+other_mark : (b : Bool) (u m : Mark) (k q : Key) (ts : Where) → same_mark u m ≡ b → ts u ≡ None → ts m ≡ Some q → cond b (Some k) (ts m) ≡ Some q
+other_mark true u m k q ts h free there = absurd (none_some (sym free ∙ ap ts (mark_at u m h) ∙ there))
+other_mark false u m k q ts h free there = there
 
-noted_other : (timer : Option TimerKey) (t : TimerKey) (k q : Key) (ts : Where) → IsFree ts timer → ts t ≡ Some q → noted timer k ts t ≡ Some q
-noted_other None t k q ts free there = there
-noted_other (Some u) t k q ts free there = other_timer (is_at (timer_order u) t) u t k q ts refl free there
+marked_by : (b : Bool) (u m : Mark) (k q : Key) (ts : Where) → same_mark u m ≡ b → cond b (Some k) (ts m) ≡ Some q → ((u ≡ m) × (k ≡ q)) ⊎ (ts m ≡ Some q)
+marked_by true u m k q ts h p = inl (mark_at u m h, some_is k q p)
+marked_by false u m k q ts h p = inr p
 
-noted_new : (timer : Option TimerKey) (t : TimerKey) (k : Key) (ts : Where) → timer ≡ Some t → noted timer k ts t ≡ Some k
-noted_new None t k ts h = absurd (none_some h)
-noted_new (Some u) t k ts h = ap (λ x. cond (is_at (timer_order x) t) (Some k) (ts t)) (some_is u t h) ∙ rw (timer_itself t) refl
+-- a mark is found at itself
+marked_new : (u m : Mark) (k : Key) (ts : Where) → u ≡ m → with_mark u k ts m ≡ Some k
+marked_new u m k ts h = ap (λ (x : Mark). with_mark u k ts x) (sym h) ∙ ap (λ b. cond b (Some k) (ts u)) (mark_itself u)
 
-noted_by : (b : Bool) (u t : TimerKey) (k q : Key) (ts : Where) → is_at (timer_order u) t ≡ b → cond b (Some k) (ts t) ≡ Some q → ((Some u ≡ Some t) × (k ≡ q)) ⊎ (ts t ≡ Some q)
-noted_by true u t k q ts h p = inl (ap Some (timer_at u t h), some_is k q p)
-noted_by false u t k q ts h p = inr p
+-- what stood at a place stands there still
+still_by : (b : Bool) (k q : Key) (e : EventEntry) (m : Mark) (es : Held) → is_at (key_order k) q ≡ b → at_key es k ≡ None → option_map (mark_of q) (at_key es q) ≡ Some m → option_map (mark_of q) (cond b (Some e) (at_key es q)) ≡ Some m
+still_by true k q e m es h none s =
+    let here : at_key es q ≡ None = ap (at_key es) (sym (key_at k q h)) ∙ none in
+    absurd (none_some (sym (ap (option_map (mark_of q)) here) ∙ s))
+still_by false k q e m es h none s = s
 
--- a timer stands at the new place or where it stood
-noted_there : (timer : Option TimerKey) (t : TimerKey) (k q : Key) (ts : Where) → noted timer k ts t ≡ Some q → ((timer ≡ Some t) × (k ≡ q)) ⊎ (ts t ≡ Some q)
-noted_there None t k q ts p = inr p
-noted_there (Some u) t k q ts p = noted_by (is_at (timer_order u) t) u t k q ts refl p
-
--- what stood at a place with a timer stands there still
-still_by : (b : Bool) (k q : Key) (e : EventEntry) (t : TimerKey) (es : Held) → is_at (key_order k) q ≡ b → at_key es k ≡ None → option_and_then timer_of (at_key es q) ≡ Some t → option_and_then timer_of (cond b (Some e) (at_key es q)) ≡ Some t
-still_by true k q e t es h none s =
-    let here : option_and_then timer_of (at_key es k) ≡ Some t = ap (λ x. option_and_then timer_of (at_key es x)) (key_at k q h) ∙ s in
-    absurd (none_some (sym (ap (option_and_then timer_of) none) ∙ here))
-still_by false k q e t es h none s = s
-
--- one more entry, whose timer stands nowhere yet
-pub sound_more : (es fs : Held) (ts us : Where) (n : ℕ) (k : Key) (e : EventEntry) → AreSound es ts n → k.number ≡ n → IsFree ts (timer_of e) → fs ≡ insert_entry key_order es k e → IsStrictlySortedBy key_order (keys_of fs)
-    → ((q : Key) → at_key fs q ≡ cond (is_at (key_order k) q) (Some e) (at_key es q)) → ((t : TimerKey) → us t ≡ noted (timer_of e) k ts t) → AreSound fs us (n + 1)
+-- one more entry, whose mark is new
+pub sound_more : (es fs : Held) (ts us : Where) (n : ℕ) (k : Key) (e : EventEntry) → AreSound es ts n → k.number ≡ n → ts (mark_of k e) ≡ None → fs ≡ insert_entry key_order es k e → IsStrictlySortedBy key_order (keys_of fs)
+    → ((q : Key) → at_key fs q ≡ cond (is_at (key_order k) q) (Some e) (at_key es q)) → ((m : Mark) → us m ≡ with_mark (mark_of k e) k ts m) → AreSound fs us (n + 1)
 sound_more es fs ts us n k e s number free is ordered looks places = record {
   ordered = ordered;
   below = subst (Each (λ (x : Key × EventEntry). x.0.number < n + 1)) (sym is) (below_more k e (n + 1) es (omega (arith, number)) (each_map (λ (x : Key × EventEntry). x.0.number < n) (λ (x : Key × EventEntry). x.0.number < n + 1) es (λ x h. omega (arith, h)) s.below));
-  placed = λ q f t at timer. places t ∙ ⊎_elim
-      (λ (h : (k ≡ q) × (e ≡ f)). noted_new (timer_of e) t k ts (ap timer_of h.1 ∙ timer) ∙ ap Some h.0)
-      (λ (h : (is_at (key_order k) q ≡ false) × (at_key es q ≡ Some f)). noted_other (timer_of e) t k q ts free (s.placed q f t h.1 timer))
+  placed = λ q f at. places (mark_of q f) ∙ ⊎_elim
+      (λ (h : (k ≡ q) × (e ≡ f)). marked_new (mark_of k e) (mark_of q f) k ts (λ i. mark_of (h.0 i) (h.1 i)) ∙ ap Some h.0)
+      (λ (h : (is_at (key_order k) q ≡ false) × (at_key es q ≡ Some f)). other_mark (same_mark (mark_of k e) (mark_of q f)) (mark_of k e) (mark_of q f) k q ts refl free (s.placed q f h.1))
       (new_there (is_at (key_order k) q) k q e f (at_key es q) refl (sym (looks q) ∙ at));
-  standing = λ t q at. ap (option_and_then timer_of) (looks q) ∙ ⊎_elim
-      (λ (h : (timer_of e ≡ Some t) × (k ≡ q)). ap (λ b. option_and_then timer_of (cond b (Some e) (at_key es q))) (ap (λ x. is_at (key_order k) x) (sym h.1) ∙ key_itself k) ∙ h.0)
-      (λ (h : ts t ≡ Some q). still_by (is_at (key_order k) q) k q e t es refl (fresh k es (subst (λ m. Each (λ (x : Key × EventEntry). x.0.number < m) es) (sym number) s.below)) (s.standing t q h))
-      (noted_there (timer_of e) t k q ts (sym (places t) ∙ at));
+  standing = λ m q at. ap (option_map (mark_of q)) (looks q) ∙ ⊎_elim
+      (λ (h : (mark_of k e ≡ m) × (k ≡ q)). ap (λ b. option_map (mark_of q) (cond b (Some e) (at_key es q))) (ap (λ x. is_at (key_order k) x) (sym h.1) ∙ key_itself k) ∙ ap (λ (x : Key). Some (mark_of x e)) (sym h.1) ∙ ap Some h.0)
+      (λ (h : ts m ≡ Some q). still_by (is_at (key_order k) q) k q e m es refl (fresh k es (subst (λ i. Each (λ (x : Key × EventEntry). x.0.number < i) es) (sym number) s.below)) (s.standing m q h))
+      (marked_by (same_mark (mark_of k e) m) (mark_of k e) m k q ts refl (sym (places m) ∙ at));
 }
 
--- nothing has changed, where timers stand as they stood
-pub sound_same : (es : Held) (ts us : Where) (n : ℕ) → AreSound es ts n → ((t : TimerKey) → us t ≡ ts t) → AreSound es us n
+-- nothing has changed, where events stand as they stood
+pub sound_same : (es : Held) (ts us : Where) (n : ℕ) → AreSound es ts n → ((m : Mark) → us m ≡ ts m) → AreSound es us n
 sound_same es ts us n s places = record {
   ordered = s.ordered;
   below = s.below;
-  placed = λ q f t at timer. places t ∙ s.placed q f t at timer;
-  standing = λ t q at. s.standing t q (sym (places t) ∙ at);
+  placed = λ q f at. places (mark_of q f) ∙ s.placed q f at;
+  standing = λ m q at. s.standing m q (sym (places m) ∙ at);
 }
+
+kept_by : (b : Bool) (u m : Mark) (ts : Where) → same_mark u m ≡ b → ts u ≡ None → cond b None (ts m) ≡ ts m
+kept_by true u m ts h none = sym none ∙ ap ts (mark_at u m h)
+kept_by false u m ts h none = refl
+
+-- without a mark that is nowhere
+pub sound_kept : (es : Held) (ts us : Where) (n : ℕ) (u : Mark) → AreSound es ts n → ts u ≡ None → ((m : Mark) → us m ≡ without_mark u ts m) → AreSound es us n
+sound_kept es ts us n u s none places = sound_same es ts us n s (λ m. places m ∙ kept_by (same_mark u m) u m ts refl none)
 
 gone_there : (b : Bool) (k q : Key) (f : EventEntry) (o : Option EventEntry) → is_at (key_order k) q ≡ b → cond b None o ≡ Some f → (b ≡ false) × (o ≡ Some f)
 gone_there true k q f o h p = absurd (none_some p)
 gone_there false k q f o h p = (refl, p)
 
-forgotten_by : (b : Bool) (u t : TimerKey) (k q : Key) (ts : Where) → is_at (timer_order u) t ≡ b → is_at (key_order k) q ≡ false → ts u ≡ Some k → ts t ≡ Some q → cond b None (ts t) ≡ Some q
-forgotten_by true u t k q ts h apart one two = absurd (true≢false (sym (key_itself k) ∙ ap (λ x. is_at (key_order k) x) (some_is k q (sym one ∙ ap ts (timer_at u t h) ∙ two)) ∙ apart))
-forgotten_by false u t k q ts h apart one two = two
+forgotten_by : (b : Bool) (u m : Mark) (k q : Key) (ts : Where) → same_mark u m ≡ b → is_at (key_order k) q ≡ false → ts u ≡ Some k → ts m ≡ Some q → cond b None (ts m) ≡ Some q
+forgotten_by true u m k q ts h apart one two = absurd (true≢false (sym (key_itself k) ∙ ap (λ x. is_at (key_order k) x) (some_is k q (sym one ∙ ap ts (mark_at u m h) ∙ two)) ∙ apart))
+forgotten_by false u m k q ts h apart one two = two
 
-forgotten_other : (timer : Option TimerKey) (t : TimerKey) (k q : Key) (ts : Where) → is_at (key_order k) q ≡ false → ((u : TimerKey) → timer ≡ Some u → ts u ≡ Some k) → ts t ≡ Some q → forgotten timer ts t ≡ Some q
-forgotten_other None t k q ts apart one two = two
-forgotten_other (Some u) t k q ts apart one two = forgotten_by (is_at (timer_order u) t) u t k q ts refl apart (one u refl) two
+left_by : (b : Bool) (m : Mark) (q : Key) (ts : Where) → cond b None (ts m) ≡ Some q → (b ≡ false) × (ts m ≡ Some q)
+left_by true m q ts p = absurd (none_some p)
+left_by false m q ts p = (refl, p)
 
-left_by : (b : Bool) (u t : TimerKey) (q : Key) (ts : Where) → is_at (timer_order u) t ≡ b → cond b None (ts t) ≡ Some q → (b ≡ false) × (ts t ≡ Some q)
-left_by true u t q ts h p = absurd (none_some p)
-left_by false u t q ts h p = (refl, p)
+stays_by : (b : Bool) (k q : Key) (e : EventEntry) (m : Mark) (es : Held) → is_at (key_order k) q ≡ b → at_key es k ≡ Some e → (mark_of k e ≡ m → ⊥) → option_map (mark_of q) (at_key es q) ≡ Some m → option_map (mark_of q) (cond b None (at_key es q)) ≡ Some m
+stays_by true k q e m es h at other s =
+    let same : k ≡ q = key_at k q h in
+    absurd (other (mark_there es k e m at (subst (λ (x : Key). option_map (mark_of x) (at_key es x) ≡ Some m) (sym same) s)))
+stays_by false k q e m es h at other s = s
 
--- a timer that still stands is another one
-left_there : (timer : Option TimerKey) (t : TimerKey) (q : Key) (ts : Where) → forgotten timer ts t ≡ Some q → (timer ≡ Some t → ⊥) × (ts t ≡ Some q)
-left_there None t q ts p = ((λ h. none_some h), p)
-left_there (Some u) t q ts p =
-    let both = left_by (is_at (timer_order u) t) u t q ts refl p in
-    ((λ h. true≢false (sym (timer_itself u) ∙ ap (λ x. is_at (timer_order u) x) (some_is u t h) ∙ both.0)), both.1)
-
-stays_by : (b : Bool) (k q : Key) (e : EventEntry) (t : TimerKey) (es : Held) → is_at (key_order k) q ≡ b → at_key es k ≡ Some e → (timer_of e ≡ Some t → ⊥) → option_and_then timer_of (at_key es q) ≡ Some t → option_and_then timer_of (cond b None (at_key es q)) ≡ Some t
-stays_by true k q e t es h at other s = absurd (other (sym (ap (option_and_then timer_of) at) ∙ ap (λ x. option_and_then timer_of (at_key es x)) (key_at k q h) ∙ s))
-stays_by false k q e t es h at other s = s
-
--- one entry less, and its timer with it
+-- one entry less, and its mark with it
 pub sound_less : (es fs : Held) (ts us : Where) (n : ℕ) (k : Key) (e : EventEntry) → AreSound es ts n → at_key es k ≡ Some e → Each (λ (x : Key × EventEntry). x.0.number < n) fs → IsStrictlySortedBy key_order (keys_of fs)
-    → ((q : Key) → at_key fs q ≡ cond (is_at (key_order k) q) None (at_key es q)) → ((t : TimerKey) → us t ≡ forgotten (timer_of e) ts t) → AreSound fs us n
+    → ((q : Key) → at_key fs q ≡ cond (is_at (key_order k) q) None (at_key es q)) → ((m : Mark) → us m ≡ without_mark (mark_of k e) ts m) → AreSound fs us n
 sound_less es fs ts us n k e s here below ordered looks places = record {
   ordered = ordered;
   below = below;
-  placed = λ q f t at timer.
+  placed = λ q f at.
       let was = gone_there (is_at (key_order k) q) k q f (at_key es q) refl (sym (looks q) ∙ at) in
-      places t ∙ forgotten_other (timer_of e) t k q ts was.0 (λ u is. s.placed k e u here is) (s.placed q f t was.1 timer);
-  standing = λ t q at.
-      let was = left_there (timer_of e) t q ts (sym (places t) ∙ at) in
-      ap (option_and_then timer_of) (looks q) ∙ stays_by (is_at (key_order k) q) k q e t es refl here was.0 (s.standing t q was.1);
+      places (mark_of q f) ∙ forgotten_by (same_mark (mark_of k e) (mark_of q f)) (mark_of k e) (mark_of q f) k q ts refl was.0 (s.placed k e here) (s.placed q f was.1);
+  standing = λ m q at.
+      let was = left_by (same_mark (mark_of k e) m) m q ts (sym (places m) ∙ at) in
+      ap (option_map (mark_of q)) (looks q)
+      ∙ stays_by (is_at (key_order k) q) k q e m es refl here (λ same. true≢false (sym (mark_itself m) ∙ ap (λ (x : Mark). same_mark x m) (sym same) ∙ was.0)) (s.standing m q was.1);
 }
 
-cancelled_by : (o : Option EventEntry) (es fs : Held) (ts us : Where) (n : ℕ) (t : TimerKey) (k : Key) → AreSound es ts n → ts t ≡ Some k → fs ≡ remove_entry (is_at (key_order k)) es → IsStrictlySortedBy key_order (keys_of fs)
-    → ((q : Key) → at_key fs q ≡ cond (is_at (key_order k) q) None (at_key es q)) → ((q : TimerKey) → us q ≡ cond (is_at (timer_order t) q) None (ts q)) → at_key es k ≡ o → AreSound fs us n
-cancelled_by None es fs ts us n t k s there is ordered looks places at = absurd (none_some (sym (ap (option_and_then timer_of) at) ∙ s.standing t k there))
-cancelled_by (Some e) es fs ts us n t k s there is ordered looks places at =
-    let timer : timer_of e ≡ Some t = sym (ap (option_and_then timer_of) at) ∙ s.standing t k there in
-    sound_less es fs ts us n k e s at (subst (Each (λ (x : Key × EventEntry). x.0.number < n)) (sym is) (below_less (is_at (key_order k)) n es s.below)) ordered looks (λ q. places q ∙ ap (λ o. forgotten o ts q) (sym timer))
+cancelled_by : (o : Option EventEntry) (es fs : Held) (ts us : Where) (n : ℕ) (m : Mark) (k : Key) → AreSound es ts n → ts m ≡ Some k → fs ≡ remove_entry (is_at (key_order k)) es → IsStrictlySortedBy key_order (keys_of fs)
+    → ((q : Key) → at_key fs q ≡ cond (is_at (key_order k) q) None (at_key es q)) → ((q : Mark) → us q ≡ without_mark m ts q) → at_key es k ≡ o → AreSound fs us n
+cancelled_by None es fs ts us n m k s there is ordered looks places at = absurd (none_some (sym (ap (option_map (mark_of k)) at) ∙ s.standing m k there))
+cancelled_by (Some e) es fs ts us n m k s there is ordered looks places at =
+    let same : mark_of k e ≡ m = mark_there es k e m at (s.standing m k there) in
+    sound_less es fs ts us n k e s at (subst (Each (λ (x : Key × EventEntry). x.0.number < n)) (sym is) (below_less (is_at (key_order k)) n es s.below)) ordered looks (λ q. places q ∙ ap (λ (x : Mark). without_mark x ts q) (sym same))
 
--- without a timer that stood at a place
-pub sound_cancelled : (es fs : Held) (ts us : Where) (n : ℕ) (t : TimerKey) (k : Key) → AreSound es ts n → ts t ≡ Some k → fs ≡ remove_entry (is_at (key_order k)) es → IsStrictlySortedBy key_order (keys_of fs)
-    → ((q : Key) → at_key fs q ≡ cond (is_at (key_order k) q) None (at_key es q)) → ((q : TimerKey) → us q ≡ cond (is_at (timer_order t) q) None (ts q)) → AreSound fs us n
-sound_cancelled es fs ts us n t k s there is ordered looks places = cancelled_by (at_key es k) es fs ts us n t k s there is ordered looks places refl
+-- without an event that stood at a place
+pub sound_cancelled : (es fs : Held) (ts us : Where) (n : ℕ) (m : Mark) (k : Key) → AreSound es ts n → ts m ≡ Some k → fs ≡ remove_entry (is_at (key_order k)) es → IsStrictlySortedBy key_order (keys_of fs)
+    → ((q : Key) → at_key fs q ≡ cond (is_at (key_order k) q) None (at_key es q)) → ((q : Mark) → us q ≡ without_mark m ts q) → AreSound fs us n
+sound_cancelled es fs ts us n m k s there is ordered looks places = cancelled_by (at_key es k) es fs ts us n m k s there is ordered looks places refl
 
 -- ---- an insertion
 
@@ -333,26 +324,52 @@ none_if : {X : Type 0} (o : Option X) → is_some o ≡ false → o ≡ None
 none_if None h = refl
 none_if (Some x) h = absurd (true≢false h)
 
+abbrev number_of : ℕ → Mark → ℕ
+number_of d (mark.Timer t) = d
+number_of d (mark.Message m) = m.number
+
+abbrev IsMessage : Mark → Type 0
+IsMessage (mark.Timer t) = ⊥
+IsMessage (mark.Message m) = Unit {0}
+
+-- a message's mark has the number of its place
+number_in : (id number : ℕ) (what : Happening) (m : MessageKey) → mark_in id number what ≡ mark.Message m → number ≡ m.number
+number_in id number (Timer timer kind) m h = absurd (subst IsMessage (sym h) tt)
+number_in id number (Arrival kind bits payload) m h = ap (number_of number) h
+number_in id number (Delivery delivery) m h = ap (number_of number) h
+number_in id number (Start last) m h = ap (number_of number) h
+
+new_by : (p : Option EventEntry) (es : Held) (ts : Where) (n : ℕ) (m : MessageKey) → m.number ≡ n → AreSound es ts n → (k : Key) → ts (mark.Message m) ≡ Some k → at_key es k ≡ p → ⊥
+new_by None es ts n m next s k there at = none_some (sym (ap (option_map (mark_of k)) at) ∙ s.standing (mark.Message m) k there)
+new_by (Some e) es ts n m next s k there at =
+    let same : mark_of k e ≡ mark.Message m = mark_there es k e (mark.Message m) at (s.standing (mark.Message m) k there) in
+    let number : k.number ≡ n = number_in (id_of e) k.number (what_of e) m same ∙ next in
+    none_some (sym (fresh k es (subst (λ i. Each (λ (x : Key × EventEntry). x.0.number < i) es) (sym number) s.below)) ∙ at)
+
+new_message_by : (o : Option Key) (es : Held) (ts : Where) (n : ℕ) (m : MessageKey) → m.number ≡ n → AreSound es ts n → ts (mark.Message m) ≡ o → o ≡ None
+new_message_by None es ts n m next s h = refl
+new_message_by (Some k) es ts n m next s h = absurd (new_by (at_key es k) es ts n m next s k h refl)
+
+-- no message has the next number
+new_message : (es : Held) (ts : Where) (n : ℕ) (id : ℕ) → AreSound es ts n → ts (mark.Message (record { id = id; number = n })) ≡ None
+new_message es ts n id s = new_message_by (ts (mark.Message (record { id = id; number = n }))) es ts n (record { id = id; number = n }) refl s refl
+
 -- what isn't pending stands nowhere
-pub free_if : (es : Held) (ts : Where) (n : ℕ) (id : ℕ) (what : Happening) → AreSound es ts n → is_pending id what (list_of es) ≡ false → IsFree ts (timer_in id what)
-free_if es ts n id (Timer timer kind) s h = none_if (ts (record { id = id; timer = timer })) (has es ts n (record { id = id; timer = timer }) s ∙ h)
-free_if es ts n id (Arrival kind bits payload) s h = tt
-free_if es ts n id (Delivery delivery) s h = tt
-free_if es ts n id (Start last) s h = tt
+pub free_if : (es : Held) (ts : Where) (n : ℕ) (id : ℕ) (what : Happening) → AreSound es ts n → is_pending id what (list_of es) ≡ false → ts (mark_in id n what) ≡ None
+free_if es ts n id (Timer timer kind) s h = none_if (ts (mark.Timer (record { id = id; timer = timer }))) (has es ts n (record { id = id; timer = timer }) s ∙ h)
+free_if es ts n id (Arrival kind bits payload) s h = new_message es ts n id s
+free_if es ts n id (Delivery delivery) s h = new_message es ts n id s
+free_if es ts n id (Start last) s h = new_message es ts n id s
 
-undone_by : (b : Bool) (u t : TimerKey) (k : Key) (ts mid : Where) → is_at (timer_order u) t ≡ b → ts u ≡ None → mid t ≡ cond b (Some k) (ts t) → cond b None (mid t) ≡ ts t
-undone_by true u t k ts mid h free is = sym free ∙ ap ts (timer_at u t h)
-undone_by false u t k ts mid h free is = is
+undone_by : (b : Bool) (u m : Mark) (k : Key) (ts mid : Where) → same_mark u m ≡ b → ts u ≡ None → mid m ≡ cond b (Some k) (ts m) → cond b None (mid m) ≡ ts m
+undone_by true u m k ts mid h free is = sym free ∙ ap ts (mark_at u m h)
+undone_by false u m k ts mid h free is = is
 
-undone : (timer : Option TimerKey) (k : Key) (ts mid : Where) → IsFree ts timer → ((q : TimerKey) → mid q ≡ noted timer k ts q) → (t : TimerKey) → forgotten timer mid t ≡ ts t
-undone None k ts mid free is t = is t
-undone (Some u) k ts mid free is t = undone_by (is_at (timer_order u) t) u t k ts mid refl free (is t)
-
--- where the entry found no room, the timer is forgotten again
-pub sound_undone : (es fs : Held) (ts mid us : Where) (n : ℕ) (timer : Option TimerKey) (k : Key) → AreSound es ts n → fs ≡ es → IsFree ts timer → ((q : TimerKey) → mid q ≡ noted timer k ts q)
-    → ((q : TimerKey) → us q ≡ forgotten timer mid q) → AreSound fs us n
-sound_undone es fs ts mid us n timer k s is free noted forgotten =
-    subst (λ gs. AreSound gs us n) (sym is) (sound_same es ts us n s (λ t. forgotten t ∙ undone timer k ts mid free noted t))
+-- where the entry found no room, its mark is forgotten again
+pub sound_undone : (es fs : Held) (ts mid us : Where) (n : ℕ) (u : Mark) (k : Key) → AreSound es ts n → fs ≡ es → ts u ≡ None → ((q : Mark) → mid q ≡ with_mark u k ts q)
+    → ((q : Mark) → us q ≡ without_mark u mid q) → AreSound fs us n
+sound_undone es fs ts mid us n u k s is free noted forgotten =
+    subst (λ gs. AreSound gs us n) (sym is) (sound_same es ts us n s (λ m. forgotten m ∙ undone_by (same_mark u m) u m k ts mid refl free (noted m)))
 
 -- ---- the list is in order
 

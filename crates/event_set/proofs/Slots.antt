@@ -30,7 +30,7 @@ put_other_by true f g u t k e free = ap (λ o. option_or o (Some k)) (ap f (sym 
 put_other_by false f g u t k e free = refl
 
 -- a timer that is put in the tree, where the slots say what they said
-pub put_other : (f g h j : Where) (u : TimerKey) (k : Key) → either f g u ≡ None → ((t : TimerKey) → h t ≡ f t) → ((t : TimerKey) → j t ≡ cond (is_at (timer_order u) t) (Some k) (g t)) → (t : TimerKey) → either h j t ≡ noted (Some u) k (either f g) t
+pub put_other : (f g h j : Where) (u : TimerKey) (k : Key) → either f g u ≡ None → ((t : TimerKey) → h t ≡ f t) → ((t : TimerKey) → j t ≡ cond (is_at (timer_order u) t) (Some k) (g t)) → (t : TimerKey) → either h j t ≡ noted u k (either f g) t
 put_other f g h j u k free same is t = ap (λ o. option_or o (j t)) (same t) ∙ ap (option_or (f t)) (is t) ∙ put_other_by (is_at (timer_order u) t) f g u t k refl (none_both (f u) (g u) free).0
 
 -- ---- one less
@@ -40,8 +40,8 @@ less_both true o p = refl
 less_both false o p = refl
 
 -- a timer that leaves the tree
-pub less_other : (f g h j : Where) (u : TimerKey) → ((t : TimerKey) → h t ≡ forgotten (Some u) f t) → ((t : TimerKey) → j t ≡ cond (is_at (timer_order u) t) None (g t)) → (t : TimerKey) → either h j t ≡ forgotten (Some u) (either f g) t
-less_other f g h j u is less t = ap (λ o. option_or o (j t)) (is t) ∙ ap (option_or (forgotten (Some u) f t)) (less t) ∙ less_both (is_at (timer_order u) t) (f t) (g t)
+pub less_other : (f g h j : Where) (u : TimerKey) → ((t : TimerKey) → h t ≡ forgotten u f t) → ((t : TimerKey) → j t ≡ cond (is_at (timer_order u) t) None (g t)) → (t : TimerKey) → either h j t ≡ forgotten u (either f g) t
+less_other f g h j u is less t = ap (λ o. option_or o (j t)) (is t) ∙ ap (option_or (forgotten u f t)) (less t) ∙ less_both (is_at (timer_order u) t) (f t) (g t)
 
 -- ---- slots
 
@@ -87,7 +87,7 @@ first_put_by true false xs u t k p q free = ap (λ c. cond c (Some k) None) q �
 first_put_by false b xs u t k p q free = refl
 
 -- a timer is put in a slot that was free
-pub first_put : (xs : List First) (u : TimerKey) (k : Key) → u.id < length xs → slot xs u.id ≡ Free → (t : TimerKey) → first_at (slice_set xs u.id (Held k.priority u.timer k.time k.number)) t ≡ noted (Some u) k (first_at xs) t
+pub first_put : (xs : List First) (u : TimerKey) (k : Key) → u.id < length xs → slot xs u.id ≡ Free → (t : TimerKey) → first_at (slice_set xs u.id (Held k.priority u.timer k.time k.number)) t ≡ noted u k (first_at xs) t
 first_put xs u k within free t =
     ap (λ s. held s t.timer) (slot_set xs u.id t.id (Held k.priority u.timer k.time k.number) within)
     ∙ first_put_by (u.id == t.id) (u.timer == t.timer) xs u t k refl refl free
@@ -110,7 +110,7 @@ first_take_by true false xs u t k p q there =
 first_take_by false b xs u t k p q there = refl
 
 -- the slot in which a timer was found is made free
-pub first_take : (xs : List First) (u : TimerKey) (k : Key) → u.id < length xs → first_at xs u ≡ Some k → (t : TimerKey) → first_at (slice_set xs u.id Free) t ≡ forgotten (Some u) (first_at xs) t
+pub first_take : (xs : List First) (u : TimerKey) (k : Key) → u.id < length xs → first_at xs u ≡ Some k → (t : TimerKey) → first_at (slice_set xs u.id Free) t ≡ forgotten u (first_at xs) t
 first_take xs u k within there t =
     ap (λ s. held s t.timer) (slot_set xs u.id t.id Free within)
     ∙ first_take_by (u.id == t.id) (u.timer == t.timer) xs u t k refl refl there

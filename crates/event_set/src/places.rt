@@ -1,7 +1,4 @@
-//! Where events stand.
-
-ghost use Rattle.std.specs.Prelude.{◌≡◌};
-ghost use Rattle.event_set.specs.Events.{among};
+//! Where events stand, and what they are found by.
 
 use sim_time::SimTime;
 
@@ -21,9 +18,16 @@ pub(crate) struct TimerKey {
     pub(crate) timer: u32,
 }
 
-/// Whether an id is one of these.
-pub(crate) fn is_among(ids: &[u32], id: u32) -> bool
-    ensures { result ≡ among id ids.now }
-{
-    ids.iter().any(|other| *other == id)
+/// An event of a module that is no timer, by the number of its insertion.
+#[derive(Clone, Copy, PartialEq, Eq, PartialOrd, Ord, Drop)]
+pub(crate) struct MessageKey {
+    pub(crate) id: u32,
+    pub(crate) number: u128,
+}
+
+/// What an event to come is found by: its module, and which of the module's it is.
+#[derive(Clone, Copy, Drop)]
+pub(crate) enum Mark {
+    Timer(TimerKey),
+    Message(MessageKey),
 }

@@ -1,24 +1,21 @@
 //! The events to come, in a tree by their order.
 
-ghost use Rattle.std.specs.Prelude.{◌≡◌, ◌+◌, ◌^◌, ◌<◌, [], ◌∷◌, false, not, cond, OnOk, OnErr, IfOk};
-ghost use Rattle.std.specs.Prelude.{MatchOption, Some, slice_get};
+ghost use Rattle.std.specs.Prelude.{◌≡◌, ◌+◌, ◌^◌, ◌<◌, [], ◌∷◌, false, cond, OnOk, OnErr, IfOk, IsTrue};
+ghost use Rattle.std.specs.Prelude.{MatchOption, Some, slice_get, length};
 ghost use Rattle.std.specs.Option.{option_map};
 ghost use Rattle.event_set.specs.Order.{Each, AreInOrder};
 ghost use Rattle.event_set.specs.Timers.{has_timer, is_pending};
-ghost use Rattle.event_set.specs.Keys.{key_order, timer_in, at_key, place_at, noted, forgotten};
-ghost use Rattle.event_set.specs.Keys.{id_of, pending_of, IsFree};
-ghost use Rattle.event_set.specs.declared.places.TimerKey.{TimerKey};
+ghost use Rattle.event_set.specs.Keys.{key_order, mark_in, at_key, pending_of};
 ghost use Rattle.event_set.specs.declared.places.Key.{Key};
 ghost use Rattle.std.specs.BTreeMap.{is_at, insert_entry};
 ghost use Rattle.std.specs.List.Sorted.{IsStrictlySortedBy};
 ghost use Rattle.std.specs.Map.{keys_of};
-ghost use Rattle.event_set.specs.Events.{among, coming_of};
-ghost use Rattle.std.specs.List.{filter};
+ghost use Rattle.event_set.specs.Events.{coming_of};
 
 use crate::entry::EventEntry;
+use crate::module_index::ModuleIndex;
 use crate::pending::{Happening, Pending};
-use crate::places::{Key, TimerKey, is_among};
-use crate::timers::Timers;
+use crate::places::{Key, Mark, MessageKey, TimerKey};
 use sim_time::SimTime;
 use sim_values::NoMemory;
 use std::alloc::{AllocError, Global};
@@ -39,8 +36,8 @@ pub struct Coming {
 /// their list and the number of the next one.
 pub struct EventSet {
     events: BTreeMap<Key, EventEntry>,
-    /// Where the timers stand that are pending.
-    timers: Timers,
+    /// Where each event stands, by its module.
+    index: ModuleIndex,
     /// The number of the next insertion.
     next: u128,
     alloc: Global,
@@ -51,7 +48,7 @@ impl Drop for EventSet {
     fn drop(self) {
         let EventSet {
             events: _,
-            timers: _,
+            index: _,
             next: _,
             alloc: _,
         } = self;
@@ -60,13 +57,13 @@ impl Drop for EventSet {
 
 impl Model for EventSet {
     ghost use Rattle.event_set.specs.Events.{Events};
-    ghost use Rattle.event_set.specs.Keys.{list_of, place_at, AreSound};
+    ghost use Rattle.event_set.specs.Keys.{list_of, stands_at, AreSound};
 
     ghost Value = { Events };
 
     ghost view = { λ s. record { list = list_of s.events.entries; next = s.next } };
 
-    ghost invariant = { λ s. AreSound s.events.entries (place_at s.timers) s.next };
+    ghost invariant = { λ s. AreSound s.events.entries (stands_at s.index) s.next };
 }
 
 impl EventSet {
@@ -78,7 +75,7 @@ impl EventSet {
     {
         EventSet {
             events: BTreeMap::new(alloc),
-            timers: Timers::new(alloc),
+            index: ModuleIndex::new(alloc),
             next: 0,
             alloc,
         }
@@ -96,7 +93,7 @@ impl EventSet {
     pub fn has_timer(&self, id: u32, timer: u32) -> bool
         ensures { result ≡ has_timer id timer self.now.list }
     {
-        self.timers.find(TimerKey { id, timer }).is_some()
+        self.index.timer(TimerKey { id, timer }).is_some()
     }
 
     /// Puts an event in its place, with the next number, or changes nothing where memory runs out.
@@ -114,11 +111,11 @@ impl EventSet {
         ensures err { OnErr result (self.new ≡ self.old) }
     {
         let key = key_of(time, priority, self.next);
-        let timer = timer_in(id, &what);
+        let mark = mark_in(id, self.next, &what);
         let entry = EventEntry::new(self.alloc, id, what)?;
-        note_timer(&mut self.timers, &timer, &key)?;
+        self.index.note(&mark, &key)?;
         if let Err(refused) = put_entry(&mut self.events, key, entry) {
-            forget_timer(&mut self.timers, &timer);
+            self.index.forget(&mark);
             return Err(NoMemory::from(refused));
         }
         self.next += 1;
@@ -130,7 +127,7 @@ impl EventSet {
         ensures found { result ≡ has_timer id timer self.old.list }
         ensures rest { self.new ≡ cancelled id timer self.old }
     {
-        let Some(key) = self.timers.remove(TimerKey { id, timer }) else {
+        let Some(key) = self.index.forget(&Mark::Timer(TimerKey { id, timer })) else {
             return false;
         };
         self.events.remove(&key);
@@ -157,7 +154,7 @@ impl EventSet {
         };
         let id = entry.id();
         let what = entry.into_what();
-        forget_timer(&mut self.timers, &timer_in(id, &what));
+        self.index.forget(&mark_in(id, key.number, &what));
         Some(Pending {
             time: key.time,
             priority: key.priority,
@@ -172,21 +169,43 @@ impl EventSet {
         ensures { IfOk result (λ copy. copy ≡ self.now) }
     {
         let events = copy_events(&self.events)?;
-        let timers = self.timers.copy(alloc)?;
+        let index = self.index.copy(alloc)?;
         Ok(EventSet {
             events,
-            timers,
+            index,
             next: self.next,
             alloc,
         })
     }
 
-    /// Takes all events of these modules out. It takes a step for each event, and no memory.
+    /// Takes all events of these modules out. It takes no memory, and looks at no other events.
     pub fn drop_modules(&mut self, ids: &[u32])
         ensures { self.new ≡ without_modules ids.now self.old }
     {
-        keep_others(&mut self.events, ids);
-        self.timers.drop_modules(ids);
+        for id in ids {
+            self.drop_module(*id);
+        }
+    }
+
+    /// Takes all events of that module out.
+    fn drop_module(&mut self, id: u32)
+        ensures { self.new ≡ without_modules (id ∷ []) self.old }
+    {
+        while self.drop_one(id) {}
+    }
+
+    /// Takes one event of that module out, and says whether there was one.
+    fn drop_one(&mut self, id: u32) -> bool
+        ensures one { IsTrue result → (length self.new.list < length self.old.list)
+            × (without_modules (id ∷ []) self.new ≡ without_modules (id ∷ []) self.old) }
+        ensures none { result ≡ false → self.new ≡ without_modules (id ∷ []) self.old }
+    {
+        let Some((found, place)) = self.index.any_of(id) else {
+            return false;
+        };
+        self.index.forget(&found);
+        self.events.remove(&place);
+        true
     }
 }
 
@@ -237,43 +256,14 @@ fn put_entry(
     Ok(())
 }
 
-/// Notes where a timer stands, if it is one.
-fn note_timer(timers: &mut Timers, timer: &Option<TimerKey>, key: &Key) -> Result<(), AllocError>
-    requires { IsFree (place_at timers.old) timer.now }
-    ensures ok { OnOk result ((t : TimerKey)
-        → place_at timers.new t ≡ noted timer.now key.now (place_at timers.old) t) }
-    ensures err { OnErr result ((t : TimerKey) → place_at timers.new t ≡ place_at timers.old t) }
-{
-    if let Some(timer) = timer {
-        timers.put(*timer, key)?;
-    }
-    Ok(())
-}
-
-/// Forgets where a timer stands, if it is one.
-fn forget_timer(timers: &mut Timers, timer: &Option<TimerKey>)
-    ensures { (t : TimerKey) → place_at timers.new t ≡ forgotten timer.now (place_at timers.old) t }
-{
-    if let Some(timer) = timer {
-        timers.remove(*timer);
-    }
-}
-
-/// Which timer it is, if it is one.
-fn timer_in(id: u32, what: &Happening) -> Option<TimerKey>
-    ensures { result ≡ timer_in id what.now }
+/// The mark of an event.
+fn mark_in(id: u32, number: u128, what: &Happening) -> Mark
+    ensures { result ≡ mark_in id number what.now }
 {
     match what {
-        Happening::Timer(timer, _) => Some(TimerKey { id, timer: *timer }),
-        Happening::Arrival(_, _, _) | Happening::Delivery(_) | Happening::Start(_) => None,
+        Happening::Timer(timer, _) => Mark::Timer(TimerKey { id, timer: *timer }),
+        Happening::Arrival(_, _, _) | Happening::Delivery(_) | Happening::Start(_) => Mark::Message(
+            MessageKey { id, number },
+        ),
     }
-}
-
-/// Leaves the entries of all other modules.
-fn keep_others(events: &mut BTreeMap<Key, EventEntry>, ids: &[u32])
-    ensures entries { events.new.entries
-        ≡ filter (λ e. not (among (id_of e.1) ids.now)) events.old.entries }
-    ensures ordered { IsStrictlySortedBy key_order (keys_of events.new.entries) }
-{
-    events.retain(|_key, entry| !is_among(ids, entry.id()));
 }

@@ -1,13 +1,13 @@
 //! Where the timers stand that are pending.
 
-ghost use Rattle.std.specs.Prelude.{◌≡◌, ◌==◌, ◌<◌, cond, None, OnOk, OnErr, IfOk, if◌then◌else◌};
+ghost use Rattle.std.specs.Prelude.{◌≡◌, ◌<◌, None, Some, OnOk, OnErr, IfOk, MatchOption};
+ghost use Rattle.std.specs.Prelude.{if◌then◌else◌};
 ghost use Rattle.std.specs.Vec.{vec_len};
 ghost use Rattle.event_set.specs.Keys.{first_at, other_at, place_at, noted, forgotten};
-ghost use Rattle.event_set.specs.Keys.{left_without};
 ghost use Rattle.event_set.specs.declared.places.TimerKey.{TimerKey};
 ghost use Rattle.event_set.specs.declared.timers.First.TheVariants.{Held};
 
-use crate::places::{Key, TimerKey, is_among};
+use crate::places::{Key, TimerKey};
 use sim_time::SimTime;
 use std::alloc::{AllocError, Global};
 use std::collections::BTreeMap;
@@ -61,7 +61,7 @@ impl Model for Timers {
 }
 
 impl Timers {
-    ghost use Rattle.std.specs.Prelude.{[], Some};
+    ghost use Rattle.std.specs.Prelude.{[]};
 
     /// No timers.
     pub(crate) fn new(alloc: Global) -> Self
@@ -87,7 +87,7 @@ impl Timers {
     pub(crate) fn put(&mut self, timer: TimerKey, key: &Key) -> Result<(), AllocError>
         requires { place_at self.old timer ≡ None }
         ensures ok { OnOk result ((t : TimerKey)
-            → place_at self.new t ≡ noted (Some timer) key.now (place_at self.old) t) }
+            → place_at self.new t ≡ noted timer key.now (place_at self.old) t) }
         ensures err { OnErr result ((t : TimerKey) → place_at self.new t ≡ place_at self.old t) }
     {
         if put_in_slot(&mut self.firsts, timer, key)? {
@@ -101,7 +101,7 @@ impl Timers {
     pub(crate) fn remove(&mut self, timer: TimerKey) -> Option<Key>
         ensures found { result ≡ place_at self.old timer }
         ensures rest { (t : TimerKey)
-            → place_at self.new t ≡ forgotten (Some timer) (place_at self.old) t }
+            → place_at self.new t ≡ forgotten timer (place_at self.old) t }
     {
         match take_from_slot(&mut self.firsts, timer) {
             Some(key) => Some(key),
@@ -109,13 +109,15 @@ impl Timers {
         }
     }
 
-    /// Forgets all timers of these modules.
-    pub(crate) fn drop_modules(&mut self, ids: &[u32])
-        ensures { (t : TimerKey)
-            → place_at self.new t ≡ left_without ids.now (place_at self.old) t }
+    /// One of the timers of that module, and where it stands, if one is pending.
+    pub(crate) fn any_of(&self, id: u32) -> Option<(TimerKey, Key)>
+        ensures { MatchOption result ((t : TimerKey) → t.id ≡ id → place_at self.now t ≡ None)
+            (λ p. (p.0.id ≡ id) × (place_at self.now p.0 ≡ Some p.1)) }
     {
-        free_slots(&mut self.firsts, ids);
-        drop_others(&mut self.others, ids);
+        match first_of(self.firsts.as_slice(), id) {
+            Some(first) => Some(first),
+            None => any_other(&self.others, id),
+        }
     }
 
     /// The same timers at the same places.
@@ -179,7 +181,7 @@ fn held(timer: u32, key: Key) -> First
 /// Puts a timer in its module's slot, and says whether that was free.
 fn put_in_slot(firsts: &mut Vec<First>, timer: TimerKey, key: &Key) -> Result<bool, AllocError>
     ensures ok { IfOk result (λ put. (t : TimerKey) → first_at firsts.new.items t
-        ≡ (if put then noted (Some timer) key.now (first_at firsts.old.items) t
+        ≡ (if put then noted timer key.now (first_at firsts.old.items) t
         else first_at firsts.old.items t)) }
     ensures err { OnErr result ((t : TimerKey)
         → first_at firsts.new.items t ≡ first_at firsts.old.items t) }
@@ -200,38 +202,47 @@ fn put_in_slot(firsts: &mut Vec<First>, timer: TimerKey, key: &Key) -> Result<bo
 fn take_from_slot(firsts: &mut Vec<First>, timer: TimerKey) -> Option<Key>
     ensures found { result ≡ first_at firsts.old.items timer }
     ensures rest { (t : TimerKey)
-        → first_at firsts.new.items t ≡ forgotten (Some timer) (first_at firsts.old.items) t }
+        → first_at firsts.new.items t ≡ forgotten timer (first_at firsts.old.items) t }
 {
     let key = found_in(firsts.as_slice(), timer)?;
     firsts[timer.id as usize] = First::Free;
     Some(key)
 }
 
-/// Frees the slots of these modules.
-fn free_slots(firsts: &mut Vec<First>, ids: &[u32])
-    ensures { (t : TimerKey) → first_at firsts.new.items t
-        ≡ left_without ids.now (first_at firsts.old.items) t }
+/// The timer in that module's slot, and where it stands.
+fn first_of(firsts: &[First], id: u32) -> Option<(TimerKey, Key)>
+    ensures { MatchOption result ((t : TimerKey) → t.id ≡ id → first_at firsts.now t ≡ None)
+        (λ p. (p.0.id ≡ id) × (first_at firsts.now p.0 ≡ Some p.1)) }
 {
-    for id in ids {
-        free_slot(firsts, *id);
-    }
+    let Some(
+        First::Held {
+            priority,
+            timer: held,
+            time,
+            number,
+        },
+    ) = firsts.get(id as usize)
+    else {
+        return None;
+    };
+    let key = Key {
+        time: *time,
+        priority: *priority,
+        number: *number,
+    };
+    Some((TimerKey { id, timer: *held }, key))
 }
 
-/// Frees the slot of that module.
-fn free_slot(firsts: &mut Vec<First>, id: u32)
-    ensures { (t : TimerKey) → first_at firsts.new.items t
-        ≡ cond (id == t.id) None (first_at firsts.old.items t) }
+/// One of that module's timers in the tree, and where it stands.
+fn any_other(others: &BTreeMap<TimerKey, Key>, id: u32) -> Option<(TimerKey, Key)>
+    ensures { MatchOption result ((t : TimerKey) → t.id ≡ id → other_at others.now.entries t ≡ None)
+        (λ p. (p.0.id ≡ id) × (other_at others.now.entries p.0 ≡ Some p.1)) }
 {
-    let place = id as usize;
-    if place < firsts.len() {
-        firsts[place] = First::Free;
+    let Some((timer, key)) = others.range(TimerKey { id, timer: 0 }..).next() else {
+        return None;
+    };
+    if timer.id != id {
+        return None;
     }
-}
-
-/// Leaves the timers of all other modules in the tree.
-fn drop_others(others: &mut BTreeMap<TimerKey, Key>, ids: &[u32])
-    ensures { (t : TimerKey) → other_at others.new.entries t
-        ≡ left_without ids.now (other_at others.old.entries) t }
-{
-    others.retain(|timer, _place| !is_among(ids, timer.id));
+    Some((*timer, *key))
 }

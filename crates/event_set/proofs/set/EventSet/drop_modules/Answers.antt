@@ -1,13 +1,16 @@
-use Rattle.std.proofs.Common.{◌∙◌, ap}
-use Rattle.event_set.specs.Events.{Events, without_modules}
-use Rattle.event_set.specs.Keys.{list_of, place_at}
-use Rattle.event_set.proofs.Dropping.{list_left, sound_left}
+use Rattle.std.proofs.Common.{◌∙◌, ◌+◌, ap, sym, drop}
+use Rattle.std.proofs.lemmas.List.{drop_more, drop_all}
+use Rattle.event_set.specs.Events.{without_modules}
+use Rattle.event_set.proofs.Dropping.{module_then_others, no_modules}
 use Rattle.event_set.proofs.set.EventSet.drop_modules.Goals as goal
 
-pub invariant_of-self : goal.invariant_of-self
-invariant_of-self c = sound_left c.args.ids.now c.self.inside.events.entries c.keep_others.new.events.entries (place_at c.self.inside.timers) (place_at c.drop_modules.new.self) c.self.inside.next c.self.invariant c.keep_others.ensures.entries c.keep_others.ensures.ordered c.drop_modules.ensures
+pub loop-id-preserved : goal.loop-id-preserved
+loop-id-preserved c =
+    module_then_others _ (drop (c.loop-id.id-index + 1) c.args.ids.now) (drop c.loop-id.id-index c.args.ids.now) c.loop-id.self c.drop_module.new.self c.drop_module.ensures (drop_more c.args.ids.now c.loop-id.id-index _ c.loop-id-test.true)
+    ∙ c.loop-id.invariant
 
 pub returns : goal.returns
 returns c =
-    ap (λ ps. record { list = ps; next = c.self.inside.next }) (ap list_of c.keep_others.ensures.entries ∙ list_left c.args.ids.now c.self.inside.events.entries)
-    ∙ ap (λ (e : Events). without_modules c.args.ids.now e) c.self.view_is
+    sym (no_modules c.loop-id.self)
+    ∙ ap (λ ids. without_modules ids c.loop-id.self) (sym (drop_all c.loop-id.id-index c.args.ids.now c.loop-id-test.false))
+    ∙ c.loop-id.invariant
