@@ -6,3 +6,5 @@ mod Namesakes
 pub mod Lasting
 pub mod Places
 mod Starts
+mod Unstarted
+mod Tails

@@ -1,5 +1,5 @@
 -- The ids of the modules that were created.
-use Rattle.std.proofs.Common.{◌≡◌, ◌≤◌, ◌<◌, ◌+◌, ◌&&◌, ℕ, Bool, true, false, true≢false, List, length, nat_le, nat_lt, refl, sym, ◌∙◌, arith, ap}
+use Rattle.std.proofs.Common.{◌≡◌, ◌&&◌, ℕ, Bool, true, false, true≢false, List, length, nat_le, nat_lt, refl, sym, ◌∙◌, arith}
 use Rattle.std.proofs.lemmas.Bool.{le-leb, leb-true, lt-ltb, ltb-true}
 use Rattle.model_questions.specs.declared.record.Record.{Record}
 use Rattle.run_semantics.specs.Subtree.{among, ids_from}

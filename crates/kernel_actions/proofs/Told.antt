@@ -1,6 +1,5 @@
 -- A parameter that stands at a place is one of its name.
-use Rattle.std.proofs.Common.{◌≡◌, ℕ, zero, suc, Bool, true, false, cond, List, [], ◌∷◌, Option, Some, None, is_some, slice_get, bytes_eq, refl, ap, ◌∙◌}
-use Rattle.sim_values.specs.declared.value.Value.{Value}
+use Rattle.std.proofs.Common.{◌≡◌, ℕ, zero, suc, Bool, true, false, cond, List, [], ◌∷◌, Some, is_some, slice_get, bytes_eq, refl, ap, ◌∙◌}
 use Rattle.module_api.specs.declared.call.Parameter.{Parameter}
 use Rattle.module_api.specs.Values.{value_of}
 

@@ -28,13 +28,15 @@ ghost use Rattle.run_semantics.specs.Subtree.{among, ids_from, outer_first};
 ghost use Rattle.kernel_actions.specs.Positions.{lengths_of, position_of, cut_to, core_back};
 ghost use Rattle.kernel_actions.specs.Positions.{IsGrownFrom};
 
-use crate::classes::{copy_class, is_among};
+use crate::classes::copy_class;
+use crate::endings::may_have;
 use crate::events::delivery_at;
 use crate::looks::{Look, LookList, LookedAt, Next};
 use crate::position::{Lengths, Position};
 use crate::record_table::RecordTable;
 use event_set::pending::{Happening, Pending};
 use event_set::set::EventSet;
+use id_lists::IdList;
 use model_injections::injection::{Due, Injection, InjectionTurn, injection_before};
 use model_questions::answer::{Answer, Built, Question, is_beyond};
 use model_questions::record::{MAX_NESTING, Origin, Record, levels_of, path_of, submodule_path};
@@ -60,7 +62,7 @@ use sim_values::text::Text;
 use sqlite_items::Items;
 use std::alloc::Global;
 use std::marker::Model;
-use subtrees::{all_ids, between, common, inner_first, outer_first, subtree_in, without};
+use subtrees::{all_ids, common, inner_first, outer_first, subtree_in, without};
 
 /// How many modules live at most.
 const MAX_LIVE: usize = 65_536;
@@ -77,8 +79,8 @@ pub struct Core {
     count: u64,
     records: RecordTable,
     /// The ids of those modules that are dead, in the order in which they died.
-    dead: Items<u32>,
-    started: Items<u32>,
+    dead: IdList,
+    started: IdList,
     finished: Items<u32>,
     pending: EventSet,
     ended: bool,
@@ -154,8 +156,8 @@ impl Core {
             clock: SimTime::zero(),
             count: 0,
             records: RecordTable::new(alloc),
-            dead: Items::new(alloc),
-            started: Items::new(alloc),
+            dead: IdList::new(alloc),
+            started: IdList::new(alloc),
             finished: Items::new(alloc),
             pending: EventSet::new(alloc),
             ended: false,
@@ -483,15 +485,18 @@ impl Core {
     pub fn is_live(&self, id: u32) -> bool
         ensures { result ≡ is_live self.now id }
     {
-        self.is_created(id) && !is_among(self.dead.as_slice(), id)
+        self.is_created(id) && !self.dead.has(id)
     }
 
     /// Whether the module of that id, which was created, lives, and has that path.
     fn is_at(&self, alloc: Global, path: &[u8], id: u32) -> Result<bool, NoMemory>
         ensures { IfOk result (λ found. found ≡ is_at path.now self.now id) }
     {
+        if self.dead.has(id) || !may_have(self.records.as_slice(), id, path) {
+            return Ok(false);
+        }
         let found = path_of(alloc, self.records.as_slice(), id)?;
-        Ok(found.is(path) && !is_among(self.dead.as_slice(), id))
+        Ok(found.is(path))
     }
 
     /// The module of that path that lives, where there is one.
@@ -950,8 +955,22 @@ impl Core {
     pub fn starting(&self, alloc: Global, first: u32, last: u32) -> Result<Items<u32>, NoMemory>
         ensures { IfOk result (λ ids. ids ≡ starting first last self.now) }
     {
-        let unstarted = self.unstarted(alloc)?;
-        between(alloc, unstarted.as_slice(), first, last)
+        let mut found = Items::new(alloc);
+        let end = self.records.len().min(last as usize);
+        for index in first.saturating_sub(1) as usize..end {
+            let id = index as u32 + 1;
+            if self.is_unstarted(id) {
+                found.push(id)?;
+            }
+        }
+        Ok(found)
+    }
+
+    /// Whether the module of that id is not dead and was not started.
+    fn is_unstarted(&self, id: u32) -> bool
+        ensures { result ≡ (not (among id self.now.dead) && not (among id self.now.started)) }
+    {
+        !self.dead.has(id) && !self.started.has(id)
     }
 
     /// A module with those of these modules that are inside of it, in the order of calls.
@@ -986,7 +1005,7 @@ impl Core {
         ensures { result
             ≡ (is_called parent creation.now (Some created.now) && not (among id self.now.dead)) }
     {
-        is_called(parent, creation, created) && !is_among(self.dead.as_slice(), id)
+        is_called(parent, creation, created) && !self.dead.has(id)
     }
 
     /// Whether a submodule of a module that lives has that name and index.
@@ -1145,8 +1164,8 @@ impl Core {
         ensures { self.new ≡ cut_to lengths self.old }
     {
         self.records.cut(lengths.records);
-        cut_items(&mut self.dead, lengths.dead);
-        cut_items(&mut self.started, lengths.started);
+        self.dead.cut(lengths.dead);
+        self.started.cut(lengths.started);
         cut_items(&mut self.finished, lengths.finished);
         cut_items(&mut self.changes, lengths.changes);
         cut_items(&mut self.emissions, lengths.emissions);
@@ -1176,7 +1195,7 @@ impl Core {
 }
 
 /// Notes these modules besides. Where memory runs out some of them are noted.
-fn note_ids(noted: &mut Items<u32>, ids: &[u32]) -> Result<(), NoMemory>
+fn note_ids(noted: &mut IdList, ids: &[u32]) -> Result<(), NoMemory>
     ensures ok { OnOk result (noted.new ≡ noted.old ++ ids.now) }
     ensures grown { GoesOn noted.old noted.new }
 {

@@ -4,6 +4,7 @@
 
 pub mod classes;
 pub mod core_part;
+mod endings;
 pub mod events;
 pub mod gates;
 pub mod laws;
