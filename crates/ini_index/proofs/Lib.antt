@@ -1,0 +1,4 @@
+pub mod Firsts
+pub mod KeyLaws
+pub mod Noted
+pub mod SectionLaws

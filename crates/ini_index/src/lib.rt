@@ -1,0 +1,9 @@
+//! The entries of a configuration, with an index that finds the first match for a path by the names
+//! that keys end with.
+#![tactic(auto)]
+
+pub mod along;
+pub mod index;
+mod key;
+pub mod list;
+mod speaks;
