@@ -57,7 +57,7 @@ class World:
     def __init__(self, model, messages, limit):
         self.model, self.messages, self.limit = model, sorted(messages, key=lambda it: (it.time, it.priority, it.number)), limit
         self.now, self.count, self.inserted, self.delivered = 0, 0, 0, ()
-        self.events, self.parts, self.living, self.ends, self.changes = [], [], 0, {}, {}
+        self.events, self.parts, self.living, self.waiting, self.ends, self.changes = [], [], 0, 0, {}, {}
         self.emitted, self.scalars, self.asked, self.outcome, self.ended = [], [], [], None, False
         self.event, self.is_noted = 0, True
 
@@ -122,6 +122,8 @@ class World:
         for it in wanted:
             if it.type.class_ not in CLASSES:
                 raise Fault("UnknownClass", it.path)
+            self.waiting += 1
+        self.waiting = 0
         for it in wanted:
             it.state = CLASSES[it.type.class_].initial()
         for it in parts:
@@ -132,8 +134,8 @@ class World:
                 self.call(it, None, True)
 
     def held(self):
-        """How many boxes there are: those of the modules that were started. Those that came before a start that failed are dropped."""
-        return sum(it.live and it.started and it.simple for it in self.parts)
+        """How many boxes there are: those of the modules that were started, and those that came for a start that failed."""
+        return sum(it.live and it.started and it.simple for it in self.parts) + self.waiting
 
     def at(self, path):
         """The module of that path that lives."""

@@ -118,6 +118,22 @@ ROWS = {
     "injected": (SPAWNS, None, [], ["inject N.w 1s -32768 0 7 -", "inject N.w 2500ms 0 0 9 -", "run 100"], ["edited valid none injection 1", "edited valid none injection 2", "done no-more-events from start executed 5"], ["scalar N.w rx:count 1"], ["vector 0 N.w rx:vector ETV", "0\t5\t2.5\t9"]),
     # its start event has a fault of its own where the class is none
     "unknown_class": ("types: simple Sink { @class(Foo); gates: input in; } submodules: m: Spawner;", None, [], ["run 100", "held"], [*fault("UnknownClass", "N.w", 2), "held 1"]),
+    # the boxes that came before are held until the next run
+    "unknown_class_at_setup": (
+        "types: simple Strange { @class(Foo); } submodules: a: Sink; f: Strange; connections allowunconnected:",
+        None,
+        [],
+        ["run 100", "held", "ini insert 3 **.a.x = 1", "held", "run 100", "held"],
+        [*fault("UnknownClass", "N.f", 0), "held 1", "edited valid 0", "held 1", *fault("UnknownClass", "N.f", 0), "held 1"],
+    ),
+    # m is 2, w is 3, and in it a is 4 and z 5. The run to event 1 goes back to event 0, and drops the box of a
+    "unknown_class_inside": (
+        "types: module Sink { gates: input in; types: simple Strange { @class(Foo); gates: input in; } submodules: a: Sink; z: Strange; connections allowunconnected: in --> z.in; } submodules: m: Spawner;",
+        None,
+        [],
+        ["run 100", "held", "ini insert 3 **.a.x = 1", "held", "run 1", "held"],
+        [*fault("UnknownClass", "N.w.z", 2), "held 2", "edited valid 2", "held 2", "done event-limit from 0 executed 1", "held 1"],
+    ),
     "no_such_type": ("types: channel Sink extends Line {} submodules: m: Spawner;", None, [], ["run 100"], fault("UnknownType", "N.w")),
     "namesake": ("submodules: w: Sink; m: Spawner; connections allowunconnected:", None, [], ["run 100"], fault("DuplicateName")),
     # both have their timer at 1 s; the start of what the first one makes goes before that of the second

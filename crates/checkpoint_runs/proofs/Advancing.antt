@@ -9,7 +9,7 @@ use Rattle.kernel.specs.declared.request.Request.{Request}
 use Rattle.module_api.specs.Behaviour.{Behaviour}
 use Rattle.model_questions.specs.Answers.{Answers}
 use Rattle.run_semantics.specs.declared.outcome.Outcome.{Outcome}
-use Rattle.run_semantics.specs.Run.{Part, Running, Over, after, run_to, standing, start, world_at}
+use Rattle.run_semantics.specs.Run.{Part, Running, Over, after, prepared, run_to, standing, start, world_at}
 use Rattle.run_semantics.specs.World.{World}
 use Rattle.run_semantics.proofs.Ends.{count_over, run_over}
 use Rattle.checkpoint_runs.specs.declared.phases.AtSetup.{AtSetup}
@@ -23,10 +23,11 @@ use Rattle.checkpoint_runs.specs.declared.phases.RunStatus.TheVariants as status
 use Rattle.checkpoint_runs.specs.declared.phases.Stood.TheVariants as stood
 use Rattle.checkpoint_runs.specs.Kept.{supplied_in, waiting_in, CanGoOnWith, HasAllBelow, HasGood, HasRunOn, HasStarted, IsGoing}
 use Rattle.checkpoint_runs.specs.Positions.{behind, cut, first_behind, numbers_from, positions_begun, start_of, starts_within, HasLeft}
-use Rattle.checkpoint_runs.specs.Running.{at_setup, first_wait, kept_at_setup, kept_back, needed_back, parts_in, progress_of, refused_if, resumed, resumed_if, wait_anew, wait_before, wait_first, wait_of, wanted_at_setup, whole_run, Advances, IsEnded, IsFilled, IsHeldUp, IsLive, IsLiveAtSetup, IsPaused, IsWaiting}
+use Rattle.checkpoint_runs.specs.Running.{at_setup, first_wait, kept_at_setup, kept_back, left_of_start, needed_back, needed_by_setup, parts_in, progress_of, refused_if, resumed, resumed_if, supplied_left, wait_anew, wait_before, wait_first, wait_of, wanted_at_setup, whole_run, Advances, IsEnded, IsFilled, IsHeldUp, IsLive, IsLiveAtSetup, IsPaused, IsWaiting}
 use Rattle.checkpoint_runs.proofs.Counting.{fault_left, left_after_start}
 use Rattle.checkpoint_runs.proofs.Ends.{none_less}
 use Rattle.checkpoint_runs.proofs.Filling.{over_waits, start_is_fault, whole_over}
+use Rattle.checkpoint_runs.proofs.Leaving.{going_from, known_started, known_through, none_left, setup_left}
 use Rattle.checkpoint_runs.proofs.Onwards.{within_more}
 use Rattle.checkpoint_runs.proofs.Whole.{whole_count}
 
@@ -72,13 +73,13 @@ setup_waits b m limit at boxes supplied old new w waiting request e wanted fille
 
 -- it can't begin
 pub setup_over : (b : Behaviour) (m : Answers) (limit : ℕ) (at : AtSetup) (boxes supplied : List Part) (old new : Timeline Position) (w : World) (waiting : List BoxAt) (outcome : Outcome) → start_of limit (counts_in old).stored ≡ None → wanted_at_setup at m (kept_at_setup at supplied) ≡ None
-    → Over w outcome ≡ start b m → waiting ≡ [] → IsBegun old → new ≡ old → IsEnded b m limit at None boxes supplied (counts_in old) w waiting (counts_in new) (record { start = None; outcome = outcome })
-setup_over b m limit at boxes supplied old new w waiting outcome e wanted over none begun_is same =
+    → Over w outcome ≡ start b m → parts_in waiting ≡ left_of_start b (needed_by_setup (prepared m)) → IsBegun old → new ≡ old → IsEnded b m limit at None boxes supplied (counts_in old) w waiting (counts_in new) (record { start = None; outcome = outcome })
+setup_over b m limit at boxes supplied old new w waiting outcome e wanted over left begun_is same =
     let few = count_over b m w outcome zero over in
     record {
       none = anew_is b m limit at (counts_in old).stored boxes supplied None e ∙ over_waits b m limit w outcome (wanted_at_setup at m (kept_at_setup at supplied)) wanted over;
       whole = whole_over b m limit w outcome over;
-      none_wait = none;
+      left = setup_left b m limit w waiting outcome over left;
       began = sym e;
       within = tt;
       positions = fault_left b m limit w outcome old new begun_is same (run_over b m w outcome zero limit (omega arith) over) (omega (arith, few)) (start_is_fault b m w outcome over);
@@ -140,7 +141,7 @@ module _ {C X : Type 0} {Y : X → Type 0} where
   started_progress b m members limit at boxes supplied old after (status.Done outcome) e wanted h = record {
     none = setup_first b m limit at old.stored boxes supplied None e wanted ∙ ap (option_map (wait_before None)) h.none;
     whole = h.whole;
-    none_wait = h.empty;
+    left = none_left b m limit (waiting_in members after) h.empty (known_started b m limit h.known h.none);
     began = sym e;
     within = tt;
     positions = h.left;
@@ -149,9 +150,9 @@ module _ {C X : Type 0} {Y : X → Type 0} where
   -- ---- a run that begins at a position
 
   pub back_progress : (b : Behaviour) (m : Answers) (members : Members X Y) (limit s : ℕ) (at : AtSetup) (boxes supplied : List Part) (old : Timeline ℕ) (before after : Runner C X Y) (r : RunStatus Outcome) → start_of limit old.stored ≡ Some s → needed_back b m s (kept_back b m s boxes) ≡ None
-      → (world_in members before.kernel).count ≡ s → supplied_in members before ≡ [] → counts_in before.positions ≡ cut (Some s) old → HasRunOn b m members limit before after r
+      → IsGoing b m members limit before → (world_in members before.kernel).count ≡ s → supplied_in members before ≡ [] → counts_in before.positions ≡ cut (Some s) old → HasRunOn b m members limit before after r
       → Advances b m limit at None boxes supplied old (world_in members after.kernel) (waiting_in members after) (counts_in after.positions) (progress_of (Some s) (world_in members after.kernel).count r)
-  back_progress b m members limit s at boxes supplied old before after (status.Waits request) e wanted count empty c h =
+  back_progress b m members limit s at boxes supplied old before after (status.Waits request) e wanted going count empty c h =
       let w : World = world_in members after.kernel in
       let held : IsHeldUp b m limit s [] w (waiting_in members after) request =
       subst (λ n. IsHeldUp b m limit n [] w (waiting_in members after) request) count
@@ -170,7 +171,7 @@ module _ {C X : Type 0} {Y : X → Type 0} where
             ∙ ap (λ o. positions_begun old o (suc w.count - first_behind o)) (sym e);
         began = sym e;
       }
-  back_progress b m members limit s at boxes supplied old before after (status.Done outcome) e wanted count empty c h =
+  back_progress b m members limit s at boxes supplied old before after (status.Done outcome) e wanted going count empty c h =
       let w : World = world_in members after.kernel in
       let left : HasLeft s (counts_in before.positions) (counts_in after.positions) (run_to b m limit) = subst (λ n. HasLeft n (counts_in before.positions) (counts_in after.positions) (run_to b m limit)) count h.left in
       let none : first_wait b m s (limit - s) [] ≡ None =
@@ -182,7 +183,8 @@ module _ {C X : Type 0} {Y : X → Type 0} where
             ∙ ap (λ o. wait_first (Some s) AtPosition o (first_wait b m s (limit - s) [])) wanted
             ∙ ap (option_map (wait_before (Some s))) none;
         whole = h.whole;
-        none_wait = h.empty;
+        left = none_left b m limit (waiting_in members after) h.empty
+            (known_through b m limit (limit - s) s (world_in members before.kernel) [] (let l = going.within in omega (arith, l, count)) (going_from b m s (world_in members before.kernel) count going.going) tt none);
         began = sym e;
         within = let g = left.grew in omega (arith, g, many);
         positions = left_after_start b m limit s old (counts_in before.positions) (counts_in after.positions) e c left;
@@ -190,10 +192,11 @@ module _ {C X : Type 0} {Y : X → Type 0} where
 
   -- one that goes on where it waited
   pub onwards_progress : (b : Behaviour) (m : Answers) (members : Members X Y) (limit : ℕ) (r : Resumed) (at : AtSetup) (boxes : List Part) (before after : Runner C X Y) (s : RunStatus Outcome) → (r.declined && nat_lt r.count limit) ≡ false
-      → (world_in members before.kernel).count ≡ r.count → starts_within r.from r.count → HasRunOn b m members limit before after s
+      → r.count ≤ limit → IsPaused b m (world_in members before.kernel) (waiting_in members before) r.count → starts_within r.from r.count → HasRunOn b m members limit before after s
       → Advances b m limit at (Some r) boxes (supplied_in members before) (counts_in before.positions) (world_in members after.kernel) (waiting_in members after) (counts_in after.positions) (progress_of r.from (world_in members after.kernel).count s)
-  onwards_progress b m members limit r at boxes before after (status.Waits request) going count began h =
+  onwards_progress b m members limit r at boxes before after (status.Waits request) going up_to paused began h =
       let w : World = world_in members after.kernel in
+      let count : (world_in members before.kernel).count ≡ r.count = paused.count in
       let supplied : List Part = supplied_in members before in
       let held : IsHeldUp b m limit r.count supplied w (waiting_in members after) request = subst (λ n. IsHeldUp b m limit n supplied w (waiting_in members after) request) count h.held in
       let off : r.declined ≡ false = undeclined r limit going (let g = held.grew in let l = held.within in omega (arith, g, l)) in
@@ -205,8 +208,9 @@ module _ {C X : Type 0} {Y : X → Type 0} where
         positions = subst (λ n. counts_in after.positions ≡ behind is_multiple (counts_in before.positions) (numbers_from (suc n) (w.count - n))) count h.counts;
         began = refl;
       }
-  onwards_progress b m members limit r at boxes before after (status.Done outcome) going count began h =
+  onwards_progress b m members limit r at boxes before after (status.Done outcome) going up_to paused began h =
       let w : World = world_in members after.kernel in
+      let count : (world_in members before.kernel).count ≡ r.count = paused.count in
       let supplied : List Part = supplied_in members before in
       let left : HasLeft r.count (counts_in before.positions) (counts_in after.positions) (run_to b m limit) = subst (λ n. HasLeft n (counts_in before.positions) (counts_in after.positions) (run_to b m limit)) count h.left in
       let none : first_wait b m r.count (limit - r.count) supplied ≡ None = subst (λ n. first_wait b m n (limit - n) supplied ≡ None) count h.none in
@@ -214,7 +218,8 @@ module _ {C X : Type 0} {Y : X → Type 0} where
       record {
         none = none_onwards r.declined (first_wait b m r.count (limit - r.count) supplied) r.from none;
         whole = h.whole;
-        none_wait = h.empty;
+        left = none_left b m limit (waiting_in members after) h.empty
+            (known_through b m limit (limit - r.count) r.count (world_in members before.kernel) (waiting_in members before) (omega (arith, up_to)) paused.going paused.first none);
         began = refl;
         within = within_more r.from r.count w.count began (let g = left.grew in omega (arith, g, many));
         positions = left.counts;
@@ -234,14 +239,14 @@ module _ {C X : Type 0} {Y : X → Type 0} where
       }
 
 -- its box was declined
-pub refused_ended : (b : Behaviour) (m : Answers) (limit : ℕ) (r : Resumed) (at : AtSetup) (boxes supplied : List Part) (old new : Timeline ℕ) (w : World) (waiting : List BoxAt) (outcome : Outcome) → r.declined ≡ true → starts_within r.from r.count → whole_run b m limit w outcome → HasLeft r.count old new (run_to b m limit) → waiting ≡ []
+pub refused_ended : (b : Behaviour) (m : Answers) (limit : ℕ) (r : Resumed) (at : AtSetup) (boxes supplied : List Part) (old new : Timeline ℕ) (w : World) (waiting : List BoxAt) (outcome : Outcome) → r.declined ≡ true → starts_within r.from r.count → whole_run b m limit w outcome → HasLeft r.count old new (run_to b m limit) → parts_in waiting ≡ supplied_left b m limit
     → IsEnded b m limit at (Some r) boxes supplied old w waiting new (record { start = r.from; outcome = outcome })
-refused_ended b m limit r at boxes supplied old new w waiting outcome declined began whole left none =
+refused_ended b m limit r at boxes supplied old new w waiting outcome declined began whole left waits =
     let many = whole_count b m limit w outcome whole in
     record {
       none = ap (λ (c : Bool). if c then None else option_map (wait_before r.from) (first_wait b m r.count (limit - r.count) supplied)) declined;
       whole = whole;
-      none_wait = none;
+      left = waits;
       began = refl;
       within = within_more r.from r.count w.count began (let g = left.grew in omega (arith, g, many));
       positions = left.counts;

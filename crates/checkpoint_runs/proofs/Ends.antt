@@ -9,7 +9,7 @@ use Rattle.module_api.specs.Behaviour.{Behaviour}
 use Rattle.model_questions.specs.Answers.{Answers}
 use Rattle.run_semantics.specs.declared.outcome.Outcome.{Outcome}
 use Rattle.run_semantics.specs.Ending.{ending}
-use Rattle.run_semantics.specs.Run.{Part, Ran, Stage, Running, after, is_fault, next_stage, run_to, stage_of, stopped, world_at}
+use Rattle.run_semantics.specs.Run.{Part, Ran, Stage, Running, after, first_unknown, is_fault, next_stage, run_to, stage_of, stopped, world_at}
 use Rattle.run_semantics.specs.World.{World, HasRoom}
 use Rattle.run_semantics.proofs.Ends.{run_over}
 use Rattle.run_semantics.proofs.Fitting.{fits_after}
@@ -19,7 +19,7 @@ use Rattle.checkpoint_runs.specs.declared.phases.RunStatus.{RunStatus}
 use Rattle.checkpoint_runs.specs.declared.phases.RunStatus.TheVariants as status
 use Rattle.checkpoint_runs.specs.Kept.{is_owed, supplied_in, taken_if, waiting_in, AreGood, HasGoneOn, HasRunOn, HasStarted}
 use Rattle.checkpoint_runs.specs.Positions.{behind, numbers_from, positions_onwards, HasLeft}
-use Rattle.checkpoint_runs.specs.Running.{first_wait, fresh_run, IsHeldUp}
+use Rattle.checkpoint_runs.specs.Running.{first_wait, fresh_run, needed_in, IsHeldUp}
 use Rattle.checkpoint_runs.proofs.Counting.{setup_begins, setup_left_all}
 use Rattle.checkpoint_runs.proofs.Filling.{ended}
 use Rattle.checkpoint_runs.proofs.Going.{count_is, left_gone, over_counts, owed_lasts}
@@ -89,16 +89,17 @@ behind_zero i k t u c e =
 module _ {C X : Type 0} {Y : X → Type 0} where
   -- what is known of it, where it went on after event zero without boxes that wait
   pub started_status : (b : Behaviour) (m : Answers) (members : Members X Y) (limit : ℕ) (old : Timeline Position) (before after : Runner C X Y) (s : RunStatus Outcome) → IsBegun old → counts_in before.positions ≡ with_count 0 (begun old.first) → (world_in members before.kernel).count ≡ 0 → supplied_in members before ≡ []
-      → HasRunOn b m members limit before after s → HasStarted b m members limit (counts_in old) after s
-  started_status b m members limit old before after (status.Waits request) none c count empty h = record {
+      → first_unknown b (needed_in b m 0) ≡ None → HasRunOn b m members limit before after s → HasStarted b m members limit (counts_in old) after s
+  started_status b m members limit old before after (status.Waits request) none c count empty known h = record {
     held = subst (λ n. IsHeldUp b m limit n [] (world_in members after.kernel) (waiting_in members after) request) count
         (subst (λ (ps : List Part). IsHeldUp b m limit (world_in members before.kernel).count ps (world_in members after.kernel) (waiting_in members after) request) empty h.held);
     counts = behind_zero old.first (world_in members after.kernel).count (counts_in before.positions) (counts_in after.positions) c
         (subst (λ n. counts_in after.positions ≡ behind is_multiple (counts_in before.positions) (numbers_from (suc n) ((world_in members after.kernel).count - n))) count h.counts);
   }
-  started_status b m members limit old before after (status.Done outcome) none c count empty h = record {
+  started_status b m members limit old before after (status.Done outcome) none c count empty known h = record {
     none = ap (λ n. first_wait b m 0 n []) (sym (none_less limit))
         ∙ subst (λ n. first_wait b m n (limit - n) [] ≡ None) count (subst (λ (ps : List Part). first_wait b m (world_in members before.kernel).count (limit - (world_in members before.kernel).count) ps ≡ None) empty h.none);
+    known = known;
     whole = h.whole;
     empty = h.empty;
     left = setup_left_all b m limit old before.positions (counts_in after.positions) none c (subst (λ n. HasLeft n (counts_in before.positions) (counts_in after.positions) (run_to b m limit)) count h.left);

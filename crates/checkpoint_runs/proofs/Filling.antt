@@ -21,7 +21,7 @@ use Rattle.run_semantics.specs.Subtree.{outer_first}
 use Rattle.kernel.specs.Seats.{AreFirst, AreFresh, missing_part, missing_of, needs, request_for}
 use Rattle.kernel_boxes.specs.Staying.{first_without}
 use Rattle.kernel.proofs.Behind.{parts_rise}
-use Rattle.kernel.proofs.Waiting.{fresh_standing, wanted_next}
+use Rattle.kernel.proofs.Waiting.{fresh_known, fresh_standing, wanted_next}
 use Rattle.checkpoints.specs.Stored.{begun, Timeline}
 use Rattle.checkpoint_runs.specs.declared.phases.AtSetup.{AtSetup}
 use Rattle.checkpoint_runs.specs.declared.phases.Point.{Point}
@@ -31,7 +31,7 @@ use Rattle.checkpoint_runs.specs.declared.phases.Progress.TheVariants as progres
 use Rattle.checkpoint_runs.specs.Positions.{cut, first_behind, positions_begun, start_of}
 use Rattle.checkpoint_runs.proofs.Counting.{setup_after}
 use Rattle.checkpoint_runs.proofs.Unstarted.{IsBuilt, needs_all, prepared_built}
-use Rattle.checkpoint_runs.specs.Running.{first_wait, parts_in, positions_at, wait_anew, wait_before, wait_first, wait_or, wanted_after, wanted_by, wanted_next as wanted_before, Advances, CanStart, IsDeclined, IsFilled, whole_run}
+use Rattle.checkpoint_runs.specs.Running.{first_wait, known_first, left_of_start, left_unless, needed_by_setup, parts_in, positions_at, wait_anew, wait_before, wait_first, wait_or, wanted_after, wanted_by, wanted_next as wanted_before, whole_run, Advances, CanStart, IsDeclined, IsFilled}
 
 -- the calls of the start, where the modules of that world are started
 abbrev calls_of : Behaviour → Answers → World → World → Flow
@@ -106,6 +106,15 @@ over_none : (fl : Flow) (w : World) (outcome : Outcome) → Stays IsBuilt fl →
 over_none (On v) w outcome h e = cc
 over_none (Stopped v) w outcome h e = cc
 over_none (Broken v path f) w outcome h e = let s : w ≡ v = cc in ap (λ (u : World). u.modules) s ∙ h.modules
+
+over_boxes : (b : Behaviour) (fl : Flow) (w : World) (outcome : Outcome) → Over w outcome ≡ settled fl → [] ≡ left_of_start b (needed_by_setup fl)
+over_boxes b (On v) w outcome e = cc
+over_boxes b (Stopped v) w outcome e = cc
+over_boxes b (Broken v path f) w outcome e = refl
+
+-- where setup has a fault no box was asked for
+pub setup_boxes : (b : Behaviour) (m : Answers) (w : World) (xs : List BoxAt) (outcome : Outcome) → xs ≡ [] → Over w outcome ≡ settled (prepared m) → parts_in xs ≡ left_of_start b (needed_by_setup (prepared m))
+setup_boxes b m w xs outcome none e = ap parts_in none ∙ over_boxes b (prepared m) w outcome e
 
 pub setup_none : (m : Answers) (w : World) (outcome : Outcome) → Over w outcome ≡ settled (prepared m) → w.modules ≡ []
 setup_none m w outcome e = over_none (prepared m) w outcome (prepared_built m) e
@@ -275,6 +284,20 @@ unknown_at b (q ∷ ps) (x ∷ xs) p h e u =
     let known : b.known q.kind ≡ true = ap b.known (sym h.1.kind) ∙ h.1.of_kind.known in
     rw known (unknown_at b ps xs p h.2 e u)
 
+-- those before it have boxes
+pub known_at : (b : Behaviour) (ps : List Part) (xs : List BoxAt) (p : Part) → AreFresh b (take (length xs) ps) xs → slice_get ps (length xs) ≡ Some p → b.known p.kind ≡ false → known_first b ps ≡ take (length xs) ps
+known_at b [] xs p h e u = cc
+known_at b (q ∷ ps) [] p h e u =
+    let same : q ≡ p = cc in
+    rw (ap (λ (x : Part). b.known x.kind) same ∙ u) refl
+known_at b (q ∷ ps) (x ∷ xs) p h e u =
+    let known : b.known q.kind ≡ true = ap b.known (sym h.1.kind) ∙ h.1.of_kind.known in
+    rw known (ap (λ qs. q ∷ qs) (known_at b ps xs p h.2 e u))
+
+-- so these are what is left of their start
+pub left_at : (b : Behaviour) (ps : List Part) (xs : List BoxAt) (p : Part) → AreFresh b (take (length xs) ps) xs → slice_get ps (length xs) ≡ Some p → b.known p.kind ≡ false → take (length xs) ps ≡ left_of_start b ps
+left_at b ps xs p h e u = sym (known_at b ps xs p h e u) ∙ ap (λ o. left_unless o (known_first b ps)) (sym (unknown_at b ps xs p h e u))
+
 declined_at : (b : Behaviour) (m : Answers) (w : World) (xs : List BoxAt) → (d : IsDeclined b m w xs) → slice_get (needs w) (length xs) ≡ Some d.part
 declined_at b m w xs d = sym (filled_missing b m w xs d.filled) ∙ d.missing
 
@@ -284,6 +307,13 @@ declined_over b m w xs d =
     let at = unknown_at b (needs w) xs d.part d.filled.first (declined_at b m w xs d) d.unknown in
     ap (λ o. settled (unless_unknown b (needs w) w o >>= calls_of b m w)) (sym at)
     ∙ ap (λ (fl : Flow). settled (fl >>= start_all b m)) d.filled.prepared_is
+
+-- the boxes that there are wait still
+pub declined_boxes : (b : Behaviour) (m : Answers) (w : World) (xs : List BoxAt) → IsDeclined b m w xs → parts_in xs ≡ left_of_start b (needed_by_setup (prepared m))
+declined_boxes b m w xs d =
+    filled_parts b m w xs d.filled
+    ∙ left_at b (needs w) xs d.part d.filled.first (declined_at b m w xs d) d.unknown
+    ∙ ap (λ (fl : Flow). left_of_start b (needed_by_setup fl)) d.filled.prepared_is
 
 -- the same, by the request that is missing
 pub declined_request : (b : Behaviour) (m : Answers) (w : World) (xs : List BoxAt) (r : Request) → IsDeclined b m w xs → missing_of w (parts_in xs) ≡ Some r → Over w (outcomes.Fault w.count r.path UnknownClass) ≡ start b m
@@ -296,6 +326,10 @@ declined_request b m w xs r d e =
 -- there is a request
 pub declined_some : (b : Behaviour) (m : Answers) (w : World) (xs : List BoxAt) → (d : IsDeclined b m w xs) → missing_of w (parts_in xs) ≡ Some (request_for w d.part)
 declined_some b m w xs d = ap (option_map (request_for w)) d.missing
+
+-- the start of the network has its boxes
+pub ready_known : (b : Behaviour) (m : Answers) (w : World) (xs : List BoxAt) → CanStart b m w xs → first_unknown b (needed_by_setup (prepared m)) ≡ None
+ready_known b m w xs h = ap (λ (fl : Flow). first_unknown b (needed_by_setup fl)) (sym h.prepared_is) ∙ fresh_known b (needs w) xs h.fresh
 
 -- ---- a run that begins with setup
 
@@ -332,7 +366,7 @@ setup_advances b m limit at boxes supplied old cleared w waiting new a none is h
     by (progress.Done ended) h = record {
       none = ap (λ o. wait_anew b m limit at o boxes supplied) none ∙ h.none;
       whole = h.whole;
-      none_wait = h.none_wait;
+      left = h.left;
       began = h.began ∙ sym none;
       within = h.within;
       positions = setup_after b m limit old (begun old.first) new none refl h.positions;

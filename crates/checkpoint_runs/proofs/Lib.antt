@@ -4,6 +4,7 @@ pub mod Filling
 pub mod Going
 pub mod Onwards
 pub mod Pausing
+pub mod Leaving
 pub mod Good
 pub mod Shown
 pub mod Whole

@@ -24,8 +24,8 @@ use Rattle.kernel.proofs.Rising.{Rise}
 use Rattle.kernel.proofs.Waiting.{fresh_standing, wanted_next as first_left}
 use Rattle.kernel_boxes.specs.Seats.{BoxAt, AreBelow, instance_of}
 use Rattle.kernel_boxes.specs.Staying.{first_without}
-use Rattle.checkpoint_runs.specs.Running.{first_wait, parts_in, wait_or, wanted_next, IsPaused, IsRefused}
-use Rattle.checkpoint_runs.proofs.Filling.{below_instances, fresh_more, length_more, none_part, some_part, take_more, take_none, unknown_at, AreBelowPart}
+use Rattle.checkpoint_runs.specs.Running.{first_wait, left_of_start, parts_in, wait_or, wanted_next, IsPaused, IsRefused}
+use Rattle.checkpoint_runs.proofs.Filling.{below_instances, fresh_more, left_at, length_more, none_part, some_part, take_more, take_none, unknown_at, AreBelowPart}
 
 -- ---- the modules that the next event starts
 
@@ -127,6 +127,10 @@ paused_refused b m w xs r e unknown =
 refused_at : (b : Behaviour) (m : Answers) (w : World) (xs : List BoxAt) → AreFirstOf b (wanted m w) xs → (d : IsRefused b m w xs) → first_unknown b (wanted m w) ≡ Some d.part
 refused_at b m w xs h d = unknown_at b (wanted m w) xs d.part h (sym (first_missing b (wanted m w) xs (wanted_rises m w) h) ∙ d.missing) d.unknown
 
+-- the boxes that there are wait still
+pub refused_boxes : (b : Behaviour) (m : Answers) (w : World) (xs : List BoxAt) → AreFirstOf b (wanted m w) xs → IsRefused b m w xs → parts_in xs ≡ left_of_start b (wanted m w)
+refused_boxes b m w xs h d = first_parts b (wanted m w) xs h ∙ left_at b (wanted m w) xs d.part h (sym (first_missing b (wanted m w) xs (wanted_rises m w) h) ∙ d.missing) d.unknown
+
 -- of that module it is asked
 pub refused_first : (b : Behaviour) (m : Answers) (w : World) (xs : List BoxAt) (r : Request) → AreFirstOf b (wanted m w) xs → IsRefused b m w xs → wanted_of w (wanted m w) (parts_in xs) ≡ Some r → IsUnknownFirst b (wanted m w) r.id
 refused_first b m w xs r h d e =
@@ -145,7 +149,7 @@ no_part : {A : Type 0} (b : Behaviour) (p : Part) → first_unknown b [] ≡ Som
 no_part b p e = cc
 
 -- its modules can't have their boxes
-start_ends : (b : Behaviour) (m : Answers) (ids : List ℕ) (first : ℕ) (w : World) (p : Part) → first_unknown b (needs_of ids w) ≡ Some p
+pub start_ends : (b : Behaviour) (m : Answers) (ids : List ℕ) (first : ℕ) (w : World) (p : Part) → first_unknown b (needs_of ids w) ≡ Some p
     → EndsInFault (settled (unless_unknown b (needs_of ids w) w (first_unknown b (needs_of ids w)) >>= started b m ids (outer_first w.records ids first)))
 start_ends b m ids first w p e = rw e refl
 

@@ -11,7 +11,7 @@ use Rattle.kernel_boxes.specs.Seats.{BoxAt}
 use Rattle.module_api.specs.Behaviour.{Behaviour}
 use Rattle.model_questions.specs.Answers.{Answers}
 use Rattle.run_semantics.specs.declared.outcome.Outcome.{Outcome}
-use Rattle.run_semantics.specs.Run.{Running, Part, after, run_to, standing, is_fault}
+use Rattle.run_semantics.specs.Run.{Running, Part, after, first_unknown, run_to, standing, is_fault}
 use Rattle.run_semantics.specs.Laws.{GoesOn}
 use Rattle.run_semantics.specs.World.{World, HasRoom}
 use Rattle.kernel_boxes.specs.Saved.{seats_held}
@@ -19,7 +19,8 @@ use Rattle.kernel_boxes.specs.Staying.{first_without}
 use Rattle.checkpoint_runs.specs.Positions.{behind, lasting, numbers_from, positions_after}
 use Rattle.checkpoint_runs.specs.Positions.{positions_begun, starts_within, CanGoOn, HasLeft}
 use Rattle.kernel.specs.declared.request.Request.{Request}
-use Rattle.checkpoint_runs.specs.Running.{first_wait, fresh_run, kept_back, needed_back, parts_in}
+use Rattle.checkpoint_runs.specs.Running.{first_wait, fresh_run, kept_back, needed_back, needed_in}
+use Rattle.checkpoint_runs.specs.Running.{parts_in}
 use Rattle.checkpoint_runs.specs.Running.{refused_if, IsHeldUp, IsPaused, IsStopped}
 use Rattle.checkpoint_runs.specs.declared.phases.Phase.{Phase}
 use Rattle.checkpoint_runs.specs.declared.phases.Phase.TheVariants.{Idle, Waiting, Declined}
@@ -175,7 +176,7 @@ module _ {C X : Type 0} {Y : X → Type 0} where
     pub gone : HasGoneOn b m (world_in members before.kernel).count before.positions
         after.positions (world_in members after.kernel) outcome
 
-  -- It has ended too: it is a fresh run, and has left its positions, and no box.
+  -- It has ended too: it is a fresh run, and has left its positions, and no box waits.
   pub record IsRunThrough (b : Behaviour) (m : Answers) (members : Members X Y) (limit : ℕ)
       (before after : Runner C X Y) (outcome : Outcome) : Type 0 where
     pub none : first_wait b m (world_in members before.kernel).count
@@ -210,6 +211,7 @@ module _ {C X : Type 0} {Y : X → Type 0} where
   pub record IsWhole (b : Behaviour) (m : Answers) (members : Members X Y) (limit : ℕ)
       (old : Timeline ℕ) (after : Runner C X Y) (outcome : Outcome) : Type 0 where
     pub none : first_wait b m 0 limit [] ≡ None
+    pub known : first_unknown b (needed_in b m 0) ≡ None
     pub whole : fresh_run b m limit ≡ ran_in members outcome after.kernel
     pub empty : waiting_in members after ≡ []
     pub left : counts_in after.positions ≡ positions_after b m limit None old

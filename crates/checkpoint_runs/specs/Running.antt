@@ -8,7 +8,8 @@ use Rattle.model_questions.specs.Answers.{Answers}
 use Rattle.run_semantics.specs.declared.outcome.Outcome.{Outcome}
 use Rattle.run_semantics.specs.World.{World, HasRoom}
 use Rattle.run_semantics.specs.Perform.{Flow, On, Stopped, Broken}
-use Rattle.run_semantics.specs.Run.{Part, prepared, standing, start, wanted, Over, Running}
+use Rattle.run_semantics.specs.Run.{Part, first_unknown, prepared, standing, start, wanted, Over}
+use Rattle.run_semantics.specs.Run.{Running}
 use Rattle.run_semantics.specs.Run.{Ran, Stage, after, run_to, world_at}
 use Rattle.run_semantics.specs.Ending.{ending}
 use Rattle.kernel.specs.declared.request.Request.{Request}
@@ -220,6 +221,42 @@ with_part p (q ∷ qs) = if nat_lt p.id q.id then p ∷ q ∷ qs else q ∷ with
 abbrev pub boxes_left : Behaviour → Answers → ℕ → List Part
 boxes_left b m limit = standing (fresh_run b m limit).world.modules
 
+-- ---- what is left of a start for one of whose modules there is no box
+
+-- of these modules those before the first one whose class the catalogue doesn't know
+abbrev pub known_first : Behaviour → List Part → List Part
+known_first b [] = []
+known_first b (p ∷ ps) = if b.known p.kind then p ∷ known_first b ps else []
+
+-- where there is such a one their start can't be made, and the boxes are those that were supplied
+-- before it was asked for; else each of them has got its box, and none is left
+abbrev pub left_unless : Option Part → List Part → List Part
+left_unless None supplied = []
+left_unless (Some unknown) supplied = supplied
+
+abbrev pub left_of_start : Behaviour → List Part → List Part
+left_of_start b parts = left_unless (first_unknown b parts) (known_first b parts)
+
+-- the modules whose boxes event zero needs, and those whose boxes the event after a stage needs
+abbrev pub needed_by_setup : Flow → List Part
+needed_by_setup (On w) = needs w
+needed_by_setup (Stopped w) = []
+needed_by_setup (Broken w path f) = []
+
+abbrev pub needed_next : Answers → Stage → List Part
+needed_next m (Running w) = wanted m w
+needed_next m (Over w outcome) = []
+
+-- those whose boxes the event of that number needs
+abbrev pub needed_in : Behaviour → Answers → ℕ → List Part
+needed_in b m zero = needed_by_setup (prepared m)
+needed_in b m (suc k) = needed_next m (after b m k)
+
+-- THE BOXES FOR A START THAT A RUN LEAVES that is done: where its last event could not start its
+-- modules those that were supplied for it, of the modules before the one that has none
+abbrev pub supplied_left : Behaviour → Answers → ℕ → List Part
+supplied_left b m limit = left_of_start b (needed_in b m (run_to b m limit).world.count)
+
 -- ---- where a run stands
 
 -- A network that was set up, and is not started: no module has a state, and the boxes that wait are
@@ -266,7 +303,7 @@ refused_if b m w waiting false = Unit {0}
 
 -- where a run stands
 abbrev pub IsLive : Behaviour → Answers → World → List BoxAt → Phase → Type 0
-IsLive b m w waiting Idle = waiting ≡ []
+IsLive b m w waiting Idle = Unit {0}
 IsLive b m w waiting (Waiting from Setup) = IsFilled b m w waiting
 IsLive b m w waiting (Waiting from Position) = waiting ≡ []
 IsLive b m w waiting (Waiting from (Start k id)) =
@@ -307,6 +344,7 @@ abbrev pub Stands : Behaviour → Answers → List Part → World → List BoxAt
     → RunStatus (Option Outcome) → Type 0
 Stands b m kept w waiting (status.Done (Some outcome)) =
     (Over w outcome ≡ start b m) × (w.modules ≡ [])
+    × (parts_in waiting ≡ left_of_start b (needed_by_setup (prepared m)))
 Stands b m kept w waiting (status.Waits request) =
     IsFilled b m w waiting × (missing_of w (parts_in waiting) ≡ Some request)
     × (parts_in waiting ≡ kept)
@@ -338,13 +376,13 @@ pub record IsWaiting (b : Behaviour) (m : Answers) (limit : ℕ) (at : AtSetup) 
   pub positions : new ≡ positions_at limit r wait.at old
   pub began : wait.from ≡ began_at limit r old.stored
 
--- A RUN IS DONE, and has left its positions. No box waits.
+-- A RUN IS DONE, and has left its positions. Boxes wait only where it could not start their modules.
 pub record IsEnded (b : Behaviour) (m : Answers) (limit : ℕ) (at : AtSetup) (r : Option Resumed)
     (boxes supplied : List Part) (old : Timeline ℕ) (w : World) (waiting : List BoxAt)
     (new : Timeline ℕ) (ended : Ended) : Type 0 where
   pub none : wait_of b m limit at r old.stored boxes supplied ≡ None
   pub whole : whole_run b m limit w ended.outcome
-  pub none_wait : waiting ≡ []
+  pub left : parts_in waiting ≡ supplied_left b m limit
   pub began : ended.start ≡ began_at limit r old.stored
   pub within : starts_within ended.start w.count
   pub positions : new ≡ positions_after b m limit r old

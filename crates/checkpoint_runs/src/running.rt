@@ -462,7 +462,7 @@ impl<C: Catalogue> Runner<C> {
     }
 
     /// The end of a run for the first of whose modules that the next event starts there is no box:
-    /// that event begins, and has this fault. No box waits from then on.
+    /// that event begins, and has this fault. The boxes that were supplied for it wait still.
     fn run_refused<A: Answers>(
         &mut self,
         alloc: Global,
@@ -480,7 +480,7 @@ impl<C: Catalogue> Runner<C> {
             IsRefused C.behaviour A.answers before (waiting_in SimpleModule-box self.old) }
         ensures kinds { HasKinds C.behaviour SimpleModule-box self.new.kernel }
         ensures good { HasGood C.behaviour A.answers SimpleModule-box self.new }
-        ensures none { OnOk result (waiting_in SimpleModule-box self.new ≡ []) }
+        ensures waiting { self.new.waiting ≡ self.old.waiting }
         ensures ran { IfOk result (λ outcome. fresh_run C.behaviour A.answers limit
             ≡ ran_in SimpleModule-box outcome self.new.kernel) }
         ensures left { let from = (world_in SimpleModule-box self.old.kernel).count in
@@ -503,7 +503,6 @@ impl<C: Catalogue> Runner<C> {
             .step_declined(alloc, model, last_time, request.id)?;
         *shown = CallViews::new(alloc);
         self.stood = Stood::Ending;
-        self.drop_waiting();
         Ok(self.kernel.outcome_of(over))
     }
 
@@ -579,13 +578,10 @@ impl<C: Catalogue> Runner<C> {
     {
         *shown = CallViews::new(alloc);
         match self.stand::<M>(alloc, model, at)? {
-            RunStatus::Done(Some(outcome)) => {
-                self.drop_waiting();
-                Ok(Progress::Done(Ended {
-                    start: None,
-                    outcome,
-                }))
-            }
+            RunStatus::Done(Some(outcome)) => Ok(Progress::Done(Ended {
+                start: None,
+                outcome,
+            })),
             RunStatus::Waits(request) => Ok(Progress::Waits(Wait {
                 from: None,
                 at: Point::Setup,

@@ -11,7 +11,7 @@ use Rattle.desk_commands.specs.declared.commands.Command.{Command}
 use Rattle.desk_commands.specs.declared.commands.Command.TheVariants as command
 use Rattle.kernel_boxes.specs.Seats.{Members}
 use Rattle.edit_session.specs.Editing.{Editing, completed, start_in, IsGivenUp, WaitsFor}
-use Rattle.checkpoint_runs.specs.Running.{boxes_left, fresh_run, resumed}
+use Rattle.checkpoint_runs.specs.Running.{boxes_left, fresh_run, resumed, supplied_left}
 use Rattle.checkpoint_runs.specs.Positions.{cut, events_behind, positions_after, start_of}
 use Rattle.checkpoint_runs.specs.declared.phases.Phase.TheVariants.{Idle}
 use Rattle.edit_session.specs.Reuse.{IsValidTo}
@@ -53,11 +53,11 @@ answer_from b m limit start =
 abbrev pub run_answer : Behaviour → Model → ℕ → List ℕ → List ℕ
 run_answer b m limit old = answer_from b m limit (start_of limit old)
 
--- A run to that limit is done: what is kept of it, and what it leaves. No box waits for a start.
+-- A run to that limit is done: what is kept of it, and what it leaves.
 pub record IsDone (b : Behaviour) (before : Editing) (limit : ℕ) (after : Editing) : Type 0 where
   pub done : after.done ≡ Some (completed b before.model limit)
   pub boxes : after.boxes ≡ boxes_left b (answers_of before.model) limit
-  pub supplied : after.supplied ≡ []
+  pub supplied : after.supplied ≡ supplied_left b (answers_of before.model) limit
   pub known : after.known ≡ Some (fresh_run b (answers_of before.model) limit).world.count
   pub positions : after.positions ≡ positions_after b (answers_of before.model) limit
       (resumed limit before.phase) before.positions
@@ -97,8 +97,8 @@ pub record IsRefused (m : Model) (e : Edit) (text : List ℕ) : Type 0 where
   pub due : Refuses m e why
   pub none : (new : Model) → IsEditOf m e new → ⊥
 
--- The edit is made: no run waits or is done, the boxes are dropped that were supplied for a start,
--- and the positions stay up to which the last run stays valid. Or it is refused, and nothing changed.
+-- The edit is made: no run waits or is done, the boxes stay, and so do the positions up to which the
+-- last run stays valid. Or it is refused, and nothing changed.
 abbrev pub AnswersEdit : Behaviour → Editing → Edit → List ℕ → Editing → Type 0
 AnswersEdit b before e text after =
     ((valid : Option ℕ) × IsMade b before.model before.known e text after.model valid
@@ -107,7 +107,7 @@ AnswersEdit b before e text after =
       done = None;
       phase = Idle;
       boxes = before.boxes;
-      supplied = [];
+      supplied = before.supplied;
       known = valid;
       positions = cut valid before.positions;
     }))

@@ -3,7 +3,7 @@ use Rattle.std.proofs.Common.{◌≡◌, ℕ, ◌+◌, List, [], ◌∷◌, ◌+
 use Rattle.module_api.specs.Behaviour.{Behaviour}
 use Rattle.model_data.specs.declared.model.Model.{Model}
 use Rattle.model_answers.specs.Answering.{answers_of}
-use Rattle.checkpoint_runs.specs.Running.{boxes_left, resumed}
+use Rattle.checkpoint_runs.specs.Running.{boxes_left, resumed, supplied_left}
 use Rattle.checkpoint_runs.specs.declared.phases.Phase.{Phase}
 use Rattle.checkpoint_runs.specs.declared.phases.Phase.TheVariants.{Idle, Waiting, Declined}
 use Rattle.checkpoint_runs.specs.declared.phases.Point.TheVariants as point
@@ -106,8 +106,9 @@ at_done b limit before after s stays done same = record {
   model = stays.model ∙ same.model;
   done = done.done ∙ ap (λ (m : Model). Some (completed b m limit)) same.model;
   idle = stays.idle (subst (λ (o : Option Completed). IsSome o) (sym done.done) refl);
-  supplied = done.supplied;
-  held = ap length done.boxes ∙ ap (λ (m : Model). length (boxes_left b (answers_of m) limit)) same.model;
+  held = ap (λ (ps : List Part). length ps + length after.supplied) done.boxes
+      ∙ ap (λ (ps : List Part). length (boxes_left b (answers_of before.model) limit) + length ps) done.supplied
+      ∙ ap (λ (m : Model). length (boxes_left b (answers_of m) limit) + length (supplied_left b (answers_of m) limit)) same.model;
   known = done.known ∙ ap (λ (m : Model). Some (events_of b m limit)) same.model;
   positions = done.positions ∙ same_positions b limit before s same;
 }
@@ -135,7 +136,7 @@ pub record LeavesNone (b : Behaviour) (before : Editing) (limit : ℕ) (after : 
 none_left : (b : Behaviour) (limit : ℕ) (before after : Editing) (s : Machine) → StaysOf before after → LeavesNone b before limit after → RunsAlike b limit before s
     → Told b (command.Run limit) OutOfMemory s after
 none_left b limit before after s stays none same = (
-  record { model = s.model; last = None; held = length after.boxes; known = last_count after.positions.stored; positions = after.positions },
+  record { model = s.model; last = None; held = length after.boxes + length after.supplied; known = last_count after.positions.stored; positions = after.positions },
   inr (
     refl,
     inl (record { model = refl; last = refl; known = refl; stood = none.stood; positions = same_stored b limit before s none.stood after.positions same none.positions }),
@@ -144,7 +145,6 @@ none_left b limit before after s stays none same = (
     model = stays.model ∙ same.model;
     done = none.done;
     idle = none.idle;
-    supplied = none.supplied;
     held = refl;
     known = none.known;
     positions = refl;
@@ -185,8 +185,7 @@ edited b e before after text (inl made) s at = (
     model = refl;
     done = ap (λ (x : Editing). x.done) made.2;
     idle = ap (λ (x : Editing). x.phase) made.2;
-    supplied = ap (λ (x : Editing). x.supplied) made.2;
-    held = ap (λ (x : Editing). length x.boxes) made.2 ∙ at.held;
+    held = ap (λ (x : Editing). length x.boxes + length x.supplied) made.2 ∙ at.held;
     known = ap (λ (x : Editing). x.known) made.2;
     positions = ap (λ (x : Editing). x.positions) made.2 ∙ ap (cut made.0) at.positions;
   },
@@ -285,16 +284,12 @@ pub tells_no_positions : (b : Behaviour) (before after : Seen) (n : Next) → af
 tells_no_positions b before after n asked may running same heard =
     tells b command.Positions before after OutOfMemory n asked may running heard (λ s at. (s, (inr refl, refl), subst (λ x. IsAt b x s) (sym same) at))
 
--- no box waits for a start
-no_more : (boxes supplied : List Part) → supplied ≡ [] → length boxes + length supplied ≡ length boxes
-no_more boxes supplied none = omega (arith, ap (λ (ps : List Part). length ps) none)
-
 -- what is told of the boxes
 pub tells_held : (b : Behaviour) (before after : Seen) (text : List ℕ) (n : Next) → after.asked ≡ before.asked → after.may ≡ before.may → after.running ≡ None
     → after.editing ≡ before.editing → text ≡ held_text (length before.editing.boxes + length before.editing.supplied) → HearsOne (Answer text) before.heard after.heard n → HearsNext b command.Held before after n
 tells_held b before after text n asked may running same is heard = tells b command.Held before after (Answer text) n asked may running heard (λ s at. (
   s,
-  (inl (ap (λ (t : List ℕ). Answer t ∷ []) (is ∙ ap held_text (no_more before.editing.boxes before.editing.supplied at.supplied ∙ at.held))), refl),
+  (inl (ap (λ (t : List ℕ). Answer t ∷ []) (is ∙ ap held_text at.held)), refl),
   subst (λ x. IsAt b x s) (sym same) at,
 ))
 

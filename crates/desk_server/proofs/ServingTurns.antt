@@ -315,8 +315,7 @@ served_first b m interval v fresh asked heard = record {
     model = ap (λ (e : Editing). e.model) fresh;
     done = ap (λ (e : Editing). e.done) fresh;
     idle = ap (λ (e : Editing). e.phase) fresh;
-    supplied = ap (λ (e : Editing). e.supplied) fresh;
-    held = ap (λ (e : Editing). length e.boxes) fresh;
+    held = ap (λ (e : Editing). length e.boxes + length e.supplied) fresh;
     known = ap (λ (e : Editing). e.known) fresh;
     positions = ap (λ (e : Editing). e.positions) fresh;
   };

@@ -1,5 +1,5 @@
 -- What a client asks of a desk, and what it hears: the plain machine.
-use Rattle.std.specs.Prelude.{◌≡◌, ◌⊎◌, ℕ, List, [], ◌∷◌, ◌++◌, length, Option, Some, None, codes}
+use Rattle.std.specs.Prelude.{◌≡◌, ◌⊎◌, ℕ, ◌+◌, List, [], ◌∷◌, ◌++◌, length, Option, Some, None, codes}
 use Rattle.module_api.specs.Behaviour.{Behaviour}
 use Rattle.model_data.specs.declared.model.Model.{Model}
 use Rattle.model_answers.specs.Answering.{answers_of}
@@ -8,7 +8,7 @@ use Rattle.model_edits.specs.declared.edit.Edit.TheVariants as edit
 use Rattle.desk_commands.specs.Commands.{command_of}
 use Rattle.desk_commands.specs.declared.commands.Command.{Command}
 use Rattle.desk_commands.specs.declared.commands.Command.TheVariants as command
-use Rattle.checkpoint_runs.specs.Running.{boxes_left, fresh_run}
+use Rattle.checkpoint_runs.specs.Running.{boxes_left, fresh_run, supplied_left}
 use Rattle.edit_session.specs.Files.{scalars_of_run, vectors_of_run}
 use Rattle.checkpoint_runs.specs.declared.phases.Stood.{Stood}
 use Rattle.checkpoints.specs.Stored.{begun, Timeline}
@@ -44,7 +44,8 @@ abbrev pub behind_run : Behaviour → Machine → ℕ → Machine
 behind_run b s limit = record {
   model = s.model;
   last = Some limit;
-  held = length (boxes_left b (answers_of s.model) limit);
+  held = length (boxes_left b (answers_of s.model) limit)
+      + length (supplied_left b (answers_of s.model) limit);
   known = Some (events_of b s.model limit);
   positions = positions_after b (answers_of s.model) limit None s.positions;
 }

@@ -51,13 +51,12 @@ seen e asked heard may running =
 
 -- ---- what stays true
 
--- The session is where the plain machine is: no run waits, and no box for a start.
+-- The session is where the plain machine is: no run waits.
 pub record IsAt (b : Behaviour) (e : Editing) (s : Machine) : Type 0 where
   pub model : e.model ≡ s.model
   pub done : e.done ≡ option_map (completed b s.model) s.last
   pub idle : e.phase ≡ Idle
-  pub supplied : e.supplied ≡ []
-  pub held : length e.boxes ≡ s.held
+  pub held : length e.boxes + length e.supplied ≡ s.held
   pub known : e.known ≡ s.known
   pub positions : e.positions ≡ s.positions
 

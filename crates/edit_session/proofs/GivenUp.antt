@@ -76,7 +76,7 @@ kept_given_up b m ss w u ps kinds good rising stored e =
     let h = cut_back b (answers_of m) w u ps good rising e in
     record {
       kinds = kinds;
-      live = refl;
+      live = tt;
       left = tt;
       undone = tt;
       asked = h.asked;

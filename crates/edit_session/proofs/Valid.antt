@@ -135,10 +135,10 @@ known_of b m n w known last (Ok found) e h a = known_edited b m n w last found (
 
 -- what is kept of a run that is done
 pub kept_done : (b : Behaviour) (ss xs : List BoxAt) (w : World) (m : Model) (limit : ℕ) (outcome : Outcome) (known : ℕ) (ps : Timeline Position) → AreOfKinds b ss → whole_run b (answers_of m) limit w outcome
-    → known ≡ w.count → AreGood b (answers_of m) w ps.stored → xs ≡ [] → CanBeStored (counts_in ps) → IsKept b ss xs w m Idle (Some (record { limit = limit; outcome = outcome })) (Some known) ps
-kept_done b ss xs w m limit outcome known ps kinds whole n good none stored = record {
+    → known ≡ w.count → AreGood b (answers_of m) w ps.stored → CanBeStored (counts_in ps) → IsKept b ss xs w m Idle (Some (record { limit = limit; outcome = outcome })) (Some known) ps
+kept_done b ss xs w m limit outcome known ps kinds whole n good stored = record {
   kinds = kinds;
-  live = none;
+  live = tt;
   left = whole;
   undone = tt;
   asked = subst (IsAskedUpTo b (answers_of m) w) (sym n) (known_done b (answers_of m) limit w outcome whole);
@@ -163,17 +163,17 @@ fresh_done b before after limit report w waiting new ended count h told n d boxe
       executed = ap (λ (r : Report). r.executed) told ∙ ap (λ s. events_behind s count) h.began ∙ ap (events_behind (start_in before limit)) counted;
       done = d ∙ ap (λ (o : Outcome). Some (completed_with limit o)) outcome;
       boxes = boxes ∙ ap (λ (v : World). standing v.modules) world;
-      supplied = supplied ∙ ap parts_in h.none_wait;
+      supplied = supplied ∙ h.left;
       known = known ∙ ap Some counted;
       positions = positions ∙ h.positions;
       needs_none = h.none;
     }
 
 -- what is kept without a run
-pub kept_begun : (b : Behaviour) (ss xs : List BoxAt) (w : World) (m : Model) (interval : ℕ) (ps : Timeline Position) → 1 ≤ interval → AreOfKinds b ss → xs ≡ [] → ps ≡ begun interval → IsKept b ss xs w m Idle None None ps
-kept_begun b ss xs w m interval ps some kinds none e = rw e (record {
+pub kept_begun : (b : Behaviour) (ss xs : List BoxAt) (w : World) (m : Model) (interval : ℕ) (ps : Timeline Position) → 1 ≤ interval → AreOfKinds b ss → ps ≡ begun interval → IsKept b ss xs w m Idle None None ps
+kept_begun b ss xs w m interval ps some kinds e = rw e (record {
   kinds = kinds;
-  live = none;
+  live = tt;
   left = tt;
   undone = tt;
   asked = tt;
@@ -183,10 +183,10 @@ kept_begun b ss xs w m interval ps some kinds none e = rw e (record {
 
 -- what is kept after an accepted edit
 pub kept_edited : (b : Behaviour) (ss ts ws xs : List BoxAt) (w u : World) (m n : Model) (phase : Phase) (done : Option Completed) (known valid : Option ℕ) (ps qs : Timeline Position) → IsKept b ss ws w m phase done known ps → ts ≡ ss → u ≡ w → qs ≡ kept_up_to valid ps
-    → IsKnown b (answers_of n) w valid → AreGood b (answers_of n) w (kept_up_to valid ps).stored → xs ≡ [] → IsKept b ts xs u n Idle None valid qs
-kept_edited b ss ts ws xs w u m n phase last known valid ps qs kept t e q asked good none = rw (t, e, q) (record {
+    → IsKnown b (answers_of n) w valid → AreGood b (answers_of n) w (kept_up_to valid ps).stored → IsKept b ts xs u n Idle None valid qs
+kept_edited b ss ts ws xs w u m n phase last known valid ps qs kept t e q asked good = rw (t, e, q) (record {
   kinds = kept.kinds;
-  live = none;
+  live = tt;
   left = tt;
   undone = tt;
   asked = asked;
@@ -195,6 +195,6 @@ kept_edited b ss ts ws xs w u m n phase last known valid ps qs kept t e q asked 
 })
 
 -- what an accepted edit leaves
-pub edited_same : (before : Editing) (change : Change) (boxes supplied : List Part) (positions : Timeline ℕ) → boxes ≡ before.boxes → supplied ≡ [] → positions ≡ cut change.edited.valid_to before.positions
+pub edited_same : (before : Editing) (change : Change) (boxes supplied : List Part) (positions : Timeline ℕ) → boxes ≡ before.boxes → supplied ≡ before.supplied → positions ≡ cut change.edited.valid_to before.positions
     → record { model = change.model; done = None; phase = Idle; boxes = boxes; supplied = supplied; known = change.edited.valid_to; positions = positions } ≡ edited_by before change
 edited_same before change boxes supplied positions h s p = rw (h, s, p) refl

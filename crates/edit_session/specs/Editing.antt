@@ -28,6 +28,7 @@ use Rattle.checkpoint_runs.specs.Positions.{cut, events_behind, last_count, posi
 use Rattle.checkpoint_runs.specs.Positions.{HasStored, CanBeStored, IsBegunUpTo}
 use Rattle.checkpoint_runs.specs.Running.{at_setup, began_at, boxes_at, boxes_left, fresh_run}
 use Rattle.checkpoint_runs.specs.Running.{known_at, needed_back, positions_at, resumed, supplied_at}
+use Rattle.checkpoint_runs.specs.Running.{supplied_left}
 use Rattle.checkpoint_runs.specs.Running.{wait_of, wanted_by, wanted_next, whole_run, with_part}
 use Rattle.checkpoint_runs.specs.Running.{IsLive}
 use Rattle.run_semantics.specs.Run.{after as stage_after}
@@ -205,7 +206,7 @@ IsUnknown b (Some request) = b.known request.kind ≡ false
 -- WHAT A RUN THAT IS DONE TELLS, and what is kept of it: a fresh run of the model. It began at the
 -- greatest position up to its limit, or with setup where there is none, or where it waits and went on
 -- it began before; after that it executed all events of the fresh run, and it left its positions. It
--- needs no box, or none that there is.
+-- needs no box, or none that there is; then those stay that were supplied for the same start.
 pub record IsFreshRun (b : Behaviour) (before : Editing) (limit : ℕ) (report : Report)
     (after : Editing) : Type 0 where
   pub outcome : report.outcome ≡ (fresh_run b (answers_of before.model) limit).outcome
@@ -214,7 +215,7 @@ pub record IsFreshRun (b : Behaviour) (before : Editing) (limit : ℕ) (report :
       (fresh_run b (answers_of before.model) limit).world.count
   pub done : after.done ≡ Some (completed b before.model limit)
   pub boxes : after.boxes ≡ boxes_left b (answers_of before.model) limit
-  pub supplied : after.supplied ≡ []
+  pub supplied : after.supplied ≡ supplied_left b (answers_of before.model) limit
   pub known : after.known ≡ Some (fresh_run b (answers_of before.model) limit).world.count
   pub positions : after.positions ≡ positions_after b (answers_of before.model) limit
       (resumed limit before.phase) before.positions
@@ -244,16 +245,15 @@ pub record IsChangeBy (b : Behaviour) (before : Editing) (e : Edit) (change : Ch
       change.edited.valid_to
   pub injection : change.edited.injection ≡ number_given e before.model
 
--- what it leaves. No run waits and none is done; the boxes of modules that were started stay until
--- the next run, and those are dropped that were supplied for a start. Of the last run those events
--- are known that stay valid, and those positions stay that are not after them.
+-- what it leaves. No run waits and none is done; the boxes stay until the next run. Of the last run
+-- those events are known that stay valid, and those positions stay that are not after them.
 abbrev pub edited_by : Editing → Change → Editing
 edited_by before change = record {
   model = change.model;
   done = None;
   phase = Idle;
   boxes = before.boxes;
-  supplied = [];
+  supplied = before.supplied;
   known = change.edited.valid_to;
   positions = cut change.edited.valid_to before.positions;
 }

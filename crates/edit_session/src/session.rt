@@ -226,7 +226,7 @@ impl<C: Catalogue> Session<C> {
     }
 
     /// Changes the model as the edit says, or tells why not. An accepted edit gives up a run that
-    /// waits, with the boxes that were supplied for its start, and no run is done until the next one.
+    /// waits, and no run is done until the next one; the boxes stay until then.
     pub fn edit(&mut self, edit: Edit) -> Result<Edited, Refusal>
         requires sound { IsSound C.behaviour SimpleModule-box self.old }
         ensures sound { IsSound C.behaviour SimpleModule-box self.new }
@@ -348,10 +348,10 @@ impl<C: Catalogue> Session<C> {
         )
     }
 
-    /// Makes a change, which takes no memory. A run that waits is given up, with the boxes that were
-    /// supplied for its start, and no run is done until the next one. Of the stored positions those
-    /// stay up to which the last run stays valid, and what calls show of modules stays where their
-    /// values rest on what they rested on.
+    /// Makes a change, which takes no memory. A run that waits is given up, and no run is done until
+    /// the next one; the boxes stay until then. Of the stored positions those stay up to which the
+    /// last run stays valid, and what calls show of modules stays where their values rest on what
+    /// they rested on.
     pub fn accept(&mut self, change: Change) -> Edited
         requires sound { IsSound C.behaviour SimpleModule-box self.old }
         requires changed { (edit : Edit)
@@ -369,7 +369,6 @@ impl<C: Catalogue> Session<C> {
         keep_shown(self.alloc, &mut self.shown, same);
         self.model = model;
         self.give_up();
-        self.runner.drop_waiting();
         self.known = edited.valid_to;
         self.runner.keep_up_to(edited.valid_to);
         edited

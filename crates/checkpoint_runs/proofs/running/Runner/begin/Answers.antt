@@ -79,7 +79,7 @@ returns-in_ok-status-in-Done-Some-clause-advances g c =
     let old = c.args.self.now in
     let back = rw (c.in-Done-Some.is, c.in-Done-Some.field-0-is) at c.in_ok-request.ensures.back in
     rw (c.progress_of.ensures, c.count.ensures)
-    (back_progress b m (λ b. (g.dyn-1.0.entry b.vtable).1) c.args.limit c.in-Done-Some.start c.args.at (standing_in (λ b. (g.dyn-1.0.entry b.vtable).1) old) (supplied_in (λ b. (g.dyn-1.0.entry b.vtable).1) old) (counts_in old.positions) c.go_back.new.self c.run_on.new.self c.in_ok-status-in-Done-Some.status back.0 back.1.needs_none back.1.count (ap parts_in back.1.none)
+    (back_progress b m (λ b. (g.dyn-1.0.entry b.vtable).1) c.args.limit c.in-Done-Some.start c.args.at (standing_in (λ b. (g.dyn-1.0.entry b.vtable).1) old) (supplied_in (λ b. (g.dyn-1.0.entry b.vtable).1) old) (counts_in old.positions) c.go_back.new.self c.run_on.new.self c.in_ok-status-in-Done-Some.status back.0 back.1.needs_none back.1.going back.1.count (ap parts_in back.1.none)
     (ap counts_in back.1.positions ∙ kept_counts (Some c.in-Done-Some.start) old.positions) c.in_ok-status-in-Done-Some.ensures.ran)
 
 pub run_on-requires-clause-going : goal.run_on-requires-clause-going

@@ -1,11 +1,14 @@
-use Rattle.std.proofs.Common.{◌≡◌, ◌&&◌, false, nat_lt, subst}
+use Rattle.std.proofs.Common.{◌≡◌, ◌&&◌, false, nat_lt, ap, arith, subst}
 use Rattle.checkpoints.specs.Stored.{counts_in}
 use Rattle.kernel.specs.Kernels.{world_in}
 use Rattle.run_semantics.specs.Run.{run_to}
 use Rattle.checkpoint_runs.specs.Kept.{standing_in, supplied_in, waiting_in}
 use Rattle.checkpoint_runs.specs.Positions.{HasBegun, HasLeft}
+use Rattle.checkpoint_runs.specs.Running.{refused_if}
+use Rattle.kernel_boxes.specs.Saved.{seats_held}
 use Rattle.checkpoint_runs.specs.declared.phases.Stood.TheVariants as stood
 use Rattle.checkpoint_runs.proofs.Advancing.{at_the_limit, goes_there, not_declined, onwards_progress, refused_ended}
+use Rattle.checkpoint_runs.proofs.Leaving.{refused_left_boxes}
 use Rattle.checkpoint_runs.proofs.running.Runner.go_on.Goals as goal
 use Rattle.checkpoint_runs.proofs.running.Runner.go_on.Goals.{else-at-via-then-at+else-at-limit, else-at-via-else-at}
 
@@ -30,7 +33,7 @@ returns-clause-advances g c = λ setup.
     let h = c.requires.waited in
     let going : (c.args.at.declined && nat_lt c.args.at.count c.args.limit) ≡ false = elim c.else-at.branch [ else-at-via-then-at+else-at-limit w ↦ at_the_limit c.args.at.declined c.args.at.count c.args.limit w.if-at-limit.false | else-at-via-else-at w ↦ not_declined c.args.at.declined (nat_lt c.args.at.count c.args.limit) w.if-at.false ] in
     rw (c.progress_of.ensures, c.count.ensures)
-    (onwards_progress b m (λ b. (g.dyn-1.0.entry b.vtable).1) c.args.limit c.args.at setup (standing_in (λ b. (g.dyn-1.0.entry b.vtable).1) old) (record old { stood = stood.After c.args.at.count }) c.run_on.new.self c.in_ok-status.status going h.paused.count h.began c.in_ok-status.ensures.ran)
+    (onwards_progress b m (λ b. (g.dyn-1.0.entry b.vtable).1) c.args.limit c.args.at setup (standing_in (λ b. (g.dyn-1.0.entry b.vtable).1) old) (record old { stood = stood.After c.args.at.count }) c.run_on.new.self c.in_ok-status.status going h.within h.paused h.began c.in_ok-status.ensures.ran)
 
 pub returns-then-at-limit-clause-advances : goal.returns-then-at-limit-clause-advances
 returns-then-at-limit-clause-advances g c = λ setup.
@@ -40,7 +43,8 @@ returns-then-at-limit-clause-advances g c = λ setup.
     let new = c.run_refused.new.self in
     let h = c.requires.waited in
     let left = subst (λ n. HasLeft n (counts_in old.positions) (counts_in new.positions) (run_to b m c.args.limit)) h.paused.count c.in_ok-outcome.ensures.left in
-    refused_ended b m c.args.limit c.args.at setup (standing_in (λ b. (g.dyn-1.0.entry b.vtable).1) old) (supplied_in (λ b. (g.dyn-1.0.entry b.vtable).1) old) (counts_in old.positions) (counts_in new.positions) (world_in (λ b. (g.dyn-1.0.entry b.vtable).1) new.kernel) (waiting_in (λ b. (g.dyn-1.0.entry b.vtable).1) new) c.in_ok-outcome.outcome c.if-at.true h.began c.in_ok-outcome.ensures.ran left c.in_ok-outcome.ensures.none
+    refused_ended b m c.args.limit c.args.at setup (standing_in (λ b. (g.dyn-1.0.entry b.vtable).1) old) (supplied_in (λ b. (g.dyn-1.0.entry b.vtable).1) old) (counts_in old.positions) (counts_in new.positions) (world_in (λ b. (g.dyn-1.0.entry b.vtable).1) new.kernel) (waiting_in (λ b. (g.dyn-1.0.entry b.vtable).1) new) c.in_ok-outcome.outcome c.if-at.true h.began c.in_ok-outcome.ensures.ran left
+    (refused_left_boxes b m c.args.limit c.args.at.count (world_in (λ b. (g.dyn-1.0.entry b.vtable).1) old.kernel) (waiting_in (λ b. (g.dyn-1.0.entry b.vtable).1) old) (waiting_in (λ b. (g.dyn-1.0.entry b.vtable).1) new) h.paused.going (omega (arith, c.if-at-limit.true)) h.paused.first (subst (λ d. refused_if b m (world_in (λ b. (g.dyn-1.0.entry b.vtable).1) old.kernel) (waiting_in (λ b. (g.dyn-1.0.entry b.vtable).1) old) d) c.if-at.true h.refused) (ap (seats_held (λ b. (g.dyn-1.0.entry b.vtable).1)) c.run_refused.ensures.waiting))
 
 -- its box was declined
 pub run_refused-requires-clause-going : goal.run_refused-requires-clause-going

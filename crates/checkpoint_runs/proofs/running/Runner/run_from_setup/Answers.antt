@@ -1,7 +1,6 @@
-use Rattle.std.proofs.Common.{◌≡◌, None, sym, ap, ◌∙◌, subst}
+use Rattle.std.proofs.Common.{None, sym, ap, ◌∙◌, subst}
 use Rattle.checkpoints.specs.Stored.{counts_in, IsBegun}
 use Rattle.kernel.specs.Kernels.{world_in}
-use Rattle.run_semantics.specs.Run.{Over, start}
 use Rattle.checkpoint_runs.specs.Kept.{standing_in, supplied_in, waiting_in}
 use Rattle.checkpoint_runs.specs.Running.{progress_of, Advances}
 use Rattle.checkpoint_runs.proofs.Advancing.{setup_over, setup_waits, started_progress}
@@ -13,10 +12,9 @@ returns-in-Done-Some-clause-advances g c =
     let b = g.C.Catalogue.behaviour in
     let m = g.M.ModelMarker.answers in
     let old = c.args.self.now in
-    let new = c.drop_waiting.new.self in
+    let new = c.stand.new.self in
     let stands = rw (c.in-Done-Some.is, c.in-Done-Some.field-0-is) at c.in_ok-outcome.ensures.stands in
-    let over : Over (world_in (λ b. (g.dyn-1.0.entry b.vtable).1) new.kernel) c.in-Done-Some.outcome ≡ start b m = ap (λ K. Over (world_in (λ b. (g.dyn-1.0.entry b.vtable).1) K) c.in-Done-Some.outcome) c.drop_waiting.ensures.kernel ∙ stands.0 in
-    setup_over b m c.args.limit c.args.at (standing_in (λ b. (g.dyn-1.0.entry b.vtable).1) old) (supplied_in (λ b. (g.dyn-1.0.entry b.vtable).1) old) old.positions new.positions (world_in (λ b. (g.dyn-1.0.entry b.vtable).1) new.kernel) (waiting_in (λ b. (g.dyn-1.0.entry b.vtable).1) new) c.in-Done-Some.outcome (sym (begun_start c.args.limit old.positions c.requires.none)) (rw c.in-Done-Some.is at c.in_ok-outcome.ensures.wants) over c.drop_waiting.ensures.none c.requires.none (c.drop_waiting.ensures.kept.0 ∙ c.stand.ensures.kept.0)
+    setup_over b m c.args.limit c.args.at (standing_in (λ b. (g.dyn-1.0.entry b.vtable).1) old) (supplied_in (λ b. (g.dyn-1.0.entry b.vtable).1) old) old.positions new.positions (world_in (λ b. (g.dyn-1.0.entry b.vtable).1) new.kernel) (waiting_in (λ b. (g.dyn-1.0.entry b.vtable).1) new) c.in-Done-Some.outcome (sym (begun_start c.args.limit old.positions c.requires.none)) (rw c.in-Done-Some.is at c.in_ok-outcome.ensures.wants) stands.0 stands.2 c.requires.none c.stand.ensures.kept.0
 
 pub returns-in-Waits-clause-advances : goal.returns-in-Waits-clause-advances
 returns-in-Waits-clause-advances g c =
@@ -30,8 +28,8 @@ returns-in-Waits-clause-advances g c =
 
 pub returns-in-Done-Some-clause-stopped : goal.returns-in-Done-Some-clause-stopped
 returns-in-Done-Some-clause-stopped g c =
-    none_stored g.C.Catalogue.behaviour g.M.ModelMarker.answers c.args.limit c.drop_waiting.new.self.stood c.args.self.now.positions c.drop_waiting.new.self.positions (c.drop_waiting.ensures.kept.1 ∙ c.stand.ensures.kept.1 ∙ c.requires.stood)
-    c.requires.none (c.drop_waiting.ensures.kept.0 ∙ c.stand.ensures.kept.0)
+    none_stored g.C.Catalogue.behaviour g.M.ModelMarker.answers c.args.limit c.stand.new.self.stood c.args.self.now.positions c.stand.new.self.positions (c.stand.ensures.kept.1 ∙ c.requires.stood)
+    c.requires.none c.stand.ensures.kept.0
 
 pub returns-in-Waits-clause-stopped : goal.returns-in-Waits-clause-stopped
 returns-in-Waits-clause-stopped g c =

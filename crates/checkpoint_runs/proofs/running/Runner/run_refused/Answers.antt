@@ -1,7 +1,6 @@
-use Rattle.std.proofs.Common.{sym, ap, ◌∙◌}
+use Rattle.std.proofs.Common.{refl, sym, ◌∙◌}
 use Rattle.checkpoints.specs.Stored.{counts_in}
 use Rattle.kernel.specs.Kernels.{world_in}
-use Rattle.run_semantics.specs.Run.{stage_of, stopped}
 use Rattle.checkpoint_runs.specs.Kept.{waiting_in}
 use Rattle.checkpoint_runs.proofs.Ends.{refused_left, refused_ran}
 use Rattle.checkpoint_runs.proofs.Good.{good_on}
@@ -20,8 +19,7 @@ pub returns-clause-good : goal.returns-clause-good
 returns-clause-good g c =
     let b = g.C.Catalogue.behaviour in
     let m = g.A.Answers.answers in
-    let good = good_on b m (world_in (λ b. (g.dyn-1.0.entry b.vtable).1) c.args.self.now.kernel) (world_in (λ b. (g.dyn-1.0.entry b.vtable).1) c.step_declined.new.self) c.args.self.now.positions.stored c.step_declined.ensures.grown c.requires.going.good in
-    rw (c.drop_waiting.ensures.kernel, c.drop_waiting.ensures.kept.0) good
+    good_on b m (world_in (λ b. (g.dyn-1.0.entry b.vtable).1) c.args.self.now.kernel) (world_in (λ b. (g.dyn-1.0.entry b.vtable).1) c.step_declined.new.self) c.args.self.now.positions.stored c.step_declined.ensures.grown c.requires.going.good
 
 pub returns-clause-ran : goal.returns-clause-ran
 returns-clause-ran g c =
@@ -30,7 +28,6 @@ returns-clause-ran g c =
     let w = world_in (λ b. (g.dyn-1.0.entry b.vtable).1) c.args.self.now.kernel in
     let ends = refused_ends b m w (waiting_in (λ b. (g.dyn-1.0.entry b.vtable).1) c.args.self.now) c.requires.first c.requires.refused in
     refused_ran b m c.args.limit w.count w (world_in (λ b. (g.dyn-1.0.entry b.vtable).1) c.step_declined.new.self) c.in_ok-over.over c.requires.going.going c.requires.within ends c.in_ok-over.ensures.step
-    ∙ ap (λ K. stopped (stage_of c.in_ok-over.over (world_in (λ b. (g.dyn-1.0.entry b.vtable).1) K))) (sym c.drop_waiting.ensures.kernel)
     ∙ sym c.outcome_of.ensures
 
 pub returns-clause-left : goal.returns-clause-left
@@ -39,7 +36,7 @@ returns-clause-left g c =
     let m = g.A.Answers.answers in
     let w = world_in (λ b. (g.dyn-1.0.entry b.vtable).1) c.args.self.now.kernel in
     let ends = refused_ends b m w (waiting_in (λ b. (g.dyn-1.0.entry b.vtable).1) c.args.self.now) c.requires.first c.requires.refused in
-    refused_left b m c.args.limit w.count w (world_in (λ b. (g.dyn-1.0.entry b.vtable).1) c.step_declined.new.self) c.in_ok-over.over (counts_in c.args.self.now.positions) (counts_in c.drop_waiting.new.self.positions) c.requires.going.going c.requires.within ends c.in_ok-over.ensures.step (ap counts_in c.drop_waiting.ensures.kept.0)
+    refused_left b m c.args.limit w.count w (world_in (λ b. (g.dyn-1.0.entry b.vtable).1) c.step_declined.new.self) c.in_ok-over.over (counts_in c.args.self.now.positions) (counts_in c.args.self.now.positions) c.requires.going.going c.requires.within ends c.in_ok-over.ensures.step refl
 
 pub returns-clause-stopped : goal.returns-clause-stopped
 returns-clause-stopped g c =
@@ -47,5 +44,4 @@ returns-clause-stopped g c =
     let m = g.A.Answers.answers in
     let w = world_in (λ b. (g.dyn-1.0.entry b.vtable).1) c.args.self.now.kernel in
     let ends = refused_ends b m w (waiting_in (λ b. (g.dyn-1.0.entry b.vtable).1) c.args.self.now) c.requires.first c.requires.refused in
-    rw c.drop_waiting.ensures.kept.1
-    (refused_left b m c.args.limit w.count w (world_in (λ b. (g.dyn-1.0.entry b.vtable).1) c.step_declined.new.self) c.in_ok-over.over (counts_in c.args.self.now.positions) (counts_in c.drop_waiting.new.self.positions) c.requires.going.going c.requires.within ends c.in_ok-over.ensures.step (ap counts_in c.drop_waiting.ensures.kept.0))
+    refused_left b m c.args.limit w.count w (world_in (λ b. (g.dyn-1.0.entry b.vtable).1) c.step_declined.new.self) c.in_ok-over.over (counts_in c.args.self.now.positions) (counts_in c.args.self.now.positions) c.requires.going.going c.requires.within ends c.in_ok-over.ensures.step refl

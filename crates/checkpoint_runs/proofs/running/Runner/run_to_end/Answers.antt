@@ -14,7 +14,7 @@ use Rattle.checkpoint_runs.specs.Running.{parts_in}
 use Rattle.checkpoint_runs.specs.declared.phases.Stood.TheVariants as stood
 use Rattle.checkpoint_runs.proofs.Counting.{fault_left, first_below, first_counts, first_untaken, setup_stored_all}
 use Rattle.checkpoint_runs.proofs.Ends.{started_status}
-use Rattle.checkpoint_runs.proofs.Filling.{start_is_fault, wait_over}
+use Rattle.checkpoint_runs.proofs.Filling.{ready_known, start_is_fault, wait_over}
 use Rattle.checkpoint_runs.proofs.Going.{count_is, going_at}
 use Rattle.checkpoint_runs.proofs.Good.{good_stored}
 use Rattle.checkpoint_runs.proofs.running.Runner.run_to_end.Goals as goal
@@ -52,9 +52,11 @@ returns-in_ok-ended-in-Some-clause-ran g c =
     let w = world_in (λ b. (g.dyn-1.0.entry b.vtable).1) c.start.new.self in
     let over : Over w c.in-Some.outcome ≡ after b m 0 = rw c.in-Some.is at c.in_ok-outcome.ensures.step in
     let few = count_over b m w c.in-Some.outcome zero over in
+    let known = ready_known b m _ _ c.requires.ready in
     let ran = run_over b m w c.in-Some.outcome zero c.args.limit (omega arith) over in
     record {
       none = wait_over b m 0 c.args.limit w c.in-Some.outcome [] over;
+      known = known;
       whole = ap (ending b m) ran ∙ sym c.in_ok-ended-in-Some.ensures.step;
       empty = c.start.ensures.none;
       left = fault_left b m c.args.limit w c.in-Some.outcome c.args.self.now.positions c.args.self.now.positions c.requires.none refl ran (omega (arith, few)) (start_is_fault b m w c.in-Some.outcome over);
@@ -70,7 +72,7 @@ returns-in_ok-status-in-None-clause-ran g c =
     let counts = first_counts w c.args.self.now.positions new.positions c.requires.none c.in_ok-keep_if-in-None.ensures.ok count in
     let from : (world_in (λ b. (g.dyn-1.0.entry b.vtable).1) new.kernel).count ≡ 0 = ap (λ K. (world_in (λ b. (g.dyn-1.0.entry b.vtable).1) K).count) c.in_ok-keep_if-in-None.ensures.kept ∙ count in
     let empty : supplied_in (λ b. (g.dyn-1.0.entry b.vtable).1) new ≡ [] = ap parts_in (ap (seats_held (λ b. (g.dyn-1.0.entry b.vtable).1)) c.keep_if.ensures.waiting ∙ c.start.ensures.none) in
-    started_status b m (λ b. (g.dyn-1.0.entry b.vtable).1) c.args.limit c.args.self.now.positions new c.run_on.new.self c.in_ok-status-in-None.status c.requires.none counts from empty c.in_ok-status-in-None.ensures.ran
+    started_status b m (λ b. (g.dyn-1.0.entry b.vtable).1) c.args.limit c.args.self.now.positions new c.run_on.new.self c.in_ok-status-in-None.status c.requires.none counts from empty (ready_known b m _ _ c.requires.ready) c.in_ok-status-in-None.ensures.ran
 
 pub returns-in_err-status-in-None-clause-stopped : goal.returns-in_err-status-in-None-clause-stopped
 returns-in_err-status-in-None-clause-stopped g c =

@@ -3,7 +3,7 @@ use Rattle.run_semantics.specs.Run.{Part}
 use Rattle.kernel.specs.Kernels.{world_in}
 use Rattle.checkpoint_runs.specs.Kept.{waiting_in}
 use Rattle.checkpoint_runs.specs.Running.{parts_in, wanted_by, Stands, Wants}
-use Rattle.checkpoint_runs.proofs.Filling.{filled_first, setup_none, setup_wants_none, start_over}
+use Rattle.checkpoint_runs.proofs.Filling.{filled_first, setup_boxes, setup_none, setup_wants_none, start_over}
 use Rattle.checkpoint_runs.proofs.running.Runner.set_up.Goals as goal
 
 -- what was set up waits for its boxes
@@ -18,7 +18,7 @@ returns-in-Some-clause-stands g c =
     let m = g.M.ModelMarker.answers in
     let w = world_in (λ b. (g.dyn-1.0.entry b.vtable).1) c.set_network_up.new.self.kernel in
     let over = rw c.in-Some.is at c.in_ok-outcome.ensures.step in
-    (start_over b m w c.in-Some.outcome over, setup_none m w c.in-Some.outcome over)
+    (start_over b m w c.in-Some.outcome over, setup_none m w c.in-Some.outcome over, setup_boxes b m w (waiting_in (λ b. (g.dyn-1.0.entry b.vtable).1) c.set_network_up.new.self) c.in-Some.outcome c.set_network_up.ensures.none over)
 
 pub returns-in_ok-standing-in-None-clause-stands : goal.returns-in_ok-standing-in-None-clause-stands
 returns-in_ok-standing-in-None-clause-stands g c =

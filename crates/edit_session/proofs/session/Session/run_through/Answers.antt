@@ -123,7 +123,7 @@ returns-in_ok-report-in-Done-clause-sound g c =
     let starts = kept_starts b (boxes_in (λ b. (g.dyn-1.0.entry b.vtable).1) old.runner.kernel) (waiting_in (λ b. (g.dyn-1.0.entry b.vtable).1) old.runner) (world_in (λ b. (g.dyn-1.0.entry b.vtable).1) old.runner.kernel) old.model old.phase (option_map completed_of old.done) old.known old.runner.positions limit c.requires.sound.kept in
     record {
       kept = rw c.give_up.ensures (kept_done b (boxes_in (λ b. (g.dyn-1.0.entry b.vtable).1) mid.kernel) (waiting_in (λ b. (g.dyn-1.0.entry b.vtable).1) mid) (world_in (λ b. (g.dyn-1.0.entry b.vtable).1) mid.kernel) old.model limit c.in-Done.ended.outcome c.count-count.result mid.positions c.advance.ensures.kinds h.whole c.count-count.ensures
-          (rw (c.evaluated.ensures, c.give_up.ensures) at c.advance.ensures.good) h.none_wait (subst CanBeStored (sym h.positions) (done_stored b m limit r before (Fits-lt-pow c.ranges.limit) starts)));
+          (rw (c.evaluated.ensures, c.give_up.ensures) at c.advance.ensures.good) (subst CanBeStored (sym h.positions) (done_stored b m limit r before (Fits-lt-pow c.ranges.limit) starts)));
       shown = rw c.give_up.ensures (rw (c.in-Done.is, c.evaluated.ensures, c.give_up.ensures) at c.in_ok-wait.ensures.shown);
     }
 
