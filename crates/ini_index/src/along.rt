@@ -1,88 +1,96 @@
 //! The entries along a chain of sections, in time that grows with the text alone.
 
-ghost use Rattle.std.specs.Prelude.{◌≡◌, ◌<◌, ◌++◌, ℕ, [], length, IfOk, OnOk};
+ghost use Rattle.std.specs.Prelude.{◌≡◌, ◌<◌, ◌++◌, ℕ, [], Some, length, map, IfOk, OnOk};
 ghost use Rattle.std.specs.Option.{option_copied};
 ghost use Rattle.ini_trees.specs.Numbers.{name_at, names_behind, AreApart};
 ghost use Rattle.ini_trees.specs.Sections.{entry_here, entries_along, entries_under, is_in};
-ghost use Rattle.ini_index.specs.Entries.{entries_at, one_of, AddsTo};
+ghost use Rattle.ini_index.specs.Entries.{number_where, numbers_at, told, AddsTo, AreNumbersOf};
 
-use crate::list::EntryList;
-use ini_trees::lines::{IniEntry, IniLine, LineMeaning};
+use ini_trees::lines::{IniLine, LineMeaning};
 use ini_trees::names::{SectionNames, section_names};
 use ini_trees::scan::section_behind;
 use sim_values::NoMemory;
 use sim_values::text::Text;
+use sqlite_items::Items;
 use std::alloc::Global;
 use std::marker::Model;
 
-// ---- for each section its entries
+// ---- for each section the lines of its entries
 
 /// So many empty lists.
-fn empty_lists<'m>(alloc: Global, count: usize) -> Result<Vec<EntryList<'m>>, NoMemory>
+fn empty_lists(alloc: Global, count: usize) -> Result<Vec<Items<usize>>, NoMemory>
     ensures { IfOk result
-        (λ lists. (length lists.items ≡ count) × ((k : ℕ) → entries_at lists.items k ≡ [])) }
+        (λ lists. (length lists.items ≡ count) × ((k : ℕ) → numbers_at lists.items k ≡ [])) }
 {
     let mut lists = Vec::new(alloc);
     for _ in 0..count {
-        lists.push(EntryList::new(alloc))?;
+        lists.push(Items::new(alloc))?;
     }
     Ok(lists)
 }
 
-/// Adds an entry to the list of that number.
-fn add_to<'m>(
-    lists: &mut [EntryList<'m>],
-    number: usize,
-    entry: &'m IniEntry,
-) -> Result<(), NoMemory>
-    requires { number < length lists.old }
-    ensures { OnOk result (AddsTo number entry.now lists.old lists.new) }
+/// Adds the number of a line to the list of that section.
+fn add_to(lists: &mut [Items<usize>], section: usize, number: usize) -> Result<(), NoMemory>
+    requires { section < length lists.old }
+    ensures { OnOk result (AddsTo section number lists.old lists.new) }
 {
-    lists[number].push(entry)?;
+    lists[section].push(number)?;
     Ok(())
 }
 
-/// Adds the entry of a line, where it is one, to the list of the section in which it stands.
-fn add_entry<'m>(
-    lists: &mut [EntryList<'m>],
+/// Adds the number of a line, where it is an entry, to the list of the section in which it stands.
+fn add_line(
+    lists: &mut [Items<usize>],
     names: &SectionNames<'_>,
     section: Option<&[u8]>,
-    line: &'m IniLine,
+    line: &IniLine,
+    number: usize,
 ) -> Result<(), NoMemory>
     requires apart { AreApart (name_at names.now) (length names.now) }
     requires size { length lists.old ≡ length names.now }
-    ensures { OnOk result ((k : ℕ) → k < length names.now → entries_at lists.new k
-        ≡ entries_at lists.old k ++ one_of (entry_here
+    ensures { OnOk result ((k : ℕ) → k < length names.now → numbers_at lists.new k
+        ≡ numbers_at lists.old k ++ number_where number (entry_here
         (is_in (name_at names.now k) (option_copied section.entry)) line.now.meaning)) }
 {
-    let LineMeaning::Entry(entry) = &line.meaning else {
+    let LineMeaning::Entry(_) = &line.meaning else {
         return Ok(());
     };
     let Some(name) = section else {
         return Ok(());
     };
     match names.number_of(name) {
-        Some(number) => add_to(lists, number, entry),
+        Some(section) => add_to(lists, section, number),
         None => Ok(()),
     }
 }
 
-/// Adds the entries of lines to empty lists, one for each section.
-fn add_entries<'m>(
-    lists: &mut [EntryList<'m>],
+/// Adds the numbers of the lines that are entries to empty lists, one for each section.
+fn add_lines(
+    lists: &mut [Items<usize>],
     names: &SectionNames<'_>,
-    lines: &'m [IniLine],
+    lines: &[IniLine],
 ) -> Result<(), NoMemory>
     requires apart { AreApart (name_at names.now) (length names.now) }
     requires size { length lists.old ≡ length names.now }
-    requires empty { (k : ℕ) → entries_at lists.old k ≡ [] }
-    ensures { OnOk result ((k : ℕ) → k < length names.now
-        → entries_at lists.new k ≡ entries_under (name_at names.now k) lines.now) }
+    requires empty { (k : ℕ) → numbers_at lists.old k ≡ [] }
+    ensures { OnOk result ((k : ℕ) → k < length names.now → AreNumbersOf lines.now
+        (entries_under (name_at names.now k) lines.now) (numbers_at lists.new k)) }
 {
     let mut section = None;
-    for line in lines {
-        add_entry(lists, names, section, line)?;
+    for number in 0..lines.len() {
+        let line = &lines[number];
+        add_line(lists, names, section, line, number)?;
         section = section_behind(section, line);
+    }
+    Ok(())
+}
+
+/// Adds other numbers after those of a list.
+fn append(list: &mut Items<usize>, more: &[usize]) -> Result<(), NoMemory>
+    ensures { OnOk result (list.new ≡ list.old ++ more.now) }
+{
+    for number in more {
+        list.push(*number)?;
     }
     Ok(())
 }
@@ -92,8 +100,8 @@ fn add_entries<'m>(
 struct Sections<'m> {
     lines: &'m [IniLine],
     names: SectionNames<'m>,
-    /// For each section its entries.
-    lists: Vec<EntryList<'m>>,
+    /// For each section the numbers of the lines of its entries.
+    lists: Vec<Items<usize>>,
 }
 
 impl<'m> Model for Sections<'m> {
@@ -101,7 +109,7 @@ impl<'m> Model for Sections<'m> {
     ghost use Rattle.std.specs.Coded.{coded_list};
     ghost use Rattle.ini_trees.specs.contracts.lines.IniLine.{the_row};
     ghost use Rattle.ini_trees.specs.declared.lines.IniLine.{IniLine};
-    ghost use Rattle.ini_index.specs.Entries.{HaveEntries};
+    ghost use Rattle.ini_index.specs.Entries.{HaveNumbers};
 
     ghost Value = { List IniLine };
 
@@ -109,7 +117,7 @@ impl<'m> Model for Sections<'m> {
 
     ghost view = { λ s. s.lines.now };
 
-    ghost invariant = { λ s. HaveEntries s.lines.now s.names s.lists.items };
+    ghost invariant = { λ s. HaveNumbers s.lines.now s.names s.lists.items };
 }
 
 impl<'m> Sections<'m> {
@@ -119,7 +127,7 @@ impl<'m> Sections<'m> {
     {
         let names = section_names(alloc, lines)?;
         let mut lists = empty_lists(alloc, names.len())?;
-        add_entries(lists.as_mut_slice(), &names, lines)?;
+        add_lines(lists.as_mut_slice(), &names, lines)?;
         Ok(Sections {
             lines,
             names,
@@ -127,12 +135,13 @@ impl<'m> Sections<'m> {
         })
     }
 
-    /// Adds the entries of the section of that name to a list.
-    fn add_under(&self, list: &mut EntryList<'m>, name: &[u8]) -> Result<(), NoMemory>
-        ensures { OnOk result (list.new ≡ list.old ++ entries_under name.now self.now) }
+    /// Adds the entries of the section of that name to a list, by the numbers of their lines.
+    fn add_under(&self, list: &mut Items<usize>, name: &[u8]) -> Result<(), NoMemory>
+        ensures { OnOk result (told self.now list.new
+            ≡ told self.now list.old ++ map Some (entries_under name.now self.now)) }
     {
         match self.names.number_of(name) {
-            Some(number) => list.append(&self.lists[number]),
+            Some(section) => append(list, self.lists[section].as_slice()),
             None => Ok(()),
         }
     }
@@ -140,16 +149,18 @@ impl<'m> Sections<'m> {
 
 // ---- along a chain
 
-/// The entries along a chain: section by section, each in the order of the lines.
-pub fn entries_along<'m>(
+/// The entries along a chain, by the numbers of their lines: section by section, each in the order
+/// of the lines.
+pub fn numbers_along(
     alloc: Global,
-    lines: &'m [IniLine],
+    lines: &[IniLine],
     chain: &[Text],
-) -> Result<EntryList<'m>, NoMemory>
-    ensures { IfOk result (λ list. list ≡ entries_along chain.now lines.now) }
+) -> Result<Items<usize>, NoMemory>
+    ensures { IfOk result
+        (λ numbers. AreNumbersOf lines.now (entries_along chain.now lines.now) numbers) }
 {
     let sections = Sections::new(alloc, lines)?;
-    let mut list = EntryList::new(alloc);
+    let mut list = Items::new(alloc);
     for name in chain {
         sections.add_under(&mut list, name.as_bytes())?;
     }

@@ -8,7 +8,7 @@ ghost use Rattle.ini_trees.specs.Entries.{first_match, speaks_of, value_for, val
 ghost use Rattle.ini_trees.specs.Sections.{entries_along};
 ghost use Rattle.ini_index.specs.Indexed.{AreNotedFrom, first_from, is_found, is_past, sooner};
 
-use crate::along::entries_along;
+use crate::along::numbers_along;
 use crate::key::key_of;
 use crate::list::EntryList;
 use crate::speaks::speaks;
@@ -103,10 +103,11 @@ fn value_said(meaning: &EntryMeaning) -> Option<&EntryValue>
     }
 }
 
-/// The entries of a configuration, which contracts see as their list. By the keys of their
-/// patterns the first match for a path is found without looking at all of them.
-pub struct EntryIndex<'m> {
-    entries: EntryList<'m>,
+/// The entries of a configuration, by their keys: which lines they are, and for each key where its
+/// entries stand. It has numbers alone, so it outlives no text.
+pub struct EntryIndex {
+    /// The number of each entry's line.
+    numbers: Items<usize>,
     /// For each key the number of the first entry that has it.
     heads: HashMap<String, usize>,
     /// For each entry the number of the next one that has the same key.
@@ -114,17 +115,66 @@ pub struct EntryIndex<'m> {
 }
 
 // Written out, so that a crate which drops one need not prove what that does.
-impl<'m> Drop for EntryIndex<'m> {
+impl Drop for EntryIndex {
     fn drop(self) {
         let EntryIndex {
-            entries: _,
+            numbers: _,
             heads: _,
             nexts: _,
         } = self;
     }
 }
 
-impl<'m> Model for EntryIndex<'m> {
+impl EntryIndex {
+    ghost use Rattle.ini_index.specs.IndexOf.{IsIndexOf};
+
+    /// The index of the entries along a chain.
+    pub fn new(alloc: Global, lines: &[IniLine], chain: &[Text]) -> Result<EntryIndex, NoMemory>
+        ensures { IfOk result (λ index. IsIndexOf lines.now chain.now index) }
+    {
+        let numbers = numbers_along(alloc, lines, chain)?;
+        let entries = EntryList::new(lines, numbers.as_slice());
+        let mut heads = HashMap::new(alloc);
+        let mut nexts = no_nexts(alloc, entries.len())?;
+        note_all(alloc, &entries, &mut heads, &mut nexts)?;
+        Ok(EntryIndex {
+            numbers,
+            heads,
+            nexts,
+        })
+    }
+
+    /// The value of the first match for a path along the chain. A path that is no text has none.
+    pub fn value_for<'a>(
+        &'a self,
+        lines: &'a [IniLine],
+        chain: &[Text],
+        path: &[u8],
+    ) -> Option<&'a EntryValue>
+        requires { IsIndexOf lines.now chain.now self.now }
+        ensures { option_copied result ≡ value_for path.now (entries_along chain.now lines.now) }
+    {
+        let _chain = chain;
+        let entries = EntryList::new(lines, self.numbers.as_slice());
+        let indexed = IndexedEntries {
+            entries,
+            heads: &self.heads,
+            nexts: &self.nexts,
+        };
+        indexed.value_for(path)
+    }
+}
+
+/// The entries of a configuration with their index. Contracts see the list of the entries. By the
+/// keys of their patterns the first match for a path is found without looking at all of them.
+#[derive(Drop)]
+struct IndexedEntries<'m> {
+    entries: EntryList<'m>,
+    heads: &'m HashMap<String, usize>,
+    nexts: &'m Items<Option<usize>>,
+}
+
+impl<'m> Model for IndexedEntries<'m> {
     ghost use Rattle.std.specs.Prelude.{List};
     ghost use Rattle.std.specs.Coded.{coded_list};
     ghost use Rattle.ini_trees.specs.contracts.lines.IniEntry.{the_row};
@@ -137,29 +187,10 @@ impl<'m> Model for EntryIndex<'m> {
 
     ghost view = { λ x. x.entries };
 
-    ghost invariant = { λ x. AreNotedFrom 0 x.entries x.heads x.nexts };
+    ghost invariant = { λ x. AreNotedFrom 0 x.entries x.heads.now x.nexts.now };
 }
 
-impl<'m> EntryIndex<'m> {
-    /// The entries along a chain.
-    pub fn new(
-        alloc: Global,
-        lines: &'m [IniLine],
-        chain: &[Text],
-    ) -> Result<EntryIndex<'m>, NoMemory>
-        ensures { IfOk result (λ index. index ≡ entries_along chain.now lines.now) }
-    {
-        let entries = entries_along(alloc, lines, chain)?;
-        let mut heads = HashMap::new(alloc);
-        let mut nexts = no_nexts(alloc, entries.len())?;
-        note_all(alloc, &entries, &mut heads, &mut nexts)?;
-        Ok(EntryIndex {
-            entries,
-            heads,
-            nexts,
-        })
-    }
-
+impl<'m> IndexedEntries<'m> {
     /// The number that is less: the one of the first entry of a key that speaks of a path, or the
     /// one that was found so far.
     fn sooner(&self, key: &str, path: &str, best: Option<usize>) -> Option<usize>
@@ -173,7 +204,7 @@ impl<'m> EntryIndex<'m> {
             if speaks(path, &self.entries.at(number).meaning) {
                 return Some(number);
             }
-            at = next_of(&self.nexts, number);
+            at = next_of(self.nexts, number);
         }
         best
     }
@@ -239,7 +270,7 @@ impl<'m> EntryIndex<'m> {
     }
 
     /// The value of the first match for a path. A path that is no text has none.
-    pub fn value_for(&self, path: &[u8]) -> Option<&'m EntryValue>
+    fn value_for(&self, path: &[u8]) -> Option<&'m EntryValue>
         ensures { option_copied result ≡ value_for path.now self.now }
     {
         match std::str::from_utf8(path) {

@@ -1,16 +1,45 @@
-//! Entries in an order.
+//! Entries in an order, by the numbers of their lines.
 
-ghost use Rattle.std.specs.Prelude.{◌≡◌, ◌<◌, ◌∷◌, ◌++◌, [], OnOk, Some, length, slice_get};
+ghost use Rattle.std.specs.Prelude.{◌≡◌, ◌<◌, Some, length, slice_get};
+ghost use Rattle.std.specs.Option.{option_copied};
+ghost use Rattle.ini_index.specs.Entries.{AreNumbersOf, entries_on, entry_of, entry_on};
 
-use ini_trees::lines::IniEntry;
-use sim_values::NoMemory;
-use std::alloc::Global;
+use ini_trees::lines::{IniEntry, IniLine, LineMeaning};
 use std::marker::Model;
 
-/// Entries in an order, which contracts see as their list.
+/// The entry that a line is, where it is one.
+fn entry_of(line: &IniLine) -> Option<&IniEntry>
+    ensures { option_copied result ≡ entry_of line.now }
+{
+    match &line.meaning {
+        LineMeaning::Entry(entry) => Some(entry),
+        _ => None,
+    }
+}
+
+/// The entry that the line of that number is, where there is one.
+fn entry_on(lines: &[IniLine], number: usize) -> Option<&IniEntry>
+    ensures { option_copied result ≡ entry_on lines.now number }
+{
+    match lines.get(number) {
+        Some(line) => entry_of(line),
+        None => None,
+    }
+}
+
+/// The number that stands at a place.
+fn number_at(numbers: &[usize], place: usize) -> usize
+    requires { place < length numbers.now }
+    ensures { slice_get numbers.now place ≡ Some result }
+{
+    numbers[place]
+}
+
+/// Entries in an order, by the numbers of their lines. Contracts see the list of the entries.
 #[derive(Drop)]
 pub struct EntryList<'m> {
-    entries: Vec<&'m IniEntry>,
+    lines: &'m [IniLine],
+    numbers: &'m [usize],
 }
 
 impl<'m> Model for EntryList<'m> {
@@ -18,30 +47,32 @@ impl<'m> Model for EntryList<'m> {
     ghost use Rattle.std.specs.Coded.{coded_list};
     ghost use Rattle.ini_trees.specs.contracts.lines.IniEntry.{the_row};
     ghost use Rattle.ini_trees.specs.declared.lines.IniEntry.{IniEntry};
-    ghost use Rattle.ini_index.specs.Entries.{entries_in};
+    ghost use Rattle.ini_index.specs.Entries.{AreNumbersOf, entries_on};
 
     ghost Value = { List IniEntry };
 
     ghost coded = { coded_list the_row.coded };
 
-    ghost view = { λ l. entries_in l.entries.items };
+    ghost view = { λ l. entries_on l.lines.now l.numbers.now };
+
+    ghost invariant = { λ l.
+        AreNumbersOf l.lines.now (entries_on l.lines.now l.numbers.now) l.numbers.now };
 }
 
 impl<'m> EntryList<'m> {
-    /// No entries.
-    pub fn new(alloc: Global) -> EntryList<'m>
-        ensures { result ≡ [] }
+    /// The entries that the lines of these numbers are.
+    pub fn new(lines: &'m [IniLine], numbers: &'m [usize]) -> EntryList<'m>
+        requires { AreNumbersOf lines.now (entries_on lines.now numbers.now) numbers.now }
+        ensures { result ≡ entries_on lines.now numbers.now }
     {
-        EntryList {
-            entries: Vec::new(alloc),
-        }
+        EntryList { lines, numbers }
     }
 
     /// How many they are.
     pub fn len(&self) -> usize
         ensures { result ≡ length self.now }
     {
-        self.entries.len()
+        self.numbers.len()
     }
 
     /// The entry of that number.
@@ -49,24 +80,10 @@ impl<'m> EntryList<'m> {
         requires { number < length self.now }
         ensures { slice_get self.now number ≡ Some result.now }
     {
-        self.entries[number]
-    }
-
-    /// Adds an entry after the others.
-    pub fn push(&mut self, entry: &'m IniEntry) -> Result<(), NoMemory>
-        ensures { OnOk result (self.new ≡ self.old ++ entry.now ∷ []) }
-    {
-        self.entries.push(entry)?;
-        Ok(())
-    }
-
-    /// Adds other entries after its own.
-    pub fn append(&mut self, more: &EntryList<'m>) -> Result<(), NoMemory>
-        ensures { OnOk result (self.new ≡ self.old ++ more.now) }
-    {
-        for number in 0..more.len() {
-            self.push(more.at(number))?;
+        let line = number_at(self.numbers, number);
+        match entry_on(self.lines, line) {
+            Some(entry) => entry,
+            None => unreachable!(),
         }
-        Ok(())
     }
 }

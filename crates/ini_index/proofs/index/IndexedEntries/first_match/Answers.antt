@@ -1,6 +1,6 @@
 use Rattle.std.proofs.Common.{sym, ◌∙◌}
 use Rattle.ini_index.proofs.Firsts.{match_is, match_within, no_match}
-use Rattle.ini_index.proofs.index.EntryIndex.first_match.Goals as goal
+use Rattle.ini_index.proofs.index.IndexedEntries.first_match.Goals as goal
 
 pub at-requires : goal.at-requires
 at-requires c = match_within c.args.path.now c.self.inside.entries c.args.self.now c.in-Some.number c.self.view_is (sym c.in-Some.is ∙ c.number_of.ensures)

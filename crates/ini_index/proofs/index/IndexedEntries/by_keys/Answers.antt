@@ -1,7 +1,7 @@
 use Rattle.std.proofs.Common.{ap, ◌∙◌}
 use Rattle.ini_trees.specs.Entries.{last_name}
 use Rattle.ini_index.proofs.KeyLaws.{first_by_keys}
-use Rattle.ini_index.proofs.index.EntryIndex.by_keys.Goals as goal
+use Rattle.ini_index.proofs.index.IndexedEntries.by_keys.Goals as goal
 
 pub returns : goal.returns
 returns c =

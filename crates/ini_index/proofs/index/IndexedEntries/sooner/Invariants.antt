@@ -1,5 +1,5 @@
 use Rattle.ini_index.proofs.Firsts.{left_of, IsUnderWay}
-use Rattle.ini_index.proofs.index.EntryIndex.sooner.Given as goal
+use Rattle.ini_index.proofs.index.IndexedEntries.sooner.Given as goal
 
 abbrev pub invariant-loop-at : goal.invariant-loop-at
 invariant-loop-at l = IsUnderWay l.key l.path l.self l.at

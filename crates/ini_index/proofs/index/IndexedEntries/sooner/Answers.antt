@@ -1,6 +1,6 @@
 use Rattle.std.proofs.Common.{◌∙◌, arith, sym}
 use Rattle.ini_index.proofs.Firsts.{begun, ended_found, ended_past, gone_on, nearer, noted_next, number_within}
-use Rattle.ini_index.proofs.index.EntryIndex.sooner.Goals as goal
+use Rattle.ini_index.proofs.index.IndexedEntries.sooner.Goals as goal
 
 pub loop-at-init : goal.loop-at-init
 loop-at-init c = begun c.args.key.now c.args.path.now c.self.inside.entries c.args.self.now c.copied-at.result c.self.view_is (c.copied-at.ensures ∙ c.get.ensures.value ∙ c.self.invariant.first c.args.key.now)
