@@ -1,0 +1,4 @@
+pub mod Over
+pub mod Asking
+pub mod Spots
+pub mod Absorbing
