@@ -1,7 +1,7 @@
 //! A world in code, one event at a time.
 
 ghost use Rattle.std.specs.Prelude.{◌≡◌, ◌+◌, ◌^◌, ◌<◌, ◌≤◌, OnOk, OnErr, IfOk, IfSome, None, []};
-ghost use Rattle.std.specs.Prelude.{length, max, slice_get, drop, option_map, IfErr};
+ghost use Rattle.std.specs.Prelude.{length, max, slice_get, drop, option_map, IfErr, true};
 ghost use Rattle.std.specs.Option.{option_copied};
 ghost use Rattle.module_api.specs.Meaning.{Answered, IsSameModule};
 ghost use Rattle.module_tree.specs.Boxes.{nothing};
@@ -67,7 +67,7 @@ use module_api::simple_module::SimpleModule;
 use module_tree::Tree;
 use run_answers::Answers;
 use run_question_log::entry::LogEntry;
-use run_semantics::occasions::Occasion;
+use run_semantics::occasions::{Occasion, is_noted};
 use run_semantics::outcome::{EventFlow, Outcome, RunFault};
 use run_semantics::routes::copy_transmissions;
 use run_semantics::traces::{Emission, Instance, Scalar};
@@ -296,9 +296,7 @@ impl<C: Catalogue> Kernel<C> {
             Action::Connect(from, to, link) => connect(core, alloc, model, id, from, to, link),
             Action::Disconnect(place) => disconnect(core, alloc, model, id, place),
             Action::Create(creation) => create(core, alloc, model, id, creation),
-            Action::Delete(path, finish) => {
-                self.delete(alloc, model, id, path.as_bytes(), *finish)
-            }
+            Action::Delete(path, finish) => { self.delete(alloc, model, id, path, *finish) }
             _ => core.deed(alloc, id, action),
         }
     }
@@ -525,7 +523,7 @@ impl<C: Catalogue> Kernel<C> {
             return Ok(EventFlow::GoOn);
         }
         let lent = shown.take(alloc, model, self.core.records(), id)?;
-        let lasts = lent.lasts;
+        let lasts = is_shown_again(lent.lasts, occasion);
         let call = call_shown(&self.core, id, CallReason::Finish, lent.shown);
         let turn = self.carry_out_last(alloc, model, occasion, &call);
         shown.put_back(lasts, id, shown_in(call));
@@ -647,7 +645,7 @@ impl<C: Catalogue> Kernel<C> {
         alloc: Global,
         model: &mut A,
         id: u32,
-        path: &[u8],
+        path: &Text,
         finish: bool,
     ) -> Result<EventFlow, NoMemory>
         requires callable { IsCallable C.behaviour SimpleModule-box (2 ^ 75) self.old }
@@ -657,7 +655,7 @@ impl<C: Catalogue> Kernel<C> {
             ≡ deleted C.behaviour A.answers id path.now finish before) }
         ensures grown { IsGrownFrom self.old.core self.new.core }
     {
-        let target = match self.core.module_at(alloc, path)? {
+        let target = match self.core.module_at(path) {
             // The network can't be deleted.
             Some(target) if target != 1 => target,
             _ => return self.core.broken(alloc, id, RunFault::NoModule),
@@ -1429,6 +1427,14 @@ fn serve(held: &mut Box<dyn SimpleModule>, alloc: Global, call: &Call) -> Result
         CallReason::Message(_) => held.handle_message(alloc, call),
         CallReason::Finish => held.finish(alloc, call),
     }
+}
+
+/// Whether what a call for the last time showed is kept, where it lasts: a module that is deleted is
+/// called no more.
+fn is_shown_again(lasts: bool, occasion: Occasion) -> bool
+    ensures { result ≡ true → lasts ≡ true }
+{
+    lasts && !is_noted(occasion)
 }
 
 /// What the call shows of its module that does not change from one call to the next.

@@ -4,7 +4,10 @@ pub mod Growing
 mod Living
 mod Namesakes
 pub mod Lasting
-pub mod Places
 mod Starts
 mod Unstarted
-mod Tails
+mod Places
+mod Listed
+mod Ranges
+mod Below
+mod Found

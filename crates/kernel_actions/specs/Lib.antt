@@ -1,5 +1,8 @@
 pub mod Lookups
 pub mod Looks
-pub mod Places
+pub mod Created
 pub mod Upcoming
 pub mod Positions
+pub mod Places
+pub mod Modules
+pub mod Walks

@@ -1,17 +1,19 @@
 //! A world but for the modules and their states.
 
 ghost use Rattle.std.specs.Prelude.{◌≡◌, ◌+◌, ◌^◌, ◌<◌, OnOk, OnErr, IfOk, Some, true, [], ◌∷◌};
-ghost use Rattle.std.specs.Prelude.{◌++◌, ◌&&◌, length, not, slice_get, take, ◌≤◌};
+ghost use Rattle.std.specs.Prelude.{◌++◌, ◌&&◌, false, length, not, slice_get, take, ◌≤◌, IfSome};
+ghost use Rattle.std.specs.List.{filter};
 ghost use Rattle.model_questions.specs.Questions.{is_of_modules};
 ghost use Rattle.run_question_log.specs.Entries.{noted_in};
 ghost use Rattle.run_semantics.specs.World.{empty, asked, is_live, live_of, timed};
 ghost use Rattle.run_semantics.specs.Perform.{flow_of, deed, scheduled_at, ask_all, ask_noted};
 ghost use Rattle.run_semantics.specs.Perform.{question_of, broken};
-ghost use Rattle.run_semantics.specs.Routes.{arriving, hop_by, is_at, module_at, transmitting};
+ghost use Rattle.run_semantics.specs.Routes.{arriving, hop_by, module_at, transmitting};
 ghost use Rattle.run_semantics.specs.Deleting.{gone, subtree_of, to_finish_in};
 ghost use Rattle.run_semantics.specs.Laws.{GoesOn};
 ghost use Rattle.run_semantics.specs.Routes.{with_change};
 ghost use Rattle.run_semantics.specs.Ending.{with_finished};
+ghost use Rattle.kernel_actions.specs.Created.{HasNetwork, IsCreated};
 ghost use Rattle.kernel_actions.specs.Upcoming.{asked_in, first_is_beyond, looked};
 ghost use Rattle.kernel_actions.specs.Upcoming.{with_injection_asked, upcoming_of, Begins};
 ghost use Rattle.kernel_actions.specs.Upcoming.{first_starts, is_start_first, starts_by};
@@ -29,11 +31,10 @@ ghost use Rattle.kernel_actions.specs.Positions.{lengths_of, position_of, cut_to
 ghost use Rattle.kernel_actions.specs.Positions.{IsGrownFrom};
 
 use crate::classes::copy_class;
-use crate::endings::may_have;
 use crate::events::delivery_at;
 use crate::looks::{Look, LookList, LookedAt, Next};
+use crate::module_list::ModuleList;
 use crate::position::{Lengths, Position};
-use crate::record_table::RecordTable;
 use event_set::pending::{Happening, Pending};
 use event_set::set::EventSet;
 use id_lists::IdList;
@@ -62,7 +63,7 @@ use sim_values::text::Text;
 use sqlite_items::Items;
 use std::alloc::Global;
 use std::marker::Model;
-use subtrees::{all_ids, common, inner_first, outer_first, subtree_in, without};
+use subtrees::{all_ids, common, inner_first, outer_first, without};
 
 /// How many modules live at most.
 const MAX_LIVE: usize = 65_536;
@@ -77,9 +78,7 @@ const LEAST_PRIORITY: i16 = -32_768;
 pub struct Core {
     clock: SimTime,
     count: u64,
-    records: RecordTable,
-    /// The ids of those modules that are dead, in the order in which they died.
-    dead: IdList,
+    modules: ModuleList,
     started: IdList,
     finished: Items<u32>,
     pending: EventSet,
@@ -101,8 +100,7 @@ impl Drop for Core {
         let Core {
             clock: _,
             count: _,
-            records: _,
-            dead: _,
+            modules: _,
             started: _,
             finished: _,
             pending: _,
@@ -127,8 +125,8 @@ impl Model for Core {
     ghost view = { λ k. record {
       clock = k.clock;
       count = k.count;
-      records = k.records;
-      dead = k.dead;
+      records = k.modules.records;
+      dead = k.modules.dead;
       modules = [];
       started = k.started;
       finished = k.finished;
@@ -144,7 +142,7 @@ impl Model for Core {
     } };
 
     // ids are numbers of 32 bits
-    ghost invariant = { λ k. length k.records < 2 ^ 32 };
+    ghost invariant = { λ k. length k.modules.records < 2 ^ 32 };
 }
 
 impl Core {
@@ -155,8 +153,7 @@ impl Core {
         Core {
             clock: SimTime::zero(),
             count: 0,
-            records: RecordTable::new(alloc),
-            dead: IdList::new(alloc),
+            modules: ModuleList::new(alloc),
             started: IdList::new(alloc),
             finished: Items::new(alloc),
             pending: EventSet::new(alloc),
@@ -196,14 +193,14 @@ impl Core {
         ensures records { result.now ≡ self.now.records }
         ensures few { length result.now < 2 ^ 32 }
     {
-        self.records.as_slice()
+        self.modules.records()
     }
 
     /// Where a hop from a gate of the module of that id leads, as was answered.
     pub fn hop_by(&self, id: u32, answer: Answer) -> Option<NextHop>
         ensures { result ≡ hop_by self.now.records id answer }
     {
-        self.records.hop_by(id, answer)
+        self.modules.hop_by(id, answer)
     }
 
     /// What is noted of the questions.
@@ -243,7 +240,7 @@ impl Core {
     pub fn broken(&self, alloc: Global, id: u32, fault: RunFault) -> Result<EventFlow, NoMemory>
         ensures { IfOk result (λ turn. flow_of turn self.now ≡ broken id fault self.now) }
     {
-        let path = path_of(alloc, self.records.as_slice(), id)?;
+        let path = path_of(alloc, self.modules.records(), id)?;
         Ok(EventFlow::Break(path, fault))
     }
 
@@ -477,7 +474,7 @@ impl Core {
     fn is_created(&self, id: u32) -> bool
         ensures { result ≡ among id (ids_from 1 self.now.records) }
     {
-        0 < id && id as usize <= self.records.len()
+        0 < id && id as usize <= self.modules.len()
     }
 
     /// Whether the module of that id lives.
@@ -485,32 +482,15 @@ impl Core {
     pub fn is_live(&self, id: u32) -> bool
         ensures { result ≡ is_live self.now id }
     {
-        self.is_created(id) && !self.dead.has(id)
-    }
-
-    /// Whether the module of that id, which was created, lives, and has that path.
-    fn is_at(&self, alloc: Global, path: &[u8], id: u32) -> Result<bool, NoMemory>
-        ensures { IfOk result (λ found. found ≡ is_at path.now self.now id) }
-    {
-        if self.dead.has(id) || !may_have(self.records.as_slice(), id, path) {
-            return Ok(false);
-        }
-        let found = path_of(alloc, self.records.as_slice(), id)?;
-        Ok(found.is(path))
+        self.is_created(id) && !self.modules.is_dead(id)
     }
 
     /// The module of that path that lives, where there is one.
-    pub fn module_at(&self, alloc: Global, path: &[u8]) -> Result<Option<u32>, NoMemory>
-        ensures { IfOk result (λ found. found ≡ module_at path.now self.now) }
+    pub fn module_at(&self, path: &Text) -> Option<u32>
+        ensures found { result ≡ module_at path.now self.now }
+        ensures there { IfSome result (λ id. IsCreated id self.now) }
     {
-        for (index, record) in self.records.as_slice().iter().enumerate() {
-            let _parent = record.parent;
-            let id = index as u32 + 1;
-            if self.is_at(alloc, path, id)? {
-                return Ok(Some(id));
-            }
-        }
-        Ok(None)
+        self.modules.first_at(path)
     }
 
     // ---- reads
@@ -830,6 +810,7 @@ impl Core {
         requires no_records { self.old.records ≡ [] }
         ensures flow { IfOk result (λ turn. flow_of turn self.new ≡ rooted found self.old) }
         ensures few { length self.new.records ≤ 1 }
+        ensures network { IfOk result (λ turn. HasNetwork turn self.new) }
     {
         match found {
             Answer::Root(name) => {
@@ -840,7 +821,7 @@ impl Core {
                     class: None,
                     origin: Origin::Built,
                 };
-                self.records.push(alloc, network)?;
+                self.modules.push(alloc, network)?;
                 Ok(EventFlow::GoOn)
             }
             Answer::Fault(network, fault) => Ok(EventFlow::Break(network, RunFault::Model(fault))),
@@ -850,7 +831,8 @@ impl Core {
 
     /// Creates one more module.
     fn create(&mut self, alloc: Global, parent: u32, built: &Built) -> Result<(), NoMemory>
-        requires { length self.old.records + 1 < 2 ^ 32 }
+        requires room { length self.old.records + 1 < 2 ^ 32 }
+        requires there { parent ≤ length self.old.records }
         ensures ok { OnOk result (self.new ≡ with_submodules parent (built.now ∷ []) self.old) }
         ensures err { OnErr result (self.new ≡ self.old) }
     {
@@ -863,13 +845,14 @@ impl Core {
             class,
             origin: Origin::Built,
         };
-        self.records.push(alloc, created)?;
+        self.modules.push(alloc, created)?;
         Ok(())
     }
 
     /// Creates the submodules of a module, in order.
     fn create_all(&mut self, alloc: Global, parent: u32, inside: &[Built]) -> Result<(), NoMemory>
-        requires { length self.old.records + length inside.now < 2 ^ 32 }
+        requires room { length self.old.records + length inside.now < 2 ^ 32 }
+        requires there { parent ≤ length self.old.records }
         ensures ok { OnOk result (self.new ≡ with_submodules parent inside.now self.old) }
         ensures grown { IsGrownFrom self.old self.new }
     {
@@ -883,8 +866,8 @@ impl Core {
     fn room(&self) -> usize
         ensures { result ≡ room_in self.now }
     {
-        let created = self.records.len();
-        let live = created.saturating_sub(self.dead.len());
+        let created = self.modules.len();
+        let live = created.saturating_sub(self.modules.dead().len());
         let places = MAX_LIVE.saturating_sub(live);
         places.min(MAX_RECORDS.saturating_sub(created))
     }
@@ -897,12 +880,13 @@ impl Core {
         parent: u32,
         inside: &[Built],
     ) -> Result<EventFlow, NoMemory>
+        requires { parent ≤ length self.old.records }
         ensures flow { IfOk result (λ turn. flow_of turn self.new
             ≡ unless_many parent inside.now self.old (slice_get inside.now (room_in self.old))) }
         ensures grown { IsGrownFrom self.old self.new }
     {
         if let Some(built) = inside.get(self.room()) {
-            let records = self.records.as_slice();
+            let records = self.modules.records();
             let path = submodule_path(alloc, records, parent, built.name.as_bytes(), built.index)?;
             return Ok(EventFlow::Break(path, RunFault::Model(ModelFault::TooManyModules)));
         }
@@ -918,6 +902,7 @@ impl Core {
         parent: u32,
         found: &Answer,
     ) -> Result<EventFlow, NoMemory>
+        requires { parent ≤ length self.old.records }
         ensures flow { IfOk result (λ turn. flow_of turn self.new
             ≡ created parent found.now self.old) }
         ensures grown { IsGrownFrom self.old self.new }
@@ -938,8 +923,8 @@ impl Core {
     fn live_ids(&self, alloc: Global) -> Result<Items<u32>, NoMemory>
         ensures { IfOk result (λ ids. ids ≡ live_of self.now) }
     {
-        let created = all_ids(alloc, self.records.as_slice())?;
-        without(alloc, created.as_slice(), self.dead.as_slice())
+        let created = all_ids(alloc, self.modules.records())?;
+        without(alloc, created.as_slice(), self.modules.dead())
     }
 
     /// The ids of the modules that live and were not started.
@@ -956,7 +941,7 @@ impl Core {
         ensures { IfOk result (λ ids. ids ≡ starting first last self.now) }
     {
         let mut found = Items::new(alloc);
-        let end = self.records.len().min(last as usize);
+        let end = self.modules.len().min(last as usize);
         for index in first.saturating_sub(1) as usize..end {
             let id = index as u32 + 1;
             if self.is_unstarted(id) {
@@ -970,14 +955,14 @@ impl Core {
     fn is_unstarted(&self, id: u32) -> bool
         ensures { result ≡ (not (among id self.now.dead) && not (among id self.now.started)) }
     {
-        !self.dead.has(id) && !self.started.has(id)
+        !self.modules.is_dead(id) && !self.started.has(id)
     }
 
     /// A module with those of these modules that are inside of it, in the order of calls.
     pub fn calls_from(&self, alloc: Global, ids: &[u32], first: u32) -> Result<Items<u32>, NoMemory>
         ensures { IfOk result (λ calls. calls ≡ outer_first self.now.records ids.now first) }
     {
-        outer_first(alloc, self.records.as_slice(), ids, first)
+        outer_first(alloc, self.modules.records(), ids, first)
     }
 
     /// All modules that live and were started, in the order of the end.
@@ -986,7 +971,7 @@ impl Core {
     {
         let live = self.live_ids(alloc)?;
         let going = common(alloc, live.as_slice(), self.started.as_slice())?;
-        inner_first(alloc, self.records.as_slice(), going.as_slice(), 1)
+        inner_first(alloc, self.modules.records(), going.as_slice(), 1)
     }
 
     /// Notes that these modules are started.
@@ -1005,20 +990,56 @@ impl Core {
         ensures { result
             ≡ (is_called parent creation.now (Some created.now) && not (among id self.now.dead)) }
     {
-        is_called(parent, creation, created) && !self.dead.has(id)
+        is_called(parent, creation, created) && !self.modules.is_dead(id)
     }
 
-    /// Whether a submodule of a module that lives has that name and index.
-    pub fn has_namesake(&self, parent: u32, creation: &Creation) -> bool
+    /// Whether a submodule of a module that lives has that name and index, by looking at all.
+    fn finds_namesake(&self, parent: u32, creation: &Creation) -> bool
         ensures { result ≡ has_namesake parent creation.now self.now }
     {
-        for (index, record) in self.records.as_slice().iter().enumerate() {
+        for (index, record) in self.modules.records().iter().enumerate() {
             let id = index as u32 + 1;
             if self.is_namesake(parent, creation, record, id) {
                 return true;
             }
         }
         false
+    }
+
+    /// Whether a module that lives has the path that a submodule of that name and index would have,
+    /// or there might be one whose path is not known, as it would stand too deep.
+    fn may_have_namesake(
+        &self,
+        alloc: Global,
+        parent: u32,
+        creation: &Creation,
+    ) -> Result<bool, NoMemory>
+        requires { IsCreated parent self.now }
+        ensures { IfOk result (λ may. may ≡ false → has_namesake parent creation.now self.now ≡ false) }
+    {
+        if self.levels_in(parent) == 0 {
+            return Ok(true);
+        }
+        let name = creation.name.as_bytes();
+        let path = submodule_path(alloc, self.modules.records(), parent, name, creation.index)?;
+        Ok(self.modules.first_at(&path).is_some())
+    }
+
+    /// Whether a submodule of a module that lives has that name and index. Where none has the path
+    /// that it would have, no other is looked at.
+    pub fn has_namesake(
+        &self,
+        alloc: Global,
+        parent: u32,
+        creation: &Creation,
+    ) -> Result<bool, NoMemory>
+        requires { IsCreated parent self.now }
+        ensures { IfOk result (λ found. found ≡ has_namesake parent creation.now self.now) }
+    {
+        if !self.may_have_namesake(alloc, parent, creation)? {
+            return Ok(false);
+        }
+        Ok(self.finds_namesake(parent, creation))
     }
 
     /// Whether no more modules can be created.
@@ -1033,7 +1054,7 @@ impl Core {
     pub fn levels_in(&self, parent: u32) -> u32
         ensures { result ≡ levels_in parent self.now }
     {
-        MAX_NESTING.saturating_sub(levels_of(self.records.as_slice(), parent))
+        MAX_NESTING.saturating_sub(levels_of(self.modules.records(), parent))
     }
 
     /// Tells why a module can't be created, with the path that it would have.
@@ -1048,7 +1069,7 @@ impl Core {
             ≡ refused parent creation.now fault self.now) }
     {
         let name = creation.name.as_bytes();
-        let path = submodule_path(alloc, self.records.as_slice(), parent, name, creation.index)?;
+        let path = submodule_path(alloc, self.modules.records(), parent, name, creation.index)?;
         Ok(EventFlow::Break(path, RunFault::Model(fault)))
     }
 
@@ -1060,7 +1081,8 @@ impl Core {
         creation: &Creation,
         class: Option<Text>,
     ) -> Result<(), NoMemory>
-        requires { length self.old.records + 1 < 2 ^ 32 }
+        requires room { length self.old.records + 1 < 2 ^ 32 }
+        requires there { parent ≤ length self.old.records }
         ensures ok { OnOk result (self.new ≡ with_created parent creation.now class self.old) }
         ensures err { OnErr result (self.new ≡ self.old) }
     {
@@ -1071,7 +1093,7 @@ impl Core {
             class,
             origin: Origin::Created(creation.plan.copy(alloc)?),
         };
-        self.records.push(alloc, created)?;
+        self.modules.push(alloc, created)?;
         Ok(())
     }
 
@@ -1079,7 +1101,7 @@ impl Core {
     pub fn cut_records(&mut self, left: usize)
         ensures { self.new ≡ record self.old { records = take left self.old.records } }
     {
-        self.records.cut(left);
+        self.modules.cut(left);
     }
 
     /// The start of a module that was created is an event of this time, which comes before the
@@ -1089,7 +1111,7 @@ impl Core {
         ensures done { OnOk result (self.new ≡ with_start first self.old) }
         ensures err { OnErr result (self.new ≡ self.old) }
     {
-        let last = self.records.len() as u32;
+        let last = self.modules.len() as u32;
         self.pending
             .insert(self.clock, LEAST_PRIORITY, first, Happening::Start(last))
     }
@@ -1100,17 +1122,15 @@ impl Core {
     pub fn subtree_of(&self, alloc: Global, id: u32) -> Result<Items<u32>, NoMemory>
         ensures { IfOk result (λ ids. ids ≡ subtree_of id self.now) }
     {
-        let live = self.live_ids(alloc)?;
-        subtree_in(alloc, self.records.as_slice(), live.as_slice(), id)
+        self.modules.subtree_of(alloc, id)
     }
 
     /// Those of them that were started, in the order in which they are finished.
     pub fn to_finish_in(&self, alloc: Global, id: u32) -> Result<Items<u32>, NoMemory>
         ensures { IfOk result (λ ids. ids ≡ to_finish_in id self.now) }
     {
-        let live = self.live_ids(alloc)?;
-        let all = inner_first(alloc, self.records.as_slice(), live.as_slice(), id)?;
-        common(alloc, all.as_slice(), self.started.as_slice())
+        let all = self.modules.inner_first(alloc, id)?;
+        those_in(alloc, all.as_slice(), &self.started)
     }
 
     /// These modules are dead from now on, and no event is to come for one of them.
@@ -1118,7 +1138,7 @@ impl Core {
         ensures done { OnOk result (self.new ≡ gone ids.now self.old) }
         ensures grown { IsGrownFrom self.old self.new }
     {
-        note_ids(&mut self.dead, ids)?;
+        note_dead(&mut self.modules, ids)?;
         self.pending.drop_modules(ids);
         Ok(())
     }
@@ -1130,8 +1150,8 @@ impl Core {
         ensures { result ≡ lengths_of self.now }
     {
         Lengths {
-            records: self.records.len(),
-            dead: self.dead.len(),
+            records: self.modules.len(),
+            dead: self.modules.dead().len(),
             started: self.started.len(),
             finished: self.finished.len(),
             changes: self.changes.len(),
@@ -1163,8 +1183,8 @@ impl Core {
     pub fn cut_to(&mut self, lengths: Lengths)
         ensures { self.new ≡ cut_to lengths self.old }
     {
-        self.records.cut(lengths.records);
-        self.dead.cut(lengths.dead);
+        self.modules.cut(lengths.records);
+        self.modules.cut_dead(lengths.dead);
         self.started.cut(lengths.started);
         cut_items(&mut self.finished, lengths.finished);
         cut_items(&mut self.changes, lengths.changes);
@@ -1192,6 +1212,32 @@ impl Core {
         self.delivered = position.delivered;
         self.transmissions = transmissions;
     }
+}
+
+/// These modules are dead. Where memory runs out some of them are.
+fn note_dead(modules: &mut ModuleList, ids: &[u32]) -> Result<(), NoMemory>
+    ensures ok { OnOk result (modules.new
+        ≡ record modules.old { dead = modules.old.dead ++ ids.now }) }
+    ensures same { modules.new.records ≡ modules.old.records }
+    ensures grown { GoesOn modules.old.dead modules.new.dead }
+{
+    for id in ids {
+        modules.bury(*id)?;
+    }
+    Ok(())
+}
+
+/// Those of these ids that stand in a list, in their order.
+fn those_in(alloc: Global, ids: &[u32], list: &IdList) -> Result<Items<u32>, NoMemory>
+    ensures { IfOk result (λ found. found ≡ filter (λ n. among n list.now) ids.now) }
+{
+    let mut found = Items::new(alloc);
+    for id in ids {
+        if list.has(*id) {
+            found.push(*id)?;
+        }
+    }
+    Ok(found)
 }
 
 /// Notes these modules besides. Where memory runs out some of them are noted.

@@ -4,12 +4,13 @@
 
 pub mod classes;
 pub mod core_part;
-mod endings;
 pub mod events;
 pub mod gates;
 pub mod laws;
 pub mod looks;
+mod module_list;
 pub mod position;
 pub mod reads;
 mod record_table;
 pub mod sending;
+mod walks;

@@ -4,3 +4,4 @@ mod Creations
 mod Joins
 mod Levels
 pub mod Loops
+mod Within

@@ -1,9 +1,10 @@
 //! Modules that are built: at setup, and inside of those that are created while a run goes on.
 
-ghost use Rattle.std.specs.Prelude.{◌≡◌, ◌+◌, ◌^◌, ◌<◌, suc, IfOk, length};
+ghost use Rattle.std.specs.Prelude.{◌≡◌, ◌+◌, ◌^◌, ◌<◌, ◌≤◌, suc, IfOk, length};
 ghost use Rattle.run_semantics.specs.World.{empty};
 ghost use Rattle.run_semantics.specs.Perform.{flow_of};
 ghost use Rattle.run_semantics.specs.Run.{root_asked, compounds_from, inside_of, set_up, prepared};
+ghost use Rattle.kernel_actions.specs.Created.{AreWithin, HasNetwork};
 ghost use Rattle.kernel_actions.specs.Positions.{IsGrownFrom};
 ghost use Rattle.kernel_sending.specs.Setups.{HasBuilt};
 
@@ -23,7 +24,8 @@ fn ask_root<A: Answers>(
     model: &mut A,
 ) -> Result<EventFlow, NoMemory>
     requires { core.old ≡ empty }
-    ensures { IfOk result (λ turn. flow_of turn core.new ≡ root_asked A.answers) }
+    ensures flow { IfOk result (λ turn. flow_of turn core.new ≡ root_asked A.answers) }
+    ensures network { IfOk result (λ turn. HasNetwork turn core.new) }
 {
     core.ask(alloc, Question::Root)?;
     let found = model.answer(alloc, &[], &Question::Root)?;
@@ -62,6 +64,8 @@ fn build<A: Answers>(
     model: &mut A,
     id: u32,
 ) -> Result<(EventFlow, Items<u32>), NoMemory>
+    requires { id ≤ length core.old.records }
+    ensures there { IfOk result (λ left. AreWithin left.1 core.new) }
     ensures built { IfOk result (λ left.
         HasBuilt A.answers id core.old left.0 left.1 core.new) }
     ensures grown { IsGrownFrom core.old core.new }
@@ -89,6 +93,7 @@ pub fn set_up<A: Answers>(
     depth: u32,
     id: u32,
 ) -> Result<EventFlow, NoMemory>
+    requires { id ≤ length core.old.records }
     ensures flow { IfOk result (λ turn. flow_of turn core.new
         ≡ set_up depth A.answers id core.old) }
     ensures grown { IsGrownFrom core.old core.new }

@@ -10,6 +10,7 @@ ghost use Rattle.run_semantics.specs.Creating.{class_in, is_full, with_created};
 ghost use Rattle.run_semantics.specs.Perform.{flow_of};
 ghost use Rattle.run_semantics.specs.Run.{room_in};
 ghost use Rattle.run_semantics.specs.World.{asked};
+ghost use Rattle.kernel_actions.specs.Created.{IsCreated};
 ghost use Rattle.kernel_actions.specs.Positions.{IsGrownFrom};
 
 use crate::building::set_up;
@@ -45,7 +46,8 @@ fn ask_class<A: Answers>(
     parent: u32,
     creation: &Creation,
 ) -> Result<Answer, NoMemory>
-    requires { length core.old.records + 1 < 2 ^ 32 }
+    requires room { length core.old.records + 1 < 2 ^ 32 }
+    requires there { parent ≤ length core.old.records }
     ensures answer { IfOk result
         (λ answer. answer ≡ class_answer A.answers parent creation.now core.old) }
     ensures same { OnOk result (core.new ≡ core.old) }
@@ -68,7 +70,8 @@ fn create_as_answered<A: Answers>(
     parent: u32,
     creation: &Creation,
 ) -> Result<Answer, NoMemory>
-    requires { length core.old.records + 1 < 2 ^ 32 }
+    requires room { length core.old.records + 1 < 2 ^ 32 }
+    requires there { parent ≤ length core.old.records }
     ensures answer { IfOk result
         (λ answer. answer ≡ class_answer A.answers parent creation.now core.old) }
     ensures world { IfOk result
@@ -156,6 +159,7 @@ fn create_at<A: Answers>(
 ) -> Result<EventFlow, NoMemory>
     requires room { core.old.next + 1 < 2 ^ 128 }
     requires few { is_full (room_in core.old) ≡ false }
+    requires there { parent ≤ length core.old.records }
     ensures flow { let first = suc (length core.old.records) in
         IfOk result (λ turn. flow_of turn core.new
         ≡ creating A.answers parent creation.now (built_as A.answers levels first) core.old) }
@@ -176,7 +180,8 @@ fn create_few<A: Answers>(
     parent: u32,
     creation: &Creation,
 ) -> Result<EventFlow, NoMemory>
-    requires { core.old.next + 1 < 2 ^ 128 }
+    requires room { core.old.next + 1 < 2 ^ 128 }
+    requires there { parent ≤ length core.old.records }
     ensures flow { IfOk result (λ turn. flow_of turn core.new
         ≡ created_as A.answers parent creation.now core.old) }
     ensures grown { IsGrownFrom core.old core.new }
@@ -202,7 +207,8 @@ fn create_in<A: Answers>(
     parent: u32,
     creation: &Creation,
 ) -> Result<EventFlow, NoMemory>
-    requires { core.old.next + 1 < 2 ^ 128 }
+    requires room { core.old.next + 1 < 2 ^ 128 }
+    requires there { IsCreated parent core.old }
     ensures flow { IfOk result (λ turn. flow_of turn core.new
         ≡ created_by A.answers id creation.now core.old parent) }
     ensures grown { IsGrownFrom core.old core.new }
@@ -213,7 +219,7 @@ fn create_in<A: Answers>(
     if !is_module_name(creation.name.as_bytes()) {
         return core.broken(alloc, id, RunFault::BadName);
     }
-    if core.has_namesake(parent, creation) {
+    if core.has_namesake(alloc, parent, creation)? {
         return core.broken(alloc, id, RunFault::DuplicateName);
     }
     create_few(core, alloc, model, parent, creation)
@@ -233,7 +239,7 @@ pub fn create<A: Answers>(
         ≡ created_new A.answers id creation.now core.old) }
     ensures grown { IsGrownFrom core.old core.new }
 {
-    match core.module_at(alloc, creation.parent.as_bytes())? {
+    match core.module_at(&creation.parent) {
         Some(parent) => create_in(core, alloc, model, id, parent, creation),
         None => core.broken(alloc, id, RunFault::NoModule),
     }

@@ -138,10 +138,10 @@ pub fn connect<A: Answers>(
         ≡ connected A.answers id from.now to.now link.now core.old) }
     ensures grown { IsGrownFrom core.old core.new }
 {
-    let Some(source) = core.module_at(alloc, from.path.as_bytes())? else {
+    let Some(source) = core.module_at(&from.path) else {
         return core.broken(alloc, id, RunFault::NoModule);
     };
-    let Some(target) = core.module_at(alloc, to.path.as_bytes())? else {
+    let Some(target) = core.module_at(&to.path) else {
         return core.broken(alloc, id, RunFault::NoModule);
     };
     join_at(core, alloc, model, id, source, from, target, to, link)
@@ -202,7 +202,7 @@ pub fn disconnect<A: Answers>(
         ≡ disconnected A.answers id place.now core.old) }
     ensures grown { IsGrownFrom core.old core.new }
 {
-    let Some(source) = core.module_at(alloc, place.path.as_bytes())? else {
+    let Some(source) = core.module_at(&place.path) else {
         return core.broken(alloc, id, RunFault::NoModule);
     };
     free_at(core, alloc, model, id, source, place)

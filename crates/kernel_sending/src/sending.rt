@@ -304,7 +304,7 @@ pub fn send_direct<A: Answers>(
         ≡ sent_direct A.answers id place.now message.now flight.now core.old) }
     ensures grown { IsGrownFrom core.old core.new }
 {
-    let Some(target) = core.module_at(alloc, place.path.as_bytes())? else {
+    let Some(target) = core.module_at(&place.path) else {
         return core.broken(alloc, id, RunFault::NoModule);
     };
     let can = can_enter(core, alloc, model, target, &place.name, place.index)?;

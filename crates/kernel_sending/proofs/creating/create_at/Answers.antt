@@ -4,7 +4,7 @@ use Rattle.kernel_sending.proofs.Creations.{created_on, created_room, created_th
 use Rattle.kernel_sending.proofs.creating.create_at.Goals as goal
 
 pub create_as_answered-requires : goal.create_as_answered-requires
-create_as_answered-requires g c = few_created c.args.core.now c.requires.few
+create_as_answered-requires g c = record { room = few_created c.args.core.now c.requires.few; there = c.requires.there }
 
 pub build_as-requires-clause-room : goal.build_as-requires-clause-room
 build_as-requires-clause-room g c = created_room c.args.parent c.args.creation.now _ _ c.args.core.now c.create_as_answered.new.core c.in_ok-answer.ensures.world c.requires.room

@@ -26,7 +26,7 @@ returns-clause-shown g c =
     (c.put_back.ensures.shown g.A.Answers.answers c.args.self.now.core.records
     (subst (λ (rs : List Record). AreShown g.A.Answers.answers rs c.take.new.self) c.records.ensures.records c.take.ensures.shown)
     (λ last. lent_shown g.A.Answers.answers c.args.id Finish c.args.self.now.core c.in_ok-lent.lent.shown c.call_shown-call.result c.shown_in.result (c.in_ok-lent.ensures.found ∙ ap (λ (rs : List Record). shown_of g.A.Answers.answers rs c.args.id) c.records.ensures.records) c.call_shown-call.ensures c.shown_in.ensures
-    (subst (λ (rs : List Record). IsShown g.A.Answers.answers rs c.args.id (shown_of g.A.Answers.answers rs c.args.id)) c.records.ensures.records (c.in_ok-lent.ensures.lasts last))))
+    (subst (λ (rs : List Record). IsShown g.A.Answers.answers rs c.args.id (shown_of g.A.Answers.answers rs c.args.id)) c.records.ensures.records (c.in_ok-lent.ensures.lasts (c.is_shown_again-lasts.ensures last)))))
 
 pub returns-then-is_none-clause-step : goal.returns-then-is_none-clause-step
 returns-then-is_none-clause-step g c =

@@ -9,8 +9,8 @@ returns-clause-grown c =
     let left : World = record {
       clock = c.self.inside.clock;
       count = c.self.inside.count;
-      records = c.self.inside.records;
-      dead = c.self.inside.dead;
+      records = c.self.inside.modules.records;
+      dead = c.self.inside.modules.dead;
       modules = [];
       started = c.self.inside.started;
       finished = c.self.inside.finished;
@@ -25,8 +25,8 @@ returns-clause-grown c =
       questions = c.self.inside.questions;
     } in
     subst (λ (w : World). IsGrownFrom w left) c.self.view_is (record {
-      records = on_same c.self.inside.records;
-      dead = on_same c.self.inside.dead;
+      records = on_same c.self.inside.modules.records;
+      dead = on_same c.self.inside.modules.dead;
       started = on_same c.self.inside.started;
       finished = on_same c.self.inside.finished;
       changes = (record { gate = c.args.gate; to = c.args.to } ∷ [], sym c.in_ok-push.ensures.ok);

@@ -16,7 +16,7 @@ pub loop-index-preserved : goal.loop-index-preserved
 loop-index-preserved c =
     let w = c.args.self.now in
     let i = c.loop-index.index in
-    let many : length c.self.inside.records ≡ length w.records = ap (λ (v : World). length v.records) c.self.view_is in
+    let many : length c.self.inside.modules.records ≡ length w.records = ap (λ (v : World). length v.records) c.self.view_is in
     let less : i < length w.records = omega (arith, many, c.len.ensures, c.min-end.ensures, c.loop-index-test.true) in
     let low : c.args.first ≤ i + 1 = omega (arith, c.saturating_sub-index.ensures, c.loop-index.auto.index) in
     let high : i + 1 ≤ c.args.last = omega (arith, c.min-end.ensures, c.loop-index-test.true) in
@@ -29,6 +29,6 @@ pub returns : goal.returns
 returns c =
     let w = c.args.self.now in
     let i = c.loop-index.index in
-    let many : length c.self.inside.records ≡ length w.records = ap (λ (v : World). length v.records) c.self.view_is in
+    let many : length c.self.inside.modules.records ≡ length w.records = ap (λ (v : World). length v.records) c.self.view_is in
     let past : min (length w.records) c.args.last ≤ i = omega (arith, many, c.len.ensures, c.min-end.ensures, c.loop-index-test.false) in
     found_all c.args.first c.args.last w.dead w.started i w.records c.loop-index.found _ past c.loop-index.invariant
