@@ -90,7 +90,7 @@ fn pieces_of(meaning: &EntryMeaning) -> &[Piece]
 }
 
 /// The key by which an entry is found that says this.
-pub(crate) fn key_of(alloc: Global, meaning: &EntryMeaning) -> Result<String, NoMemory>
+pub fn key_of(alloc: Global, meaning: &EntryMeaning) -> Result<String, NoMemory>
     ensures { IfOk result (λ key. string_bytes key ≡ key_of meaning.now) }
 {
     key_in(alloc, pieces_of(meaning))

@@ -4,6 +4,6 @@
 
 pub mod along;
 pub mod index;
-mod key;
+pub mod key;
 pub mod list;
-mod speaks;
+pub mod speaks;

@@ -32,7 +32,7 @@ fn is_parameter_name(name: &[u8]) -> bool
 }
 
 /// Whether an entry counts for a path and matches it.
-pub(crate) fn speaks(path: &str, meaning: &EntryMeaning) -> bool
+pub fn speaks(path: &str, meaning: &EntryMeaning) -> bool
     ensures { result ≡ speaks path.now meaning.now }
 {
     let name = last_name(path.as_bytes());
