@@ -1,6 +1,6 @@
 -- Laws of what lines mean.
 use Rattle.std.proofs.Common.{◌≡◌, ℕ, suc, ◌+◌, ◌≤◌, Bool, true, false, cond, not, eqb, arith, ◌&&◌, List, [], ◌∷◌, ◌++◌, length, take, drop, Option, Some, None, Result, Ok, Err, MatchResult, refl, sym, ap, subst, ◌∙◌, inl, inr, append_assoc}
-use Rattle.std.specs.Prelude.{position, is_ok}
+use Rattle.std.specs.Prelude.{position, is_ok, if◌then◌else◌}
 use Rattle.std.specs.Str.{IsUtf8, is_utf8}
 use Rattle.std.proofs.lemmas.Str.{IsUtf8-from_is_utf8, is_utf8-from_IsUtf8}
 use Rattle.std.proofs.lemmas.List.{append-nil}
@@ -11,10 +11,15 @@ use Rattle.ini_trees.specs.declared.lines.LineMeaning.{LineMeaning}
 use Rattle.ini_trees.specs.declared.lines.LineMeaning.TheVariants as line
 use Rattle.ini_config.specs.declared.error.IniError.TheVariants as errors
 use Rattle.ini_entries.specs.declared.reason.Reason.{Reason}
+use Rattle.ini_entries.specs.declared.reason.Reason.TheVariants as reason
+use Rattle.ini_entries.specs.declared.reason.Unread.{Unread}
+use Rattle.ini_entries.specs.declared.reason.Unread.TheVariants as unread
+use Rattle.ini_entries.specs.Reasons.{entry_reason}
 use Rattle.ini_entries.specs.Texts.{Bytes, before_blanks, is_blank, after_blanks}
-use Rattle.ini_config.specs.Texts.{lines_of_ini, value_text}
-use Rattle.ini_entries.specs.Meaning.{is_key, IsEntryMeaning, Tells}
-use Rattle.ini_config.specs.Meaning.{IsIniText, is_value, begins_entry, IsParted, IsEntry, IsLine, IsSection, IsIniLine, AreLines, FirstBad, FirstBadOf, Settles}
+use Rattle.ini_config.specs.Texts.{begins_with, lines_of_ini, value_text}
+use Rattle.ini_entries.specs.Meaning.{is_key, Finds, FindsMeaning, IsEntryMeaning, Tells}
+use Rattle.ini_config.specs.Meaning.{IsIniText, is_value, begins_entry, IsParted, IsEntry, IsLine, IsSection, IsIniLine, AreLines, FirstBad, FirstBadOf, Settles, may_stand}
+use Rattle.ini_config.specs.Meaning.{IsRefused, asks_for_file, key_reason, line_reason, parts_reason, place_reason, reason_no_entry, reason_parted_at, value_reason}
 use Rattle.ini_trees.specs.Sections.{section_behind}
 use Rattle.ini_entries.proofs.EntryLaws.{meaning_same}
 use Rattle.ini_config.proofs.SectionLaws.{section_begins, section_no_entry, section_same}
@@ -80,16 +85,16 @@ one_entry bytes e other p only is =
 pub record Reached (bytes more : List Bytes) (front : List IniLine) (number : ℕ) (section : Option Bytes) : Type 0 where
   pub accepted : (reads : List IniLine) → AreLines section more reads → AreLines None bytes (front ++ reads)
   pub complete : (whole : List IniLine) → AreLines None bytes whole → (reads : List IniLine) × (whole ≡ front ++ reads) × AreLines section more reads
-  pub refused : (bad : ℕ) → FirstBadOf bad number section more → FirstBadOf bad 1 None bytes
+  pub refused : (bad : ℕ) (why : Reason) → FirstBadOf bad why number section more → FirstBadOf bad why 1 None bytes
 
 pub start : (bytes : List Bytes) → Reached bytes bytes [] 1 None
-start bytes = record { accepted = λ reads h. h; complete = λ whole h. (whole, refl, h); refused = λ bad h. h }
+start bytes = record { accepted = λ reads h. h; complete = λ whole h. (whole, refl, h); refused = λ bad why h. h }
 
 pub advance : (bytes more : List Bytes) (b : Bytes) (front : List IniLine) (number : ℕ) (section : Option Bytes) (read : IniLine) → Reached bytes (b ∷ more) front number section → Tells (IsIniLine section b) (Some read) → Reached bytes more (front ++ read ∷ []) (suc number) (section_behind section read.meaning)
 advance bytes more b front number section read r t = record {
   accepted = λ reads h. subst (AreLines None bytes) (sym (append_assoc front (read ∷ []) reads)) (r.accepted (read ∷ reads) (t.0, h));
   complete = λ whole h. parts whole (r.complete whole h);
-  refused = λ bad h. r.refused bad (inr (read, t.0, h));
+  refused = λ bad why h. r.refused bad why (inr (read, t.0, h));
 }
   where
     split : (whole reads : List IniLine) → whole ≡ front ++ reads → AreLines section (b ∷ more) reads → (rest : List IniLine) × (whole ≡ (front ++ read ∷ []) ++ rest) × AreLines (section_behind section read.meaning) more rest
@@ -101,8 +106,8 @@ advance bytes more b front number section read r t = record {
     parts : (whole : List IniLine) → ((reads : List IniLine) × (whole ≡ front ++ reads) × AreLines section (b ∷ more) reads) → (rest : List IniLine) × (whole ≡ (front ++ read ∷ []) ++ rest) × AreLines (section_behind section read.meaning) more rest
     parts whole p = split whole p.0 p.1 p.2
 
-pub stuck : (bytes more : List Bytes) (b : Bytes) (front : List IniLine) (number : ℕ) (section : Option Bytes) → Reached bytes (b ∷ more) front number section → Tells (IsIniLine section b) None → (why : Reason) → Settles bytes (Err (errors.IniSyntax number why))
-stuck bytes more b front number section r t why = (r.refused number (inl (refl, t)), λ whole h. let p = r.complete whole h in none p.0 p.2)
+pub stuck : (bytes more : List Bytes) (b : Bytes) (front : List IniLine) (number : ℕ) (section : Option Bytes) → Reached bytes (b ∷ more) front number section → Tells (IsIniLine section b) None → (why : Reason) → IsRefused section b why → Settles bytes (Err (errors.IniSyntax number why))
+stuck bytes more b front number section r t why told = (r.refused number why (inl (refl, t, told)), λ whole h. let p = r.complete whole h in none p.0 p.2)
   where
     none : (reads : List IniLine) → AreLines section (b ∷ more) reads → ⊥
     none [] h = h
@@ -156,6 +161,60 @@ is_entry bytes e t = (t.0, only)
     only (line.Section name) is = absurd (section_no_entry bytes name e.key e.value is t.0.parted)
     only (line.Entry f) is = ap line.Entry (t.1 f is)
 
+-- ---- reasons
+
+pub unparted_told : (bytes : Bytes) → position (λ b. eqb b 61) bytes ≡ None → reason_no_entry bytes ≡ (if asks_for_file bytes then reason.Include else reason.NotAnEntry)
+unparted_told bytes none = ap (λ (at : Option ℕ). reason_parted_at at bytes) none
+
+pub key_told : (bytes : Bytes) (at : ℕ) → position (λ b. eqb b 61) bytes ≡ Some at → is_key (before_blanks (take at bytes)) ≡ false → reason_no_entry bytes ≡ key_reason (before_blanks (take at bytes))
+key_told bytes at first bad = ap (λ (at : Option ℕ). reason_parted_at at bytes) first ∙ by (before_blanks (take at bytes)) (value_text (drop (at + 1) bytes)) bad
+  where
+    by : (key text : Bytes) → is_key key ≡ false → parts_reason key text ≡ key_reason key
+    by key text bad = rw bad refl
+
+pub value_told : (bytes : Bytes) (at : ℕ) → position (λ b. eqb b 61) bytes ≡ Some at → is_key (before_blanks (take at bytes)) ≡ true → is_value (value_text (drop (at + 1) bytes)) ≡ false → reason_no_entry bytes ≡ value_reason (value_text (drop (at + 1) bytes))
+value_told bytes at first good bad = ap (λ (at : Option ℕ). reason_parted_at at bytes) first ∙ by (before_blanks (take at bytes)) (value_text (drop (at + 1) bytes)) good bad
+  where
+    by : (key text : Bytes) → is_key key ≡ true → is_value text ≡ false → parts_reason key text ≡ value_reason text
+    by key text good bad = rw good (rw bad refl)
+
+-- a key and a value have the reason of what they say
+parted_told : (bytes key text : Bytes) → IsParted bytes key text → reason_no_entry bytes ≡ entry_reason key text
+parted_told bytes key text p =
+    ap (λ (at : Option ℕ). reason_parted_at at bytes) p.first
+    ∙ ap (λ (k : Bytes). parts_reason k (value_text (drop (p.at + 1) bytes))) (sym p.before)
+    ∙ ap (λ (v : Bytes). parts_reason key v) (sym p.behind)
+    ∙ by p.proper_key p.proper_value
+  where
+    by : is_key key ≡ true → is_value text ≡ true → parts_reason key text ≡ entry_reason key text
+    by good fine = rw good (rw fine refl)
+
+pub refused_meaning : (bytes key text : Bytes) (e : Unread) → IsParted bytes key text → FindsMeaning key text (Err e) → Finds (IsEntry bytes) (λ why. why ≡ reason_no_entry bytes) (Err e)
+refused_meaning bytes key text (unread.MeansNothing why) p none = (no_meaning bytes key text p none.0, none.1 ∙ sym (parted_told bytes key text p))
+refused_meaning bytes key text (unread.NoMemory error) p none = tt
+
+pub indented_told : (bytes : Bytes) → begins_entry bytes ≡ false → reason.Indented ≡ line_reason bytes
+indented_told bytes h = rw h refl
+
+-- a line that begins as an entry
+pub line_told : (bytes : Bytes) (why told : Reason) → begins_entry bytes ≡ true → why ≡ reason_no_entry bytes → told ≡ (if begins_with 91 bytes then reason.NotASection else why) → told ≡ line_reason bytes
+line_told bytes why told begins is e = e ∙ ap (λ (w : Reason). if begins_with 91 bytes then reason.NotASection else w) is ∙ sym (by begins)
+  where
+    by : begins_entry bytes ≡ true → line_reason bytes ≡ (if begins_with 91 bytes then reason.NotASection else reason_no_entry bytes)
+    by begins = rw begins refl
+
+-- a line that means nothing is refused for its own reason
+pub refused_line : (section : Option Bytes) (bytes : Bytes) (e : Unread) → Finds (IsLine bytes) (λ why. why ≡ line_reason bytes) (Err e) → Finds (IsIniLine section bytes) (IsRefused section bytes) (Err e)
+refused_line section bytes (unread.MeansNothing why) none = (λ read is. none.0 read.meaning is.means, inl (none.0, none.1))
+refused_line section bytes (unread.NoMemory error) none = tt
+
+-- a line that means something is refused where it may not stand
+pub misplaced : (section : Option Bytes) (bytes : Bytes) (m : LineMeaning) (why : Reason) → Tells (IsLine bytes) (Some m) → may_stand section m ≡ false → why ≡ place_reason section → Finds (IsIniLine section bytes) (IsRefused section bytes) (Err (unread.MeansNothing why))
+misplaced section bytes m why t bad told = (λ read is. none read is, inr (m, t.0, bad, told))
+  where
+    none : (read : IniLine) → IsIniLine section bytes read → ⊥
+    none read is = let good : may_stand section m ≡ true = subst (λ (n : LineMeaning). may_stand section n ≡ true) (t.1 read.meaning is.means) is.stands in absurd cc
+
 -- ---- a text has at most one meaning
 
 line_same : (bytes : Bytes) (m n : LineMeaning) → IsLine bytes m → IsLine bytes n → m ≡ n
@@ -179,6 +238,13 @@ line_same bytes (line.Entry e) (line.Entry f) p q = ap line.Entry (one_entry byt
 -- the section after a line, by its name if it is one
 pub after_section : (section : Option Bytes) (bytes name text : Bytes) → IsSection bytes name → text ≡ name → (m : LineMeaning) → IsLine bytes m → Some text ≡ section_behind section m
 after_section section bytes name text is same m means = ap Some same ∙ ap (section_behind section) (line_same bytes (line.Section name) m is means)
+
+-- a line is refused for one reason at most
+pub reason_same : (section : Option Bytes) (bytes : Bytes) (first second : Reason) → IsRefused section bytes first → IsRefused section bytes second → first ≡ second
+reason_same section bytes first second (inl p) (inl q) = p.1 ∙ sym q.1
+reason_same section bytes first second (inl p) (inr q) = absurd (p.0 q.0 q.1)
+reason_same section bytes first second (inr p) (inl q) = absurd (q.0 p.0 p.1)
+reason_same section bytes first second (inr p) (inr q) = p.3 ∙ sym q.3
 
 -- a section means nothing else
 pub is_section : (bytes name : Bytes) → IsSection bytes name → Tells (IsLine bytes) (Some (line.Section name))
@@ -205,14 +271,14 @@ text_same bytes first second p q = lines_same None (lines_of_ini bytes) first se
 
 -- ---- a text with a bad line means nothing
 
-bad_lines : (bad n : ℕ) (section : Option Bytes) (bytes : List Bytes) (reads : List IniLine) → FirstBadOf bad n section bytes → AreLines section bytes reads → ⊥
-bad_lines bad n section [] reads w p = absurd w
-bad_lines bad n section (x ∷ xs) [] w p = absurd p
-bad_lines bad n section (x ∷ xs) (y ∷ ys) (inl w) p = w.1 y p.0
-bad_lines bad n section (x ∷ xs) (y ∷ ys) (inr w) p =
+bad_lines : (bad : ℕ) (why : Reason) (n : ℕ) (section : Option Bytes) (bytes : List Bytes) (reads : List IniLine) → FirstBadOf bad why n section bytes → AreLines section bytes reads → ⊥
+bad_lines bad why n section [] reads w p = absurd w
+bad_lines bad why n section (x ∷ xs) [] w p = absurd p
+bad_lines bad why n section (x ∷ xs) (y ∷ ys) (inl w) p = w.1 y p.0
+bad_lines bad why n section (x ∷ xs) (y ∷ ys) (inr w) p =
     let same : w.0.meaning ≡ y.meaning = line_same x w.0.meaning y.meaning w.1.means p.0.means in
-    let more : FirstBadOf bad (suc n) (section_behind section y.meaning) xs = subst (λ (m : LineMeaning). FirstBadOf bad (suc n) (section_behind section m) xs) same w.2 in
-    bad_lines bad (suc n) (section_behind section y.meaning) xs ys more p.1
+    let more : FirstBadOf bad why (suc n) (section_behind section y.meaning) xs = subst (λ (m : LineMeaning). FirstBadOf bad why (suc n) (section_behind section m) xs) same w.2 in
+    bad_lines bad why (suc n) (section_behind section y.meaning) xs ys more p.1
 
-pub bad_text : (bad : ℕ) (bytes : Bytes) (reads : List IniLine) → FirstBad bad bytes → IsIniText bytes reads → ⊥
-bad_text bad bytes reads w p = bad_lines bad 1 None (lines_of_ini bytes) reads w p.lines
+pub bad_text : (bad : ℕ) (why : Reason) (bytes : Bytes) (reads : List IniLine) → FirstBad bad why bytes → IsIniText bytes reads → ⊥
+bad_text bad why bytes reads w p = bad_lines bad why 1 None (lines_of_ini bytes) reads w p.lines

@@ -122,12 +122,12 @@ edit_fault true true false number = None
 abbrev pub refusal_of : Edit → Option EditError
 refusal_of edit = edit_fault (fits edit) edit.found edit.broken edit.number
 
--- why a changed text that needs reading is refused: its first bad line has this number; memory runs
--- out
+-- why a changed text that needs reading is refused: its first bad line has this number, and is
+-- refused for this reason; memory runs out
 abbrev pub RefusesBytes : Bytes → EditError → Type 0
 RefusesBytes bytes errors.TooLarge = ⊥
 RefusesBytes bytes errors.NoSuchLine = ⊥
-RefusesBytes bytes (errors.IniSyntax bad why) = FirstBad bad bytes
+RefusesBytes bytes (errors.IniSyntax bad why) = FirstBad bad why bytes
 RefusesBytes bytes (errors.NoMemory _) = Unit {0}
 
 -- what comes of an edit that has this refusal, or else whose changed text is read

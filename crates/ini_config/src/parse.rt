@@ -1,6 +1,7 @@
 //! Reading ini texts.
 
 ghost use Rattle.std.specs.Prelude.{◌≡◌, ◌<◌, ◌||◌, ◌++◌, ◌==◌, ℕ, true, false, length, position};
+ghost use Rattle.std.specs.Prelude.{if◌then◌else◌};
 ghost use Rattle.std.specs.Prelude.{IfOk, IfErr, IfSome, MatchOption, MatchResult, Err, List};
 ghost use Rattle.std.specs.Prelude.{is_ok};
 ghost use Rattle.std.specs.List.{list_all};
@@ -11,7 +12,10 @@ ghost use Rattle.sim_values.specs.Limits.{max_length};
 ghost use Rattle.ini_config.specs.Meaning.{IsIniText, IsIniLine, IsLine, IsEntry, IsNamed};
 ghost use Rattle.ini_config.specs.Meaning.{IsParted, IsSection, Settles, Answers, Explains};
 ghost use Rattle.ini_config.specs.Meaning.{begins_entry, ends_with, in_brackets, is_first_of_entry};
-ghost use Rattle.ini_config.specs.Meaning.{is_value, may_stand, SettlesLine};
+ghost use Rattle.ini_config.specs.Meaning.{is_value, may_stand, SettlesLine, IsRefused};
+ghost use Rattle.ini_config.specs.Meaning.{asks_for_file, key_reason, value_reason, line_reason};
+ghost use Rattle.ini_config.specs.Meaning.{place_reason, reason_no_entry};
+ghost use Rattle.ini_config.specs.Texts.{begins_with};
 ghost use Rattle.ini_trees.specs.Sections.{is_extends, section_behind};
 ghost use Rattle.ini_trees.specs.declared.lines.IniLine.{IniLine};
 ghost use Rattle.ini_trees.specs.declared.lines.LineMeaning.{LineMeaning};
@@ -61,7 +65,9 @@ fn first_equals(line: &[u8]) -> Option<usize>
 }
 
 /// Why a line without `=` is no entry.
-fn no_entry(line: &[u8]) -> Reason {
+fn no_entry(line: &[u8]) -> Reason
+    ensures { result ≡ if asks_for_file line.now then Reason.Include else Reason.NotAnEntry }
+{
     if line.starts_with(b"include ") {
         Reason::Include
     } else {
@@ -70,7 +76,9 @@ fn no_entry(line: &[u8]) -> Reason {
 }
 
 /// Why bytes are no key.
-fn no_key(bytes: &[u8]) -> Reason {
+fn no_key(bytes: &[u8]) -> Reason
+    ensures { result ≡ key_reason bytes.now }
+{
     if bytes.is_empty() {
         Reason::NoKey
     } else {
@@ -79,7 +87,9 @@ fn no_key(bytes: &[u8]) -> Reason {
 }
 
 /// Why bytes are no value.
-fn no_value(bytes: &[u8]) -> Reason {
+fn no_value(bytes: &[u8]) -> Reason
+    ensures { result ≡ value_reason bytes.now }
+{
     if bytes.is_empty() {
         Reason::NoValue
     } else if !is_text(bytes) {
@@ -94,7 +104,8 @@ fn no_value(bytes: &[u8]) -> Reason {
 /// The key and the value of an entry, or why a line has none.
 pub fn key_and_value(line: &[u8]) -> Result<(&[u8], &[u8]), Reason>
     ensures { MatchResult result (λ parts. IsParted line.now parts.0.now parts.1.now)
-        (λ _. (key value : List ℕ) → IsParted line.now key value → ⊥) }
+        (λ why. ((key value : List ℕ) → IsParted line.now key value → ⊥)
+        × (why ≡ reason_no_entry line.now)) }
 {
     let Some(at) = first_equals(line) else {
         return Err(no_entry(line));
@@ -113,7 +124,7 @@ pub fn key_and_value(line: &[u8]) -> Result<(&[u8], &[u8]), Reason>
 /// The entry that a line is.
 fn entry(alloc: Global, line: &[u8]) -> Result<IniEntry, Unread>
     requires { begins_entry line.now ≡ true }
-    ensures { Finds (IsEntry line.now) result }
+    ensures { Finds (IsEntry line.now) (λ why. why ≡ reason_no_entry line.now) result }
 {
     let (key, value) = match key_and_value(line) {
         Ok(parts) => parts,
@@ -149,7 +160,7 @@ fn begins_entry(line: &[u8]) -> bool
 /// What a line means that is blank, indented or a comment.
 fn blank_or_comment(line: &[u8]) -> Result<LineMeaning, Unread>
     requires { begins_entry line.now ≡ false }
-    ensures { Finds (IsLine line.now) result }
+    ensures { Finds (IsLine line.now) (λ why. why ≡ line_reason line.now) result }
 {
     match after_blanks(line) {
         [] => Ok(LineMeaning::Blank),
@@ -196,7 +207,9 @@ fn section_name(line: &[u8]) -> Option<&[u8]>
 }
 
 /// Why a line is neither a section nor an entry, where it is no entry for that reason.
-fn neither(line: &[u8], why: Reason) -> Reason {
+fn neither(line: &[u8], why: Reason) -> Reason
+    ensures { result ≡ if begins_with 91 line.now then Reason.NotASection else why }
+{
     if line.starts_with(b"[") {
         Reason::NotASection
     } else {
@@ -207,7 +220,7 @@ fn neither(line: &[u8], why: Reason) -> Reason {
 /// What a line means that is a section or an entry.
 fn section_or_entry(alloc: Global, line: &[u8]) -> Result<LineMeaning, Unread>
     requires { begins_entry line.now ≡ true }
-    ensures { Finds (IsLine line.now) result }
+    ensures { Finds (IsLine line.now) (λ why. why ≡ line_reason line.now) result }
 {
     if let Some(name) = section_name(line) {
         return Ok(LineMeaning::Section(Text::from_bytes(alloc, name)?));
@@ -221,7 +234,7 @@ fn section_or_entry(alloc: Global, line: &[u8]) -> Result<LineMeaning, Unread>
 
 /// What a line means.
 fn line_meaning(alloc: Global, line: &[u8]) -> Result<LineMeaning, Unread>
-    ensures { Finds (IsLine line.now) result }
+    ensures { Finds (IsLine line.now) (λ why. why ≡ line_reason line.now) result }
 {
     if begins_entry(line) {
         section_or_entry(alloc, line)
@@ -256,7 +269,8 @@ fn is_extends(meaning: &EntryMeaning) -> bool
 /// Whether a line of that meaning may stand here: an entry stands in a section, and General extends
 /// nothing.
 fn may_stand(section: &Option<Text>, line: &LineMeaning) -> Result<(), Reason>
-    ensures { is_ok result ≡ may_stand section.now line.now }
+    ensures allowed { is_ok result ≡ may_stand section.now line.now }
+    ensures reason { IfErr result (λ why. why ≡ place_reason section.now) }
 {
     match (section, line) {
         (None, LineMeaning::Entry(_)) => Err(Reason::BeforeSection),
@@ -273,7 +287,7 @@ fn may_stand(section: &Option<Text>, line: &LineMeaning) -> Result<(), Reason>
 
 /// A line.
 fn ini_line(alloc: Global, section: &Option<Text>, line: &[u8]) -> Result<IniLine, Unread>
-    ensures { Finds (IsIniLine section.now line.now) result }
+    ensures { Finds (IsIniLine section.now line.now) (IsRefused section.now line.now) result }
 {
     let text = Text::from_bytes(alloc, line)?;
     let meaning = line_meaning(alloc, line)?;
@@ -327,7 +341,7 @@ pub fn parse_ini(alloc: Global, bytes: &[u8]) -> Result<IniText, IniError>
     ensures accepted { IfOk result (λ text. IsIniText bytes.now text) }
     // What the text says is read, unless memory runs out.
     ensures complete { (lines : List IniLine) → IsIniText bytes.now lines → Answers lines result }
-    // Each refusal has its reason.
+    // Each refusal has its reason, which is that of the line where it stands.
     ensures refused { IfErr result (λ e. Explains bytes.now e) }
     ensures large { max_length < length bytes.now → result ≡ Err IniError.TooLarge }
 {

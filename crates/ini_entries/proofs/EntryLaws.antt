@@ -1,6 +1,6 @@
 -- Laws of what entries say.
 use Rattle.std.proofs.Common.{◌≡◌, ◌≢◌, ℕ, eqb, Bool, true, false, not, ◌&&◌, ◌||◌, List, Option, Some, None, Err, refl, sym, ap, subst, ◌∙◌}
-use Rattle.std.specs.Prelude.{IsSome, if◌then◌else◌}
+use Rattle.std.specs.Prelude.{IsSome, if◌then◌else◌, is_some}
 use Rattle.std.specs.List.{list_all}
 use Rattle.std.specs.Str.{bytes_eq, chars}
 use Rattle.std.proofs.lemmas.Bool.{eqb-false, false≢true, true≢false}
@@ -16,7 +16,10 @@ use Rattle.ini_trees.specs.declared.entry.ObjectEntry.{ObjectEntry}
 use Rattle.ini_trees.specs.declared.entry.ObjectOption.{ObjectOption}
 use Rattle.ini_trees.specs.declared.entry.ParameterEntry.{ParameterEntry}
 use Rattle.ini_entries.specs.Keys.{KeyKind, OptionKey, ObjectKey, TypeKey, ParameterKey, kind_of, last_part_from, has_hyphen_from, is_closed_from}
-use Rattle.ini_entries.specs.Meaning.{Finds, IsEntryMeaning, IsEntryValue, IsPatternAndValue, Tells}
+use Rattle.ini_entries.specs.Meaning.{Finds, FindsMeaning, IsEntryMeaning, IsEntryValue, IsPatternAndValue, Tells}
+use Rattle.ini_entries.specs.Reasons.{entry_reason, kind_reason, object_reason, option_reason, pattern_reason}
+use Rattle.ini_entries.specs.declared.reason.Reason.{Reason}
+use Rattle.ini_entries.specs.declared.reason.Reason.TheVariants as reason
 use Rattle.ini_entries.specs.declared.reason.Unread.{Unread}
 use Rattle.ini_entries.specs.declared.reason.Unread.TheVariants as unread
 use Rattle.ini_entries.specs.Names.{is_config_name, is_dotted_name}
@@ -287,16 +290,44 @@ only_meaning key text m is = (is, λ n other. meaning_same key text n m other is
 pub only_entry : (key text : Bytes) (p : ParameterEntry) → IsPatternAndValue key text p → Tells (IsPatternAndValue key text) (Some p)
 only_entry key text p is = (is, λ q other. entry_same key text q p other is)
 
+-- ---- reasons
+
+-- the reason of a key that is no option with effect
+told_by : (key text : Bytes) (kind : KeyKind) → kind_of key ≡ kind → (bytes_eq key word_network ≡ false) × (bytes_eq key word_extends ≡ false) × (bytes_eq key word_time_limit ≡ false) → entry_reason key text ≡ kind_reason key text kind
+told_by key text kind h e = rw e.0 (rw e.1 (rw e.2 (rw h refl)))
+
+kind_told : (key text : Bytes) (kind : KeyKind) → kind_of key ≡ kind → kind ≢ OptionKey → entry_reason key text ≡ kind_reason key text kind
+kind_told key text kind h other = told_by key text kind h (kinds key kind h other)
+
+pattern_told : (key : Bytes) (pattern : List Piece) (why : Reason) → pattern_of (chars key) ≡ Some pattern → pattern_reason key why ≡ why
+pattern_told key pattern why found = rw found refl
+
+pub pattern_lacked : (key : Bytes) (why : Reason) → pattern_of (chars key) ≡ None → pattern_reason key why ≡ reason.BadPattern
+pattern_lacked key why none = rw none refl
+
+object_told : (key name text : Bytes) (pattern : List Piece) → kind_of key ≡ ObjectKey name → pattern_of (chars key) ≡ Some pattern → entry_reason key text ≡ object_reason name
+object_told key name text pattern kind found = kind_told key text (ObjectKey name) kind (λ x. absurd cc) ∙ pattern_told key pattern (object_reason name) found
+
+pub object_lacked : (key name text : Bytes) → kind_of key ≡ ObjectKey name → pattern_of (chars key) ≡ None → reason.BadPattern ≡ entry_reason key text
+object_lacked key name text kind none = sym (kind_told key text (ObjectKey name) kind (λ x. absurd cc) ∙ pattern_lacked key (object_reason name) none)
+
+-- why an option without effect says nothing
+pub option_told : (key text : Bytes) → kind_of key ≡ OptionKey → is_among key words_with_effect ≡ false → is_other_option key text ≡ false → option_reason key ≡ entry_reason key text
+option_told key text kind plain bad = sym (told_by key text OptionKey kind (without_effect key plain) ∙ rw bad refl)
+
+pub option_lacked : (key text : Bytes) → kind_of key ≡ OptionKey → is_among key words_with_effect ≡ false → is_other_option key text ≡ true → reason.BadPattern ≡ entry_reason key text
+option_lacked key text kind plain good = sym (told_by key text OptionKey kind (without_effect key plain) ∙ rw good refl)
+
 -- ---- what is refused of a part is refused of the whole
 
-pub refused_object : (key name text : Bytes) (e : Unread) → kind_of key ≡ ObjectKey name → Finds (IsObjectOption name text) (Err e) → Finds (IsEntryMeaning key text) (Err e)
-refused_object key name text (unread.MeansNothing why) kind none = no_object key name text kind (λ pattern o some is. none o is)
-refused_object key name text (unread.NoMemory error) kind none = tt
+pub refused_object : (key name text : Bytes) (pattern : List Piece) (e : Unread) → kind_of key ≡ ObjectKey name → pattern_of (chars key) ≡ Some pattern → Finds (IsObjectOption name text) (λ why. why ≡ object_reason name) (Err e) → FindsMeaning key text (Err e)
+refused_object key name text pattern (unread.MeansNothing why) kind found none = (no_object key name text kind (λ p o some is. none.0 o is), none.1 ∙ sym (object_told key name text pattern kind found))
+refused_object key name text pattern (unread.NoMemory error) kind found none = tt
 
-pub refused_type : (key text : Bytes) (e : Unread) → kind_of key ≡ TypeKey → Finds (IsPatternAndValue key text) (Err e) → Finds (IsEntryMeaning key text) (Err e)
-refused_type key text (unread.MeansNothing why) kind none = no_type key text kind none
+pub refused_type : (key text : Bytes) (e : Unread) → kind_of key ≡ TypeKey → Finds (IsPatternAndValue key text) (λ why. why ≡ pattern_reason key reason.BadExpression) (Err e) → FindsMeaning key text (Err e)
+refused_type key text (unread.MeansNothing why) kind none = (no_type key text kind none.0, none.1 ∙ sym (kind_told key text TypeKey kind (λ x. absurd cc)))
 refused_type key text (unread.NoMemory error) kind none = tt
 
-pub refused_parameter : (key text : Bytes) (e : Unread) → kind_of key ≡ ParameterKey → Finds (IsPatternAndValue key text) (Err e) → Finds (IsEntryMeaning key text) (Err e)
-refused_parameter key text (unread.MeansNothing why) kind none = no_parameter key text kind none
+pub refused_parameter : (key text : Bytes) (e : Unread) → kind_of key ≡ ParameterKey → Finds (IsPatternAndValue key text) (λ why. why ≡ pattern_reason key reason.BadExpression) (Err e) → FindsMeaning key text (Err e)
+refused_parameter key text (unread.MeansNothing why) kind none = (no_parameter key text kind none.0, none.1 ∙ sym (kind_told key text ParameterKey kind (λ x. absurd cc)))
 refused_parameter key text (unread.NoMemory error) kind none = tt

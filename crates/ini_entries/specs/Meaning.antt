@@ -11,6 +11,7 @@ use Rattle.ini_trees.specs.declared.entry.EntryMeaning.TheVariants as meaning
 use Rattle.ini_trees.specs.declared.entry.EntryValue.{EntryValue}
 use Rattle.ini_trees.specs.declared.entry.EntryValue.TheVariants as value
 use Rattle.ini_trees.specs.declared.entry.ParameterEntry.{ParameterEntry}
+use Rattle.ini_entries.specs.declared.reason.Reason.{Reason}
 use Rattle.ini_entries.specs.declared.reason.Unread.{Unread}
 use Rattle.ini_entries.specs.declared.reason.Unread.TheVariants as unread
 use Rattle.ini_entries.specs.Constants.{is_constant}
@@ -18,6 +19,7 @@ use Rattle.ini_entries.specs.Keys.{OptionKey, ObjectKey, TypeKey, ParameterKey, 
 use Rattle.ini_entries.specs.Names.{is_dotted_name, is_config_name}
 use Rattle.ini_entries.specs.Options.{word_network, word_extends, word_time_limit, is_other_option}
 use Rattle.ini_entries.specs.Options.{time_literal, IsObjectOption}
+use Rattle.ini_entries.specs.Reasons.{entry_reason}
 use Rattle.ini_entries.specs.Texts.{Bytes, items_of, is_blank}
 
 abbrev pub word_default : Bytes
@@ -70,9 +72,14 @@ abbrev pub Tells : {X : Type 0} → (X → Type 0) → Option X → Type 0
 Tells P (Some x) = P x × ((y : _) → P y → y ≡ x)
 Tells P None = (y : _) → P y → ⊥
 
--- What was found is the only one; where nothing was found, for whichever reason, there is none.
--- Lack of memory says nothing.
-abbrev pub Finds : {X : Type 0} → (X → Type 0) → Result X Unread → Type 0
-Finds P (Ok x) = P x × ((y : _) → P y → y ≡ x)
-Finds P (Err (unread.MeansNothing why)) = (y : _) → P y → ⊥
-Finds P (Err (unread.NoMemory error)) = Unit {0}
+-- What was found is the only one; where nothing was found there is none, and the reason told is one
+-- of these. Lack of memory says nothing.
+abbrev pub Finds : {X : Type 0} → (X → Type 0) → (Reason → Type 0) → Result X Unread → Type 0
+Finds P Why (Ok x) = P x × ((y : _) → P y → y ≡ x)
+Finds P Why (Err (unread.MeansNothing why)) = ((y : _) → P y → ⊥) × Why why
+Finds P Why (Err (unread.NoMemory error)) = Unit {0}
+
+-- What the entry says; where it says nothing, the reason told is its own.
+abbrev pub FindsMeaning : Bytes → Bytes → Result EntryMeaning Unread → Type 0
+FindsMeaning key bytes result =
+    Finds (IsEntryMeaning key bytes) (λ why. why ≡ entry_reason key bytes) result

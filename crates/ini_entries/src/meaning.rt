@@ -5,9 +5,10 @@ ghost use Rattle.std.specs.Str.{chars};
 ghost use Rattle.ini_pattern.specs.PatternOf.{pattern_of};
 ghost use Rattle.ini_entries.specs.Keys.{ObjectKey, OptionKey, ParameterKey, TypeKey, kind_of};
 ghost use Rattle.ini_entries.specs.Keys.{last_part};
-ghost use Rattle.ini_entries.specs.Meaning.{Finds, IsEntryMeaning, IsEntryValue, IsPatternAndValue};
+ghost use Rattle.ini_entries.specs.Meaning.{Finds, FindsMeaning, IsEntryValue, IsPatternAndValue};
 ghost use Rattle.ini_entries.specs.Meaning.{Tells, is_key};
 ghost use Rattle.ini_entries.specs.Options as options;
+ghost use Rattle.ini_entries.specs.Reasons.{pattern_reason};
 ghost use Rattle.ini_entries.specs.Texts.{is_among};
 
 use crate::constants::is_constant;
@@ -65,7 +66,7 @@ fn entry_value(alloc: Global, bytes: &[u8]) -> Result<Option<EntryValue>, AllocE
 
 /// What the option `network` says.
 fn network_meaning(alloc: Global, value: &[u8]) -> Result<EntryMeaning, Unread>
-    ensures { Finds (IsEntryMeaning options.word_network value.now) result }
+    ensures { FindsMeaning options.word_network value.now result }
 {
     if is_dotted_name(value) {
         Ok(EntryMeaning::Network(Text::from_bytes(alloc, value)?))
@@ -76,7 +77,7 @@ fn network_meaning(alloc: Global, value: &[u8]) -> Result<EntryMeaning, Unread>
 
 /// What the option `extends` says.
 fn extends_meaning(alloc: Global, value: &[u8]) -> Result<EntryMeaning, Unread>
-    ensures { Finds (IsEntryMeaning options.word_extends value.now) result }
+    ensures { FindsMeaning options.word_extends value.now result }
 {
     match config_names(alloc, value)? {
         None => Err(Unread::MeansNothing(Reason::NotConfigurations)),
@@ -86,7 +87,7 @@ fn extends_meaning(alloc: Global, value: &[u8]) -> Result<EntryMeaning, Unread>
 
 /// What the option `sim-time-limit` says.
 fn limit_meaning(alloc: Global, value: &[u8]) -> Result<EntryMeaning, Unread>
-    ensures { Finds (IsEntryMeaning options.word_time_limit value.now) result }
+    ensures { FindsMeaning options.word_time_limit value.now result }
 {
     match time_limit(alloc, value)? {
         None => Err(Unread::MeansNothing(Reason::NotATime)),
@@ -99,7 +100,7 @@ fn other_meaning(alloc: Global, key: &[u8], value: &[u8]) -> Result<EntryMeaning
     requires proper { is_key key.now ≡ true }
     requires kind { kind_of key.now ≡ OptionKey }
     requires other { is_among key.now options.words_with_effect ≡ false }
-    ensures { Finds (IsEntryMeaning key.now value.now) result }
+    ensures { FindsMeaning key.now value.now result }
 {
     if !is_other_option(key, value) {
         return Err(Unread::MeansNothing(refused_option(key)));
@@ -121,7 +122,7 @@ fn object_meaning(
 ) -> Result<EntryMeaning, Unread>
     requires proper { is_key key.now ≡ true }
     requires kind { kind_of key.now ≡ ObjectKey name.now }
-    ensures { Finds (IsEntryMeaning key.now value.now) result }
+    ensures { FindsMeaning key.now value.now result }
 {
     let Some(pattern) = key_pattern(alloc, key)? else {
         return Err(Unread::MeansNothing(Reason::BadPattern));
@@ -138,7 +139,8 @@ fn object_meaning(
 /// The pattern of a key, and a value.
 fn pattern_and_value(alloc: Global, key: &[u8], value: &[u8]) -> Result<ParameterEntry, Unread>
     requires { is_key key.now ≡ true }
-    ensures { Finds (IsPatternAndValue key.now value.now) result }
+    ensures { Finds (IsPatternAndValue key.now value.now)
+        (λ why. why ≡ pattern_reason key.now Reason.BadExpression) result }
 {
     let Some(pattern) = key_pattern(alloc, key)? else {
         return Err(Unread::MeansNothing(Reason::BadPattern));
@@ -153,7 +155,7 @@ fn pattern_and_value(alloc: Global, key: &[u8], value: &[u8]) -> Result<Paramete
 fn type_meaning(alloc: Global, key: &[u8], value: &[u8]) -> Result<EntryMeaning, Unread>
     requires proper { is_key key.now ≡ true }
     requires kind { kind_of key.now ≡ TypeKey }
-    ensures { Finds (IsEntryMeaning key.now value.now) result }
+    ensures { FindsMeaning key.now value.now result }
 {
     Ok(EntryMeaning::Type(pattern_and_value(alloc, key, value)?))
 }
@@ -162,7 +164,7 @@ fn type_meaning(alloc: Global, key: &[u8], value: &[u8]) -> Result<EntryMeaning,
 fn parameter_meaning(alloc: Global, key: &[u8], value: &[u8]) -> Result<EntryMeaning, Unread>
     requires proper { is_key key.now ≡ true }
     requires kind { kind_of key.now ≡ ParameterKey }
-    ensures { Finds (IsEntryMeaning key.now value.now) result }
+    ensures { FindsMeaning key.now value.now result }
 {
     Ok(EntryMeaning::Parameter(pattern_and_value(alloc, key, value)?))
 }
@@ -176,7 +178,7 @@ fn part_meaning(
 ) -> Result<EntryMeaning, Unread>
     requires proper { is_key key.now ≡ true }
     requires part { last_part key.now ≡ Some part.now }
-    ensures { Finds (IsEntryMeaning key.now value.now) result }
+    ensures { FindsMeaning key.now value.now result }
 {
     if has_hyphen(part) {
         object_meaning(alloc, key, part, value)
@@ -191,7 +193,7 @@ fn part_meaning(
 fn kind_meaning(alloc: Global, key: &[u8], value: &[u8]) -> Result<EntryMeaning, Unread>
     requires proper { is_key key.now ≡ true }
     requires other { is_among key.now options.words_with_effect ≡ false }
-    ensures { Finds (IsEntryMeaning key.now value.now) result }
+    ensures { FindsMeaning key.now value.now result }
 {
     match last_part(key) {
         None => other_meaning(alloc, key, value),
@@ -203,7 +205,7 @@ fn kind_meaning(alloc: Global, key: &[u8], value: &[u8]) -> Result<EntryMeaning,
 #[tactic(auto, unfolding(crate::specs::Texts::is_among))]
 pub fn entry_meaning(alloc: Global, key: &[u8], value: &[u8]) -> Result<EntryMeaning, Unread>
     requires { is_key key.now ≡ true }
-    ensures { Finds (IsEntryMeaning key.now value.now) result }
+    ensures { FindsMeaning key.now value.now result }
 {
     if spells(key, b"network") {
         network_meaning(alloc, value)

@@ -5,6 +5,7 @@ ghost use Rattle.std.specs.List.{list_all};
 ghost use Rattle.ned_expressions.specs.ExpressionText.{IsExpressionText};
 ghost use Rattle.ini_entries.specs.Meaning.{Finds, Tells};
 ghost use Rattle.ini_entries.specs.Options as options;
+ghost use Rattle.ini_entries.specs.Reasons as reasons;
 ghost use Rattle.ini_entries.specs.Texts as texts;
 
 use crate::blanks::{after_blanks, before_blanks};
@@ -110,7 +111,9 @@ pub(crate) fn is_other_option(key: &[u8], value: &[u8]) -> bool
 }
 
 /// Why an option, other than one with effect, may not have its value.
-pub(crate) fn refused_option(key: &[u8]) -> Reason {
+pub(crate) fn refused_option(key: &[u8]) -> Reason
+    ensures { result ≡ reasons.option_reason key.now }
+{
     if spells(key, b"include") {
         Reason::Include
     } else if spells(key, b"repeat") {
@@ -188,7 +191,8 @@ fn is_recording_word(name: &[u8]) -> bool
 
 /// What the option of recording modes says.
 fn modes_option(alloc: Global, bytes: &[u8]) -> Result<ObjectOption, Unread>
-    ensures { Finds (options.IsObjectOption options.word_modes bytes.now) result }
+    ensures { Finds (options.IsObjectOption options.word_modes bytes.now)
+        (λ why. why ≡ Reason.BadModes) result }
 {
     match mode_items(alloc, bytes)? {
         None => Err(Unread::MeansNothing(Reason::BadModes)),
@@ -199,7 +203,8 @@ fn modes_option(alloc: Global, bytes: &[u8]) -> Result<ObjectOption, Unread>
 /// What an option says of whether something is recorded.
 fn recording_option(name: &[u8], bytes: &[u8]) -> Result<ObjectOption, Unread>
     requires { texts.is_among name.now options.recording_words ≡ true }
-    ensures { Finds (options.IsObjectOption name.now bytes.now) result }
+    ensures { Finds (options.IsObjectOption name.now bytes.now)
+        (λ why. why ≡ Reason.NotATruth) result }
 {
     match truth_named(bytes) {
         None => Err(Unread::MeansNothing(Reason::NotATruth)),
@@ -213,7 +218,8 @@ pub(crate) fn object_option(
     name: &[u8],
     bytes: &[u8],
 ) -> Result<ObjectOption, Unread>
-    ensures { Finds (options.IsObjectOption name.now bytes.now) result }
+    ensures { Finds (options.IsObjectOption name.now bytes.now)
+        (λ why. why ≡ reasons.object_reason name.now) result }
 {
     if spells(name, b"result-recording-modes") {
         return modes_option(alloc, bytes);

@@ -7,8 +7,7 @@ ghost use Rattle.ini_entries.specs.declared.reason.Unread.TheVariants as unread;
 use sim_values::NoMemory;
 use std::alloc::AllocError;
 
-/// Why a line of an ini text means nothing. No contract speaks of which reason it is: any of them
-/// says that there is no meaning.
+/// Why a line of an ini text means nothing, or may not stand where it does.
 #[derive(Clone, Copy, Debug, PartialEq, Eq)]
 pub enum Reason {
     /// It begins with `[`, and is neither a section nor an entry.

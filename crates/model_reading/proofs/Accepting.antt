@@ -92,7 +92,7 @@ ruled_out texts ini config fault.TooLarge why m is = absurd (truth_apart (is_too
 ruled_out texts ini config (fault.NedSyntax at line) why m is =
     let here = file_at texts at why.1.text is.read.read.files why.1.here is.read.read.declared in
     absurd (why.1.none here.0 here.1)
-ruled_out texts ini config (fault.IniSyntax line reason) why m is = absurd (bad_text line ini is.read.read.lines why.1.blamed is.read.read.said)
+ruled_out texts ini config (fault.IniSyntax line reason) why m is = absurd (bad_text line reason ini is.read.read.lines why.1.blamed is.read.read.said)
 ruled_out texts ini config (fault.Types kind) why m is = absurd (together texts ini kind is.read.read why.1)
 ruled_out texts ini config (fault.Config configs.NoSuchConfig) why m is =
     let lines = lines_same texts ini why.read is.read.read in

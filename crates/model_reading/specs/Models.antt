@@ -4,6 +4,7 @@ use Rattle.std.specs.Prelude.{length, nat_lt, slice_get, take}
 use Rattle.std.specs.List.{list_any}
 use Rattle.sim_values.specs.Memory.{no_memory}
 use Rattle.ini_trees.specs.declared.lines.IniLine.{IniLine}
+use Rattle.ini_entries.specs.declared.reason.Reason.{Reason}
 use Rattle.ini_config.specs.Meaning.{IsIniText, FirstBad}
 use Rattle.ini_trees.specs.Sections.{IsChain, is_section}
 use Rattle.model_data.specs.declared.faults.ConfigFault.TheVariants as configs
@@ -95,7 +96,7 @@ RefusesFiles texts (fault.NoMemory _) = Unit {0}
 RefusesFiles texts _ = ⊥
 
 abbrev pub RefusesIni : List ℕ → BeginFault → Type 0
-RefusesIni bytes (fault.IniSyntax line reason) = FirstBad line bytes
+RefusesIni bytes (fault.IniSyntax line reason) = FirstBad line reason bytes
 RefusesIni bytes fault.TooLarge = is_large bytes ≡ true
 RefusesIni bytes (fault.NoMemory _) = Unit {0}
 RefusesIni bytes _ = ⊥
@@ -105,11 +106,13 @@ RefusesTypes declared (fault.Types why) = fault_of declared ≡ Some why
 RefusesTypes declared (fault.NoMemory _) = Unit {0}
 RefusesTypes declared _ = ⊥
 
--- The NED texts are read, and the ini text's first bad line is this one.
-pub record IsIniBlamed (texts : List (List ℕ)) (ini : List ℕ) (line : ℕ) : Type 0 where
+-- The NED texts are read, and the ini text's first bad line is this one, which is refused for this
+-- reason.
+pub record IsIniBlamed (texts : List (List ℕ)) (ini : List ℕ) (line : ℕ) (reason : Reason)
+    : Type 0 where
   pub files : List NedFile
   pub declared : AreNedFiles texts files
-  pub blamed : FirstBad line ini
+  pub blamed : FirstBad line reason ini
 
 -- The texts are read, and their types don't go together.
 pub record AreApart (texts : List (List ℕ)) (ini : List ℕ) (why : TypeFault) : Type 0 where
@@ -150,7 +153,7 @@ Refuses texts ini config fault.TooLarge = is_too_large texts ini ≡ true
 Refuses texts ini config (fault.NedSyntax at line) =
     (is_too_large texts ini ≡ false) × IsBlamed texts at line
 Refuses texts ini config (fault.IniSyntax line reason) =
-    (is_too_large texts ini ≡ false) × IsIniBlamed texts ini line
+    (is_too_large texts ini ≡ false) × IsIniBlamed texts ini line reason
 Refuses texts ini config (fault.Types why) =
     (is_too_large texts ini ≡ false) × AreApart texts ini why
 Refuses texts ini config (fault.Config configs.NoSuchConfig) = IsNotSelected texts ini config

@@ -1,7 +1,7 @@
 use Rattle.std.proofs.Common.{sym, subst}
 use Rattle.ini_config.specs.Meaning.{IsSection}
 use Rattle.ini_entries.specs.Texts.{Bytes}
-use Rattle.ini_config.proofs.MeaningLaws.{no_line, is_section}
+use Rattle.ini_config.proofs.MeaningLaws.{is_section, line_told, no_line}
 use Rattle.ini_config.proofs.parse.section_or_entry.Goals as goal
 
 pub returns-in-Some : goal.returns-in-Some
@@ -10,4 +10,6 @@ returns-in-Some c =
     is_section c.args.line.now c.in_ok-from_bytes.field-0 said
 
 pub returns-in-Err-MeansNothing : goal.returns-in-Err-MeansNothing
-returns-in-Err-MeansNothing c = no_line c.args.line.now c.requires c.in_default.ensures (rw c.in-Err-MeansNothing.field-0-is at c.in-Err-MeansNothing.ensures)
+returns-in-Err-MeansNothing c =
+    let none = rw c.in-Err-MeansNothing.field-0-is at c.in-Err-MeansNothing.ensures in
+    (no_line c.args.line.now c.requires c.in_default.ensures none.0, line_told c.args.line.now _ _ c.requires none.1 c.neither.ensures)

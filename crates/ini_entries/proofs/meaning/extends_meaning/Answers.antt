@@ -7,7 +7,7 @@ use Rattle.ini_entries.proofs.OptionLaws.{names_found}
 use Rattle.ini_entries.proofs.meaning.extends_meaning.Goals as goal
 
 pub returns-in-None : goal.returns-in-None
-returns-in-None c = no_extends c.args.value.now (sym c.in_ok-config_names.ensures ∙ c.in-None.is)
+returns-in-None c = (no_extends c.args.value.now (sym c.in_ok-config_names.ensures ∙ c.in-None.is), refl)
 
 pub returns-in-Some : goal.returns-in-Some
 returns-in-Some c =

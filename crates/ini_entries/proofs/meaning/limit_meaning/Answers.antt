@@ -7,7 +7,7 @@ use Rattle.ini_entries.proofs.EntryLaws.{no_limit, only_meaning}
 use Rattle.ini_entries.proofs.meaning.limit_meaning.Goals as goal
 
 pub returns-in-None : goal.returns-in-None
-returns-in-None c = no_limit c.args.value.now (subst (Tells (λ (ps : ℕ). IsExpressionText c.args.value.now (time_literal ps))) c.in-None.is c.in_ok-time_limit.ensures)
+returns-in-None c = (no_limit c.args.value.now (subst (Tells (λ (ps : ℕ). IsExpressionText c.args.value.now (time_literal ps))) c.in-None.is c.in_ok-time_limit.ensures), refl)
 
 pub returns-in-Some : goal.returns-in-Some
 returns-in-Some c =
