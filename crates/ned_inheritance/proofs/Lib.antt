@@ -11,5 +11,6 @@ pub mod LineLaws
 pub mod SectionLaws
 pub mod PlaceLaws
 pub mod ReadyLaws
+pub mod RoundLaws
 pub mod FlatLaws
 pub mod RepeatedLaws

@@ -12,7 +12,7 @@ use Rattle.ned_inheritance.specs.Named.{types_at, HaveNames, is_one_taken}
 use Rattle.ned_inheritance.proofs.WellFormedLaws.{same_names, names_same, names_apart, apart_names}
 use Rattle.indexmap.specs.IndexMap.{insert_entry}
 
-abbrev Entry : Type 0
+abbrev pub Entry : Type 0
 Entry = Bor (List ℕ) × Bor TypeDeclaration
 
 -- ---- what is found
@@ -24,7 +24,7 @@ turned a b = by (bytes_eq a b) refl
     by true e = e ∙ sym (names_same b a (sym (same_names a b e)))
     by false e = e ∙ sym (apart_names b a (λ q. names_apart a b e (sym q)))
 
-at_name : (e : Entry) (name : List ℕ) → e.0.now ≡ e.1.now.name → bytes_eq name e.0.now ≡ bytes_eq e.1.now.name name
+pub at_name : (e : Entry) (name : List ℕ) → e.0.now ≡ e.1.now.name → bytes_eq name e.0.now ≡ bytes_eq e.1.now.name name
 at_name e name h = ap (bytes_eq name) h ∙ turned name e.1.now.name
 
 pub found : (name : List ℕ) (es : List Entry) → HaveNames es → option_map (λ (r : Bor TypeDeclaration). r.now) (lookup (λ (k : Bor (List ℕ)). bytes_eq name k.now) es) ≡ type_named name (types_at es)

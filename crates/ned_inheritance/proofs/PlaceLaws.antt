@@ -1,6 +1,6 @@
 -- Where a place is found a rule is broken, and where none is found it is kept.
 use Rattle.std.proofs.Common.{◌≡◌, ℕ, zero, suc, ◌+◌, Bool, true, false, not, ◌||◌, List, [], ◌∷◌, Option, Some, None, refl, sym, ap, ◌∙◌, subst, arith, drop, slice_get, if◌then◌else◌}
-use Rattle.std.specs.Prelude.{is_some, Err}
+use Rattle.std.specs.Prelude.{is_err, is_some, Err, IfErr, Ok, Result}
 use Rattle.std.specs.List.{list_any}
 use Rattle.std.specs.Option.{option_map}
 use Rattle.ned_trees.specs.declared.connections.ConnectionItem.{ConnectionItem}
@@ -19,7 +19,8 @@ use Rattle.ned_inheritance.specs.declared.table.TypeFault.TheVariants as fault
 use Rattle.ned_inheritance.specs.declared.table.BuildError.TheVariants.{Fault}
 use Rattle.ned_types.specs.Clashes.{connections_of, has_clash, has_unknown_channel, is_channel_unknown}
 use Rattle.ned_types.specs.Types.{has_duplicate}
-use Rattle.ned_inheritance.specs.Building.{base_fault, Builds, fault_of, flat_fault, TellsFlat}
+use Rattle.ned_inheritance.specs.Building.{base_fault, Builds, flat_fault, TellsFlat}
+use Rattle.ned_inheritance.specs.Circles.{IsCirclePlace}
 use Rattle.ned_inheritance.specs.Inheritance.{flat_types, has_circle}
 use Rattle.ned_inheritance.specs.Places.{IsClashPlace}
 use Rattle.ned_inheritance.proofs.Repeats.{mixed}
@@ -166,22 +167,19 @@ unknown_found types p apart found =
       found,
     )
 
-pub circle_found : (types : List TypeDeclaration) (p : FaultPlace) → has_duplicate types ≡ false → place_from (unknown_in types) 0 types ≡ None → has_circle types ≡ true → Builds types (Err (Fault fault.InheritanceCircle p))
-circle_found types p apart none circle =
+pub circle_found : (types : List TypeDeclaration) (p : FaultPlace) → has_duplicate types ≡ false → place_from (unknown_in types) 0 types ≡ None → has_circle types ≡ true → IsCirclePlace types p → Builds types (Err (Fault fault.InheritanceCircle p))
+circle_found types p apart none circle place =
     let known = sym (unknown_told types types) ∙ ap is_some none in (
       ap (λ b. or_else (base_of b (is_unknown_named types types) (has_circle types) (is_other_named types types)) (flat_fault (flat_types types))) apart
           ∙ ap (λ b. or_else (base_of false b (has_circle types) (is_other_named types types)) (flat_fault (flat_types types))) known
           ∙ ap (λ b. or_else (base_of false false b (is_other_named types types)) (flat_fault (flat_types types))) circle,
-      tt,
+      place,
     )
 
--- without its place
-pub circle_told : (types : List TypeDeclaration) → has_duplicate types ≡ false → place_from (unknown_in types) 0 types ≡ None → has_circle types ≡ true → fault_of types ≡ Some fault.InheritanceCircle
-circle_told types apart none circle =
-    let known = sym (unknown_told types types) ∙ ap is_some none in
-    ap (λ b. or_else (base_of b (is_unknown_named types types) (has_circle types) (is_other_named types types)) (flat_fault (flat_types types))) apart
-    ∙ ap (λ b. or_else (base_of false b (has_circle types) (is_other_named types types)) (flat_fault (flat_types types))) known
-    ∙ ap (λ b. or_else (base_of false false b (is_other_named types types)) (flat_fault (flat_types types))) circle
+-- what is answered in place of an order
+pub circle_answered : {X : Type 0} (types : List TypeDeclaration) (order : Result X FaultPlace) (p : FaultPlace) → order ≡ Err p → IfErr order (IsCirclePlace types) → is_err order ≡ has_circle types → (has_circle types ≡ true) × IsCirclePlace types p
+circle_answered types (Ok x) p e place circle = cc
+circle_answered types (Err q) p e place circle = let same : q ≡ p = cc in (sym circle, subst (IsCirclePlace types) same place)
 
 pub other_found : (types : List TypeDeclaration) (p : FaultPlace) → has_duplicate types ≡ false → place_from (unknown_in types) 0 types ≡ None → has_circle types ≡ false → place_from (other_in types) 0 types ≡ Some p → Builds types (Err (Fault fault.KindClash p))
 other_found types p apart none roots found =

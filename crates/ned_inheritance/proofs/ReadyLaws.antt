@@ -30,7 +30,7 @@ all_at p [] x h is = absurd is
 all_at p (y ∷ ys) x h (inl same) = ap p same ∙ and_first (p y) (list_all p ys) h
 all_at p (y ∷ ys) x h (inr is) = all_at p ys x (and_second (p y) (list_all p ys) h) is
 
-not_all : {X : Type 0} (p : X → Bool) (xs : List X) → list_all p xs ≡ false → (x : X) × IsAmong x xs × (p x ≡ false)
+pub not_all : {X : Type 0} (p : X → Bool) (xs : List X) → list_all p xs ≡ false → (x : X) × IsAmong x xs × (p x ≡ false)
 not_all p [] h = absurd (false≢true (sym h))
 not_all {X = X} p (y ∷ ys) h = by (p y) refl h (λ r. not_all p ys r)
   where
@@ -138,7 +138,7 @@ name_unready types order left name covers h =
     (covers name (not_false (is_type_named name types) (neither_first (not (is_type_named name types)) (is_type_named name order) h)))
     (neither_second (not (is_type_named name types)) (is_type_named name order) h)
 
-unready_extends : (types order left : List TypeDeclaration) (x : TypeDeclaration) → Covers types order left → is_ready types order x ≡ false → extends_one left x ≡ true
+pub unready_extends : (types order left : List TypeDeclaration) (x : TypeDeclaration) → Covers types order left → is_ready types order x ≡ false → extends_one left x ≡ true
 unready_extends types order left x covers h = based (is_base_ready types order x.base) refl h
   where
     kept : (k : Bool) → is_interface_kind x.kind ≡ k → (not k || are_ready types order x.interfaces) ≡ false → extends_one left x ≡ true
@@ -157,12 +157,16 @@ unready_extends types order left x covers h = based (is_base_ready types order x
     based true e f = kept (is_interface_kind x.kind) refl f
     based false e f = named x.base refl e
 
--- where types are stuck there is a circle
+-- where types are stuck, each of them extends one of them
+abbrev pub stuck_of : (types order left : List TypeDeclaration) → IsUnderWay types order left → AreStuck types order left → is_one_left left ≡ true → Stuck types
+stuck_of types order left way stuck one = (left, one, (λ t is. unready_extends types order left t way.1 (stuck t is)), way.0)
+
+-- and there is a circle
 pub stuck_circle : (types order left : List TypeDeclaration) → IsUnderWay types order left → AreStuck types order left → is_one_left left ≡ true → has_circle types ≡ true
-stuck_circle types order left way stuck one = one_is_circle types (stuck_is_one types (left, one, (λ t is. unready_extends types order left t way.1 (stuck t is)), way.0))
+stuck_circle types order left way stuck one = one_is_circle types (stuck_is_one types (stuck_of types order left way stuck one))
 
 -- no type that extends one of some types, as each of these does, is ever added
-never : (types : List TypeDeclaration) → has_duplicate types ≡ false → (s : Stuck types) → (seen order : List TypeDeclaration) → StandBehind types seen order
+pub never : (types : List TypeDeclaration) → has_duplicate types ≡ false → (s : Stuck types) → (seen order : List TypeDeclaration) → StandBehind types seen order
     → ((u : TypeDeclaration) → IsAmong u s.0 → is_type_named u.name seen ≡ false) → (u : TypeDeclaration) → IsAmong u s.0 → is_type_named u.name (seen ++ order) ≡ false
 never types apart s seen [] h none u is = ap (is_type_named u.name) (append-nil seen) ∙ none u is
 never types apart s seen (t ∷ rest) h none u is =
@@ -276,7 +280,7 @@ size_less waited waiting rest total h same all = let less-by-one = rest_length r
 
 -- ---- at the end
 
-one_left_is : (refs : List (Bor TypeDeclaration)) (n : ℕ) → n ≡ length refs → not (n == 0) ≡ is_one_left (types_in refs)
+pub one_left_is : (refs : List (Bor TypeDeclaration)) (n : ℕ) → n ≡ length refs → not (n == 0) ≡ is_one_left (types_in refs)
 one_left_is [] n h = ap (λ k. not (k == 0)) h
 one_left_is (r ∷ refs) n h = by (n == 0) refl
   where

@@ -21,7 +21,7 @@ use Rattle.ned_types.specs.Types.{is_inner_name}
 use Rattle.ned_types.specs.Flat.{or_else}
 use Rattle.ned_inheritance.specs.Interfaces.{has_broken, has_other_interface, has_unknown_interface}
 use Rattle.ned_inheritance.specs.Interfaces.{can_keep}
-use Rattle.ned_inheritance.specs.Circles.{ExtendsItself}
+use Rattle.ned_inheritance.specs.Circles.{ExtendsItself, IsCirclePlace}
 use Rattle.ned_inheritance.specs.Inheritance.{has_unknown_base, has_circle, has_other_base}
 use Rattle.ned_inheritance.specs.Inheritance.{flat_types}
 use Rattle.ned_inheritance.specs.Flats.{AreChanged}
@@ -54,7 +54,7 @@ fault_of types = or_else (base_fault types) (flat_fault (flat_types types))
 abbrev pub IsPlace : List TypeDeclaration → TypeFault → FaultPlace → Type 0
 IsPlace types DuplicateType p = duplicate_from [] 0 types ≡ Some p.number
 IsPlace types UnknownType p = place_from (unknown_in types) 0 types ≡ Some p
-IsPlace types InheritanceCircle p = Unit {0}
+IsPlace types InheritanceCircle p = IsCirclePlace types p
 IsPlace types KindClash p = IsClashPlace types (place_from (other_in types) 0 types) p
 IsPlace types Interface p = place_from (lacked_in (flat_types types)) 0 (flat_types types) ≡ Some p
 

@@ -30,7 +30,6 @@ use crate::order::ordered;
 use crate::places::{FaultPlace, Member, placed};
 use crate::sections::section_clash;
 use crate::table::{BuildError, TypeFault};
-use crate::webs::circle_place;
 use indexmap::IndexSet;
 use ned_trees::declarations::{Submodule, SubmoduleType, TypeDeclaration, TypeKind};
 use ned_types::flat::type_name;
@@ -84,7 +83,7 @@ fn changed_by_rules(
 }
 
 /// The same of types which have names of their own.
-#[tactic(auto, using(crate::proofs::PlaceLaws::unknown_found, crate::proofs::PlaceLaws::circle_found, crate::proofs::PlaceLaws::circle_told, crate::proofs::PlaceLaws::other_found, crate::proofs::PlaceLaws::none_found))]
+#[tactic(auto, using(crate::proofs::PlaceLaws::unknown_found, crate::proofs::PlaceLaws::circle_found, crate::proofs::PlaceLaws::other_found, crate::proofs::PlaceLaws::none_found))]
 fn changed_by<'a>(
     alloc: Global,
     named: &NamedTypes<'a>,
@@ -97,9 +96,9 @@ fn changed_by<'a>(
     if let Some(place) = unknown_place(named, types) {
         return Err(BuildError::Fault(TypeFault::UnknownType, place));
     }
-    let Some(order) = ordered(alloc, named, types)? else {
-        let place = circle_place(alloc, named, types)?;
-        return Err(BuildError::Fault(TypeFault::InheritanceCircle, place));
+    let order = match ordered(alloc, named, types)? {
+        Ok(order) => order,
+        Err(place) => return Err(BuildError::Fault(TypeFault::InheritanceCircle, place)),
     };
     if let Some(place) = other_place(named, types) {
         return Err(err_dropping(order, BuildError::Fault(TypeFault::KindClash, place)));

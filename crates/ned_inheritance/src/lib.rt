@@ -15,6 +15,7 @@ mod members;
 mod named;
 mod order;
 pub mod places;
+mod rounds;
 mod sections;
 pub mod table;
 mod webs;

@@ -5,6 +5,7 @@ ghost use Rattle.std.specs.Option.{option_copied};
 ghost use Rattle.ned_types.specs.Types.{type_named, is_type_named};
 ghost use Rattle.ned_inheritance.specs.Named.{AddsName, AreNamed};
 ghost use Rattle.ned_inheritance.specs.Inheritance.{types_in};
+ghost use Rattle.ned_inheritance.specs.Order.{number_named};
 
 use crate::faults::is_built_in;
 use indexmap::IndexMap;
@@ -78,7 +79,9 @@ impl<'a> NamedTypes<'a> {
     }
 
     /// The number of the type of that name.
-    pub(crate) fn number_of(&self, name: &[u8]) -> Option<usize> {
+    pub(crate) fn number_of(&self, name: &[u8]) -> Option<usize>
+        ensures { result ≡ number_named self.now name.now }
+    {
         self.types.get_index_of(name)
     }
 

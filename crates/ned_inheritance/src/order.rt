@@ -1,13 +1,17 @@
 //! The order in which types stand after all that they extend.
 
-ghost use Rattle.std.specs.Prelude.{◌≡◌, ◌++◌, ◌<◌, [], true, false, is_none, length, IfOk, IfSome};
+ghost use Rattle.std.specs.Prelude.{◌≡◌, ◌++◌, ◌<◌, [], true, false, is_err, length, IfErr, IfOk};
 ghost use Rattle.std.specs.Prelude.{OnOk};
+ghost use Rattle.ned_inheritance.specs.Circles.{IsCirclePlace};
 ghost use Rattle.ned_inheritance.specs.Inheritance.{has_circle, types_in};
 ghost use Rattle.ned_inheritance.specs.Order.{are_ready, is_base_ready, is_name_ready, is_ready};
-ghost use Rattle.ned_inheritance.specs.Order.{AreAmong, AreStuck, IsOrder, IsUnderWay, TakesOne};
+ghost use Rattle.ned_inheritance.specs.Order.{AreAmong, AreLeft, AreStuck, IsOrder, IsUnderWay};
+ghost use Rattle.ned_inheritance.specs.Order.{TakesOne};
 ghost use Rattle.ned_types.specs.Types.{has_duplicate, is_interface_kind};
 
 use crate::named::NamedTypes;
+use crate::places::FaultPlace;
+use crate::rounds::circle_place;
 use crate::webs::roots_first;
 use ned_trees::declarations::{TypeDeclaration, TypeKind};
 use sim_values::text::Text;
@@ -22,14 +26,18 @@ pub(crate) fn is_interface_kind(kind: TypeKind) -> bool
 }
 
 /// Whether the type of that name was seen, where there is one.
-fn is_name_ready(named: &NamedTypes<'_>, seen: &NamedTypes<'_>, name: &[u8]) -> bool
+pub(crate) fn is_name_ready(named: &NamedTypes<'_>, seen: &NamedTypes<'_>, name: &[u8]) -> bool
     ensures { result ≡ is_name_ready named.now seen.now name.now }
 {
     !named.has(name) || seen.has(name)
 }
 
 /// Whether a base was seen, where it is one of the types.
-fn is_base_ready(named: &NamedTypes<'_>, seen: &NamedTypes<'_>, base: &Option<Text>) -> bool
+pub(crate) fn is_base_ready(
+    named: &NamedTypes<'_>,
+    seen: &NamedTypes<'_>,
+    base: &Option<Text>,
+) -> bool
     ensures { result ≡ is_base_ready named.now seen.now base.now }
 {
     match base {
@@ -183,6 +191,7 @@ fn take_all<'a>(
     requires apart { has_duplicate types.now ≡ false }
     ensures circle { IfOk result (λ circle. circle ≡ has_circle types.now) }
     ensures order { IfOk result (λ circle. circle ≡ false → IsOrder types.now order.new) }
+    ensures left { IfOk result (λ circle. circle ≡ true → AreLeft types.now order.new) }
 {
     let mut rest = candidates(alloc, named, types)?;
     while !rest.is_empty() {
@@ -195,23 +204,24 @@ fn take_all<'a>(
     Ok(false)
 }
 
-/// The types, each after all that it extends; none where one extends itself, perhaps by way of
-/// others.
+/// The types, each after all that it extends; or where one extends itself, perhaps by way of
+/// others, and by what it does.
 pub(crate) fn ordered<'a>(
     alloc: Global,
     named: &NamedTypes<'a>,
     types: &'a [TypeDeclaration],
-) -> Result<Option<Vec<&'a TypeDeclaration>>, AllocError>
+) -> Result<Result<Vec<&'a TypeDeclaration>, FaultPlace>, AllocError>
     requires names { named.now ≡ types.now }
     requires apart { has_duplicate types.now ≡ false }
-    ensures circle { IfOk result (λ order. is_none order ≡ has_circle types.now) }
+    ensures circle { IfOk result (λ order. is_err order ≡ has_circle types.now) }
     ensures order { IfOk result
-        (λ order. IfSome order (λ refs. IsOrder types.now (types_in refs.items))) }
+        (λ order. IfOk order (λ refs. IsOrder types.now (types_in refs.items))) }
+    ensures place { IfOk result (λ order. IfErr order (IsCirclePlace types.now)) }
 {
     let mut order = NamedTypes::new(alloc);
     if take_all(alloc, named, &mut order, types)? {
-        return Ok(None);
+        return Ok(Err(circle_place(named, &order, types)));
     }
     let refs = order.references(alloc)?;
-    Ok(Some(refs))
+    Ok(Ok(refs))
 }

@@ -1,8 +1,7 @@
-//! Types that extend themselves, perhaps by way of others.
+//! Types that extend no other, and others after what they extend.
 
 use crate::named::NamedTypes;
 use crate::order::is_interface_kind;
-use crate::places::{FaultPlace, Member};
 use ned_trees::declarations::TypeDeclaration;
 use sim_values::dropping::after;
 use sim_values::text::Text;
@@ -170,79 +169,6 @@ fn take_all(web: &mut Web, taken: &mut Vec<usize>) -> Result<(), AllocError> {
     Ok(())
 }
 
-/// Whether the type of that number is left.
-fn is_left(web: &Web, number: usize) -> bool {
-    match web.waiting.get(number) {
-        Some(count) => *count > 0,
-        None => false,
-    }
-}
-
-/// The number of the type of that name, where it is left.
-fn left_named(web: &Web, named: &NamedTypes<'_>, name: &Text) -> Option<usize> {
-    let number = named.number_of(name.as_bytes())?;
-    if is_left(web, number) {
-        Some(number)
-    } else {
-        None
-    }
-}
-
-/// The first of these interfaces that is left, and its number among them.
-fn interface_left(web: &Web, named: &NamedTypes<'_>, names: &[Text]) -> Option<(usize, Member)> {
-    for (at, name) in names.iter().enumerate() {
-        if let Some(number) = left_named(web, named, name) {
-            return Some((number, Member::Interface(at)));
-        }
-    }
-    None
-}
-
-/// A type that is left of those that one extends, and which of them it is.
-fn extended_left(
-    web: &Web,
-    named: &NamedTypes<'_>,
-    declared: &TypeDeclaration,
-) -> Option<(usize, Member)> {
-    if is_interface_kind(declared.kind) {
-        return interface_left(web, named, declared.interfaces.as_slice());
-    }
-    let number = left_named(web, named, declared.base.as_ref()?)?;
-    Some((number, Member::Base))
-}
-
-/// The number of the first type that is left.
-fn first_left(web: &Web) -> usize {
-    for (number, count) in web.waiting.iter().enumerate() {
-        if *count > 0 {
-            return number;
-        }
-    }
-    0
-}
-
-/// A type in a circle: the last one on a way of as many steps as there are types, from one to the
-/// next of those that are left.
-fn place_left(web: &Web, named: &NamedTypes<'_>, types: &[TypeDeclaration]) -> FaultPlace {
-    let mut number = first_left(web);
-    let mut member = Member::Whole;
-    for _step in 0..types.len() {
-        let found = match types.get(number) {
-            Some(declared) => extended_left(web, named, declared),
-            None => None,
-        };
-        if let Some((next, _)) = found {
-            number = next;
-        }
-    }
-    if let Some(declared) = types.get(number) {
-        if let Some((_, by)) = extended_left(web, named, declared) {
-            member = by;
-        }
-    }
-    FaultPlace { number, member }
-}
-
 /// The numbers of the types that extend no other, and of others after all that they extend. What a
 /// circle leads to is left out.
 pub(crate) fn roots_first(
@@ -254,17 +180,4 @@ pub(crate) fn roots_first(
     let mut taken = Vec::new(alloc);
     take_all(&mut web, &mut taken)?;
     Ok(taken)
-}
-
-/// Where one of the types extends itself, perhaps by way of others: a type in a circle, and what it
-/// extends there.
-pub(crate) fn circle_place(
-    alloc: Global,
-    named: &NamedTypes<'_>,
-    types: &[TypeDeclaration],
-) -> Result<FaultPlace, AllocError> {
-    let mut web = web_of(alloc, named, types)?;
-    let mut taken = Vec::new(alloc);
-    take_all(&mut web, &mut taken)?;
-    Ok(place_left(&web, named, types))
 }

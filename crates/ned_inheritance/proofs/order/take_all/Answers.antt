@@ -3,6 +3,7 @@ use Rattle.ned_trees.specs.declared.declarations.TypeDeclaration.{TypeDeclaratio
 use Rattle.ned_inheritance.specs.Inheritance.{types_in}
 use Rattle.ned_inheritance.specs.Order.{AreStuck, IsUnderWay}
 use Rattle.ned_inheritance.proofs.ReadyLaws.{circle_told, order_circle, order_told}
+use Rattle.ned_inheritance.proofs.RoundLaws.{left_told}
 use Rattle.ned_inheritance.proofs.order.take_all.Goals as goal
 
 pub take_ready-requires-clause-way : goal.take_ready-requires-clause-way
@@ -19,6 +20,17 @@ returns-then-not-branch-clause-circle c =
     (subst (λ (ts : List TypeDeclaration). AreStuck ts order (types_in waiting)) c.requires.names (c.in_ok-take_ready.ensures.stuck c.if-not-branch.true))
     c.take_ready.new.waiting.ok.0
     c.is_empty-then-not-branch.ensures
+
+pub returns-then-not-branch-clause-left : goal.returns-then-not-branch-clause-left
+returns-then-not-branch-clause-left c = λ some.
+    let order = c.take_ready.new.order in
+    let waiting = c.take_ready.new.waiting.items in
+    left_told c.args.types.now order waiting _ c.is_empty-then-not-branch.result c.requires.apart
+    (subst (λ (ts : List TypeDeclaration). IsUnderWay ts order (types_in waiting)) c.requires.names c.in_ok-take_ready.ensures.way)
+    (subst (λ (ts : List TypeDeclaration). AreStuck ts order (types_in waiting)) c.requires.names (c.in_ok-take_ready.ensures.stuck c.if-not-branch.true))
+    c.take_ready.new.waiting.ok.0
+    c.is_empty-then-not-branch.ensures
+    some
 
 pub loop-alloc-preserved : goal.loop-alloc-preserved
 loop-alloc-preserved c =
