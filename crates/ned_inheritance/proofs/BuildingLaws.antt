@@ -253,7 +253,7 @@ flat_place : (types : List TypeDeclaration) (fault : TypeFault) (p : FaultPlace)
 flat_place types DuplicateType p none is = absurd is
 flat_place types UnknownType p none is = absurd is
 flat_place types InheritanceCircle p none is = absurd is
-flat_place types KindClash p none is = subst (λ o. IsClashPlace types o p) (sym none) tt
+flat_place types KindClash p none is = subst (λ o. IsClashPlace types o p) (sym none) is
 flat_place types Interface p none is = is
 
 pub built_flat : (types : List TypeDeclaration) (r : Result (List TypeDeclaration) BuildError) → base_fault types ≡ None → place_from (other_in types) 0 types ≡ None → AreFaultless (i.flat_types types) r → Builds types r

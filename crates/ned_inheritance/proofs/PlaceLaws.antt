@@ -3,6 +3,7 @@ use Rattle.std.proofs.Common.{◌≡◌, ℕ, zero, suc, ◌+◌, Bool, true, fa
 use Rattle.std.specs.Prelude.{is_err, is_some, Err, IfErr, Ok, Result}
 use Rattle.std.specs.List.{list_any}
 use Rattle.std.specs.Option.{option_map}
+use Rattle.std.proofs.lemmas.Bool.{false≢true}
 use Rattle.ned_trees.specs.declared.connections.ConnectionItem.{ConnectionItem}
 use Rattle.ned_trees.specs.declared.declarations.TypeDeclaration.{TypeDeclaration}
 use Rattle.ned_types.specs.Flat.{or_else}
@@ -13,11 +14,11 @@ use Rattle.ned_inheritance.specs.declared.places.FaultPlace.{FaultPlace}
 use Rattle.ned_inheritance.specs.Inheritance.{extends_other, extends_unknown}
 use Rattle.ned_inheritance.specs.Interfaces.{breaks_interface, has_broken, is_interface_for, keeps_other, lacks_any, lacks_gate, lacks_parameter, names_no_type}
 use Rattle.ned_inheritance.specs.Named.{is_other_named, is_unknown_named}
-use Rattle.ned_inheritance.specs.Places.{first_from, is_known, lacked_from, lacked_in, lacked_of_any, other_in, place_from, placed, unknown_channel_from, unknown_in}
+use Rattle.ned_inheritance.specs.Places.{clash_number, first_from, is_known, lacked_from, lacked_in, lacked_of_any, other_in, place_from, placed, unknown_channel_from, unknown_in}
 use Rattle.ned_inheritance.specs.declared.table.TypeFault.{TypeFault}
 use Rattle.ned_inheritance.specs.declared.table.TypeFault.TheVariants as fault
 use Rattle.ned_inheritance.specs.declared.table.BuildError.TheVariants.{Fault}
-use Rattle.ned_types.specs.Clashes.{connections_of, has_clash, has_unknown_channel, is_channel_unknown}
+use Rattle.ned_types.specs.Clashes.{clashes, connections_of, has_clash, has_unknown_channel, is_channel_unknown}
 use Rattle.ned_types.specs.Types.{has_duplicate}
 use Rattle.ned_inheritance.specs.Building.{base_fault, Builds, flat_fault, TellsFlat}
 use Rattle.ned_inheritance.specs.Circles.{IsCirclePlace}
@@ -206,8 +207,39 @@ none_found types apart none roots alike =
 abbrev flat_of : Bool → Bool → Option TypeFault
 flat_of clash broken = if clash then Some fault.KindClash else (if broken then Some fault.Interface else None)
 
-pub clash_tells : (types : List TypeDeclaration) (p : FaultPlace) → has_clash types ≡ true → TellsFlat types (Some (fault.KindClash, p))
-clash_tells types p clash = (ap (λ b. flat_of b (has_broken types)) clash, tt)
+-- a number is told exactly where one clashes
+pub clash_told : (types : List TypeDeclaration) → is_some (clash_number types) ≡ has_clash types
+clash_told types = picked (λ t. clashes types t) 0 types
+
+-- what is told of the first of these types that clashes
+pub clash_here : (types ts : List TypeDeclaration) (n : ℕ) (t : TypeDeclaration) (m : Option Member) (place : Option FaultPlace) (all : Option ℕ) → slice_get ts n ≡ Some t → place ≡ placed n m → is_some m ≡ clashes types t → is_some place ≡ true
+    → first_from (λ u. clashes types u) n (drop n ts) ≡ all → option_map (λ (p : FaultPlace). p.number) place ≡ all
+clash_here types ts n t None place all here is member found told = absurd (false≢true (sym (ap is_some is) ∙ found))
+clash_here types ts n t (Some m) place all here is member found told =
+    ap (option_map (λ (p : FaultPlace). p.number)) is
+    ∙ ap (λ b. if b then Some n else first_from (λ u. clashes types u) (suc n) (drop (suc n) ts)) member
+    ∙ ap (first_from (λ u. clashes types u) n) (sym (drop_at ts n t here))
+    ∙ told
+
+-- and of one that does not
+pub clash_passed : (types : List TypeDeclaration) (n : ℕ) (t : TypeDeclaration) (m : Option Member) (place : Option FaultPlace) → place ≡ placed n m → is_some m ≡ clashes types t → is_some place ≡ false → clashes types t ≡ false
+clash_passed types n t None place is member none = sym member
+clash_passed types n t (Some m) place is member none = absurd (false≢true (sym none ∙ ap is_some is))
+
+pub clash_tells : (types : List TypeDeclaration) (p : FaultPlace) → clash_number types ≡ Some p.number → TellsFlat types (Some (fault.KindClash, p))
+clash_tells types p found = (ap (λ b. flat_of b (has_broken types)) (sym (clash_told types) ∙ ap is_some found), found)
+
+pub no_clash_told : (types : List TypeDeclaration) → clash_number types ≡ None → has_clash types ≡ false
+no_clash_told types none = sym (clash_told types) ∙ ap is_some none
+
+-- what is answered of a clash, where these are the types by their names
+pub clash_answered : (named types : List TypeDeclaration) (place : Option FaultPlace) (p : FaultPlace) → named ≡ types → option_map (λ (q : FaultPlace). q.number) place ≡ first_from (λ t. clashes named t) 0 types → place ≡ Some p → TellsFlat types (Some (fault.KindClash, p))
+clash_answered named types place p names told is =
+    clash_tells types p (ap (λ (ns : List TypeDeclaration). first_from (λ t. clashes ns t) 0 types) (sym names) ∙ sym told ∙ ap (option_map (λ (q : FaultPlace). q.number)) is)
+
+pub no_clash_answered : (named types : List TypeDeclaration) (place : Option FaultPlace) → named ≡ types → option_map (λ (q : FaultPlace). q.number) place ≡ first_from (λ t. clashes named t) 0 types → place ≡ None → has_clash types ≡ false
+no_clash_answered named types place names told is =
+    no_clash_told types (ap (λ (ns : List TypeDeclaration). first_from (λ t. clashes ns t) 0 types) (sym names) ∙ sym told ∙ ap (option_map (λ (q : FaultPlace). q.number)) is)
 
 pub lacked_tells : (types : List TypeDeclaration) (p : FaultPlace) → has_clash types ≡ false → place_from (lacked_in types) 0 types ≡ Some p → TellsFlat types (Some (fault.Interface, p))
 lacked_tells types p none found =

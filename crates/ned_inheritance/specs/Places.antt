@@ -4,7 +4,7 @@ use Rattle.std.specs.Prelude.{if◌then◌else◌}
 use Rattle.std.specs.Option.{option_map}
 use Rattle.ned_trees.specs.declared.connections.ConnectionItem.{ConnectionItem}
 use Rattle.ned_trees.specs.declared.declarations.TypeDeclaration.{TypeDeclaration}
-use Rattle.ned_types.specs.Clashes.{connections_of, is_channel_unknown}
+use Rattle.ned_types.specs.Clashes.{clashes, connections_of, is_channel_unknown}
 use Rattle.ned_types.specs.Flat.{or_else}
 use Rattle.ned_types.specs.Types.{is_built_in, is_inner_network, is_submodule_known, is_type_named}
 use Rattle.ned_types.specs.Types.{type_named}
@@ -13,7 +13,7 @@ use Rattle.ned_inheritance.specs.declared.places.Member.TheVariants.{Whole, Base
 use Rattle.ned_inheritance.specs.declared.places.Member.TheVariants.{Submodule, Channel}
 use Rattle.ned_inheritance.specs.declared.places.Member.TheVariants.{LacksParameter, LacksGate}
 use Rattle.ned_inheritance.specs.declared.places.FaultPlace.{FaultPlace}
-use Rattle.ned_inheritance.specs.Inheritance.{extends_other, extends_unknown}
+use Rattle.ned_inheritance.specs.Inheritance.{extends_other, extends_unknown, flat_types}
 use Rattle.ned_inheritance.specs.Interfaces.{is_interface_for, lacks_gate, lacks_parameter}
 
 -- the number of the first of these that is picked, where they are counted on from a number
@@ -94,7 +94,12 @@ duplicate_from seen n [] = None
 duplicate_from seen n (t ∷ ts) = if is_built_in t.name || is_type_named t.name seen then Some n
     else duplicate_from (seen ++ t ∷ []) (suc n) ts
 
--- the place of a clash is the first of names and kinds; where there is none it is one of flat types
+-- A CLASH: the number of the first of these flat types that has one
+abbrev pub clash_number : List TypeDeclaration → Option ℕ
+clash_number types = first_from (λ t. clashes types t) 0 types
+
+-- the place of a clash is the first of names and kinds; where there is none it is in the first flat
+-- type that has one
 abbrev pub IsClashPlace : List TypeDeclaration → Option FaultPlace → FaultPlace → Type 0
 IsClashPlace types (Some first) p = first ≡ p
-IsClashPlace types None p = Unit {0}
+IsClashPlace types None p = clash_number (flat_types types) ≡ Some p.number

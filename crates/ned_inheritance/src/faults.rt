@@ -12,7 +12,7 @@ ghost use Rattle.ned_inheritance.specs.Order.{IsOrder};
 ghost use Rattle.ned_inheritance.specs.Building.{Builds, BuildsChanged, AnswersTable};
 ghost use Rattle.ned_inheritance.specs.Building.{AreFaultless, KeepRules, TellsFlat};
 ghost use Rattle.ned_types.specs.WellFormed.{IsWellFormed};
-ghost use Rattle.std.specs.List.{list_any};
+ghost use Rattle.std.specs.Option.{option_map};
 ghost use Rattle.ned_inheritance.specs.Named.{is_other_named, is_unknown_named};
 ghost use Rattle.ned_inheritance.specs.Places.{first_from, other_in, place_from, placed};
 ghost use Rattle.ned_inheritance.specs.Places.{unknown_in};
@@ -261,7 +261,6 @@ fn flat_fault(
 }
 
 /// The first fault of flat types, which these are by their names, and its place.
-#[tactic(auto, using(crate::proofs::PlaceLaws::clash_tells))]
 fn flat_fault_by(
     alloc: Global,
     named: &NamedTypes<'_>,
@@ -293,23 +292,21 @@ fn later_fault(
     }
 }
 
-/// The first place where one of these flat types has a clash.
+/// Where the first of these flat types that has a clash has one.
+#[tactic(auto, using(crate::proofs::PlaceLaws::clash_here))]
 fn clash_place(
     alloc: Global,
     named: &NamedTypes<'_>,
     types: &[TypeDeclaration],
 ) -> Result<Option<FaultPlace>, AllocError>
-    ensures { IfOk result (λ place. is_some place ≡ list_any (λ t. clashes named.now t) types.now) }
+    ensures { IfOk result (λ place. option_map (λ p. p.number) place
+        ≡ first_from (λ t. clashes named.now t) 0 types.now) }
 {
-    let mut number = 0usize;
-    let mut rest = types;
-    'types: while let Some((declared, after)) = rest.split_first() {
+    for (number, declared) in types.iter().enumerate() {
         let place = placed(number, clash_in(alloc, named, declared)?);
         if place.is_some() {
             return Ok(place);
         }
-        number = number.saturating_add(1);
-        rest = after;
     }
     Ok(None)
 }
