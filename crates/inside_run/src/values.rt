@@ -1,7 +1,7 @@
 //! Values of keys.
 
 ghost use Rattle.std.specs.Prelude.{◌≡◌, ◌+◌, [], Ok, Some, IfOk, IfSome, OnOk, length};
-ghost use Rattle.param_engine.specs.Tables.{IsKept, Begins, found_in};
+ghost use Rattle.param_engine.specs.Tables.{IsFoundAt, IsKept, Begins, found_in};
 ghost use Rattle.param_engine.specs.Working.{AreBegunOnce};
 ghost use Rattle.inside_keys.specs.Values.{rules_of, value_at};
 
@@ -36,6 +36,9 @@ pub fn value_of<S: ModuleSource>(
     requires { IsKept (rules_of (S.setting scene.now)) table.old.entries }
     ensures value { IfOk result
         (λ found. found_in table.new.entries found ≡ Some (value_at (S.setting scene.now) key)) }
+    // The place is that of the key, and its value there is the one that is known of it.
+    ensures there { IfOk result (λ found. IfOk found
+        (IsFoundAt (rules_of (S.setting scene.now)).same table.new.entries key)) }
     ensures kept { IsKept (rules_of (S.setting scene.now)) table.new.entries }
     ensures begins { Begins table.old.entries table.new.entries }
     // Each key was evaluated once at most: where there is a value, those that were added.

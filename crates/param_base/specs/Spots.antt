@@ -35,14 +35,14 @@ abbrev pub found_at : {K V F : Type 0} → Keeping K V → Entries K V → Resul
 found_at kept es (Ok s) = said (value_at_spot kept es s)
 found_at kept es (Err f) = Some (Err f)
 
--- WHAT IS FOUND IS THE VALUE of the key, or its fault: wherever the base knows it, and wherever the
--- bound of the definition is enough without the base.
+-- WHAT IS FOUND IS THE VALUE of the key. What is no value is its fault, wherever the bound of the
+-- definition is enough without the base.
 abbrev pub IsValueOver : {K V F : Type 0} → Rules K V F → Keeping K V → Entries K V → K
     → Result Spot F → Type 0
 IsValueOver rules kept es key (Ok (spot.Kept p)) =
     found_at kept es (Ok (spot.Kept p)) ≡ Some (value_of rules key)
 IsValueOver rules kept es key (Ok (spot.Own p)) =
-    IsWithin rules key → found_at kept es (Ok (spot.Own p)) ≡ Some (value_of rules key)
+    found_at kept es (Ok (spot.Own p)) ≡ Some (value_of rules key)
 IsValueOver rules kept es key (Err f) = IsWithin rules key → value_of rules key ≡ Err f
 
 -- THE BASE COMES FIRST: what it knows is answered from it, and stands there and counts; only what

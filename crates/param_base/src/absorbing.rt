@@ -11,9 +11,9 @@ ghost use Rattle.param_keeping.specs.Added.{KnowsTheSame};
 ghost use Rattle.param_keeping.specs.Stores.{store_of, AreOne, IsShaped};
 ghost use Rattle.rest_index.specs.Rests.{is_among, is_live};
 
-use indexmap::IndexMap;
 use param_engine::asker::Asker;
 use param_engine::finished::Finished;
+use param_engine::table::Table;
 use param_keeping::laws::{same_is_kept, steps_are_places};
 use param_keeping::table::Kept;
 use sim_values::NoMemory;
@@ -82,7 +82,7 @@ pub fn absorb<A: Asker>(
     _asker: &A,
     kept: &mut Kept<A::Key, A::Value>,
     live: &mut Items<bool>,
-    found: IndexMap<A::Key, Finished<A::Value>>,
+    found: Table<A::Key, A::Value>,
 ) -> Result<(), NoMemory>
     requires base { IsBase (ruled A.Key.eq (A.asking _asker.now) (A.circle _asker.now))
         kept.old live.old }
@@ -102,7 +102,7 @@ pub fn absorb<A: Asker>(
     steps_are_places::<A::Key, A::Value, A::Fault>();
     same_is_kept::<A::Key, A::Value, A::Fault>();
     let mut places = Items::new(alloc);
-    let mut rest = found.into_iter();
+    let mut rest = found.into_entries().into_iter();
     'entries: while let Some((key, finished)) = rest.next() {
         let place = put(alloc, kept, live, places.as_slice(), key, finished)?;
         places.push(place)?;

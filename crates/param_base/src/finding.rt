@@ -68,7 +68,10 @@ pub fn value_over<A: CopyingAsker>(
     }
     let over = OverBase { asker, kept, live };
     match value_of(alloc, &over, table, key)? {
-        Ok(place) => Ok(Ok(Spot::Own(place))),
+        Ok(place) => {
+            let _len = table.len();
+            Ok(Ok(Spot::Own(place)))
+        }
         Err(fault) => Ok(Err(fault)),
     }
 }

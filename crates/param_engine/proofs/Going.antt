@@ -178,6 +178,7 @@ module _ {K V F E : Type 0} (rules : Rules K V F) (resumed : E → V → Asking 
         begins = g.begins;
         once = left_over (Done (Err f)) k os g;
         counted = tt;
+        there = tt;
       }
 
       -- one that waits for itself is a circle
@@ -193,6 +194,7 @@ module _ {K V F E : Type 0} (rules : Rules K V F) (resumed : E → V → Asking 
         begins = g.begins;
         once = left_over (Ask j rest) k os g;
         counted = tt;
+        there = tt;
       }
 
       -- ---- how it goes on
@@ -287,6 +289,11 @@ module _ {K V F E : Type 0} (rules : Rules K V F) (resumed : E → V → Asking 
             begins = closed_begins v k [] g;
             once = ([], omega (arith, counted), tt, λ s on. absurd (true≢false (sym on)));
             counted = counted;
+            there = (
+              (k, ap key_of_entry (slice_get_last es (k, record { value = v; asked = places })), subst (λ j. rules.same j k ≡ true) g.bottom (exact.self k)),
+              ap (known rules.same (es ++ (k, record { value = v; asked = places }) ∷ [])) (sym g.bottom) ∙ here v k [] g
+                  ∙ sym (ap value_of_entry (slice_get_last es (k, record { value = v; asked = places }))),
+            );
           }))
         where
           same_key : k ≡ key

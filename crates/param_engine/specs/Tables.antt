@@ -57,6 +57,10 @@ asked_at es place = places_in (slice_get es place)
 abbrev pub IsAt : {K V : Type 0} → (K → K → Bool) → Entries K V → K → ℕ → Type 0
 IsAt {K} same es k place = (stored : K) × (key_at es place ≡ Some stored) × (same k stored ≡ true)
 
+-- what stands at a place is what is known of a key, which stands there
+abbrev pub IsFoundAt : {K V : Type 0} → (K → K → Bool) → Entries K V → K → ℕ → Type 0
+IsFoundAt same es k place = IsAt same es k place × (known same es k ≡ value_at es place)
+
 -- A key with its value and what it asked for, after the entries that were found before it: its
 -- value is what its asking comes to, and the places are those of the keys that it asks for, in
 -- order, all among the entries before it.

@@ -1,6 +1,6 @@
 -- Keys that are being evaluated over a table.
 use Rattle.std.specs.Prelude.{ℕ, ◌+◌, ◌≡◌, Bool, true, false, List, [], ◌∷◌, ◌++◌, length, map}
-use Rattle.std.specs.Prelude.{Result, Option, Some, None, OnOk}
+use Rattle.std.specs.Prelude.{Result, Option, Some, None, IfOk, OnOk}
 use Rattle.param_following.specs.Asking.{Asking, Ask}
 use Rattle.param_following.specs.Edits.{asked_by}
 use Rattle.param_following.specs.Following.{Rules, is_on, value_of}
@@ -8,7 +8,7 @@ use Rattle.param_following.specs.Waiting.{ComesTo, Waiter, keys_of, AreWaiting, 
 use Rattle.param_engine.specs.declared.frame.Frame.{Frame}
 use Rattle.param_engine.specs.declared.turn.EngineStep.{EngineStep}
 use Rattle.param_engine.specs.declared.turn.EngineStep.TheVariants as turn
-use Rattle.param_engine.specs.Tables.{Entries, known, keys_at, IsKept, Begins, found_in}
+use Rattle.param_engine.specs.Tables.{Begins, Entries, IsFoundAt, IsKept, found_in, keys_at, known}
 
 -- what each key asks, and which keys are the same
 abbrev pub ruled : {K V F : Type 0} → (K → K → Bool) → (K → Asking K V F V) → F → Rules K V F
@@ -98,8 +98,8 @@ AreBegunOnce {K} rules start es begun =
     × ((s : K) → is_on rules.same s left ≡ true → known rules.same es s ≡ None)
 
 -- What is answered to a question about a key, with a table that began as `start`: its value, which
--- stands in the table, or its fault. The table may be kept, and each key was evaluated once at
--- most: where there is a value, those that were added.
+-- stands in the table, at the key's place, or its fault. The table may be kept, and each key was
+-- evaluated once at most: where there is a value, those that were added.
 pub record IsAnswered {K V F : Type 0} (rules : Rules K V F) (start : Entries K V) (asked : K)
     (es : Entries K V) (begun : ℕ) (found : Result ℕ F) : Type 0 where
   pub value : found_in es found ≡ Some (value_of rules asked)
@@ -107,3 +107,4 @@ pub record IsAnswered {K V F : Type 0} (rules : Rules K V F) (start : Entries K 
   pub begins : Begins start es
   pub once : AreBegunOnce rules start es begun
   pub counted : OnOk found (begun + length start ≡ length es)
+  pub there : IfOk found (IsFoundAt rules.same es asked)

@@ -5,7 +5,7 @@ ghost use Rattle.std.specs.Prelude.{◌≡◌, ◌+◌, ◌<◌, ◌≤◌, ◌^
 ghost use Rattle.std.specs.Prelude.{IfOk, OnOk, OnErr, length, zero};
 ghost use Rattle.std.specs.List.{list_any};
 ghost use Rattle.param_following.specs.Following.{value_of};
-ghost use Rattle.param_engine.specs.Tables.{known, key_at, IsKept, Begins, found_in};
+ghost use Rattle.param_engine.specs.Tables.{known, key_at, IsFoundAt, IsKept, Begins, found_in};
 ghost use Rattle.param_engine.specs.Turns.{came_to, asks};
 ghost use Rattle.param_engine.specs.Working.{ruled, GoesOn, IsHeldUp, AreBegunOnce, IsAnswered};
 ghost use Rattle.param_engine.specs.Steps.{Steps, Falls, StopsShort, IsBusy};
@@ -257,6 +257,9 @@ pub fn value_of<A: Asker>(
     requires { IsKept (ruled A.Key.eq (A.asking asker.now) (A.circle asker.now)) table.old.entries }
     ensures value { IfOk result (λ found. found_in table.new.entries found
         ≡ Some (value_of (ruled A.Key.eq (A.asking asker.now) (A.circle asker.now)) key)) }
+    // The place is that of the key, and its value there is the one that is known of it.
+    ensures there { IfOk result
+        (λ found. IfOk found (IsFoundAt A.Key.eq table.new.entries key)) }
     ensures kept { IsKept (ruled A.Key.eq (A.asking asker.now) (A.circle asker.now))
         table.new.entries }
     ensures begins { Begins table.old.entries table.new.entries }

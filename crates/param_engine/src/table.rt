@@ -82,6 +82,14 @@ impl<K: Eq + Hash + Drop, V: Drop> Table<K, V> {
         Some(finished.asked.as_slice())
     }
 
+    /// The entries, in the order in which their values were found.
+    pub fn into_entries(self) -> IndexMap<K, Finished<V>>
+        ensures { result.entries ≡ self.entries }
+    {
+        let Table { finished, begun: _ } = self;
+        finished
+    }
+
     /// Notes the value of a key of which none is known, at the end.
     pub(crate) fn note(&mut self, key: K, value: V, asked: Items<usize>) -> Result<usize, NoMemory>
         requires { known K.eq self.old.entries key ≡ None }

@@ -1,4 +1,6 @@
-use Rattle.std.proofs.Common.{refl, sym, ap, ◌∙◌}
+use Rattle.std.proofs.Common.{refl, sym, ap, subst, ◌∙◌}
+use Rattle.std.specs.List.{IsDistinct}
+use Rattle.std.specs.Map.{keys_of}
 use Rattle.param_following.specs.Laws.{IsExact}
 use Rattle.param_engine.specs.Working.{ruled}
 use Rattle.param_keeping.specs.Stores.{store_of}
@@ -12,8 +14,8 @@ entries-init g c =
     let asker = c.args._asker.now in
     let rules = ruled g.A.Key.PartialEq.eq (g.A.Asker.asking asker) (g.A.Asker.circle asker) in
     let exact : IsExact rules = record { same = g.met.A.Asker.exact; self = g.met.A.Key.Eq.laws.refl } in (
-      put_start rules exact c.args.kept.now c.args.live.now c.args.found.entries c.requires.found c.requires.base _ _ c.into_iter-rest.ensures.into_iter_gives.0 c.new-places.ensures,
-      ap (λ l. counted_with (known_by g.A.Key.PartialEq.eq c.args.kept.now c.args.live.now) l c.args.kept.now.evaluations) c.into_iter-rest.ensures.into_iter_gives.0,
+      put_start rules exact c.args.kept.now c.args.live.now c.args.found.entries c.requires.found c.requires.base _ _ (c.into_iter-rest.ensures.into_iter_gives.0 ∙ c.into_entries.ensures) c.new-places.ensures,
+      ap (λ l. counted_with (known_by g.A.Key.PartialEq.eq c.args.kept.now c.args.live.now) l c.args.kept.now.evaluations) (c.into_iter-rest.ensures.into_iter_gives.0 ∙ c.into_entries.ensures),
     )
 
 pub put-requires-clause-counts : goal.put-requires-clause-counts
@@ -36,7 +38,7 @@ entries-preserved g c =
           c.in_ok-place.place (store_of c.put.new.kept c.put.new.live) c.push.new.self c.in_ok-push.ensures.ok c.in_ok-place.ensures.put,
       put_counted rules exact c.args.kept.now c.args.live.now c.args.found.entries c.requires.found
           c.entries.rest c.entries.places (store_of c.entries.kept c.entries.live) c.entries.invariant.0
-          c.in-Some.key c.in-Some.finished c.next.new.self c.in-Some.ensures.steps c.as_slice.result.now c.as_slice.ensures (c.steps_are_places.ensures rules) c.into_iter-rest.ensures.into_iter_gives.4 _ _ c.in_ok-place.ensures.counted
+          c.in-Some.key c.in-Some.finished c.next.new.self c.in-Some.ensures.steps c.as_slice.result.now c.as_slice.ensures (c.steps_are_places.ensures rules) (subst (λ es. IsDistinct g.A.Key.PartialEq.eq (keys_of es)) c.into_entries.ensures c.into_iter-rest.ensures.into_iter_gives.4) _ _ c.in_ok-place.ensures.counted
           ∙ c.entries.invariant.1,
     )
 
