@@ -116,7 +116,7 @@ impl<C: Catalogue> Runner<C> {
             ≡ settled (prepared M.answers)) }
     {
         self.waiting.clear();
-        let mut answers = AskedModel::<M>::new(alloc, model)?;
+        let mut answers = AskedModel::<M>::new(model);
         self.kernel.setup(alloc, &mut answers)
     }
 
@@ -588,7 +588,7 @@ impl<C: Catalogue> Runner<C> {
                 request,
             })),
             RunStatus::Done(None) => {
-                let mut answers = AskedModel::<M>::new(alloc, model)?;
+                let mut answers = AskedModel::<M>::new(model);
                 let status = self.run_to_end(alloc, &mut answers, shown, limit, observer)?;
                 Ok(progress_of(None, self.kernel.count(), status))
             }
@@ -637,7 +637,7 @@ impl<C: Catalogue> Runner<C> {
                 request,
             })),
             RunStatus::Done(Some(start)) => {
-                let mut answers = AskedModel::<M>::new(alloc, model)?;
+                let mut answers = AskedModel::<M>::new(model);
                 keep_shown(alloc, shown, modules, self.kernel.records().len());
                 let status = self.run_on(alloc, &mut answers, shown, limit, observer)?;
                 Ok(progress_of(Some(start), self.kernel.count(), status))
@@ -681,7 +681,7 @@ impl<C: Catalogue> Runner<C> {
             IfOk result (λ progress. IsShownAfter M.answers left.records shown.new progress) }
     {
         self.stood = Stood::After(at.count);
-        let mut answers = AskedModel::<M>::new(alloc, model)?;
+        let mut answers = AskedModel::<M>::new(model);
         if at.declined && at.count < limit {
             let outcome = self.run_refused(alloc, &mut answers, shown, limit)?;
             return Ok(Progress::Done(Ended {

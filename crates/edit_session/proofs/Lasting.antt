@@ -68,6 +68,6 @@ touches m new (edit.RemoveConnection name place) h = ini_of m new (edit.RemoveCo
 touches m new (edit.SelectConfig name) h = (types_stay m new (edit.SelectConfig name) h h.behind.0.1, ini_of m new (edit.SelectConfig name) h ∙ h.behind.1)
 touches m new (edit.Inject path due kind bits payload) h =
     let i = next_injection m path due kind bits payload in
-    subst (IsTouched (touched_by (edit.Inject path due kind bits payload)) m) (sym h.1) (with_one_more m i, refl)
+    subst (IsTouched (touched_by (edit.Inject path due kind bits payload)) m) (sym h.1) (with_one_more m i, record { types = refl; ini = refl; chain = refl })
 touches m new (edit.Withdraw number) h =
-    subst (IsTouched (touched_by (edit.Withdraw number)) m) (sym h.1) (with_others m (without number m.injections), refl)
+    subst (IsTouched (touched_by (edit.Withdraw number)) m) (sym h.1) (with_others m (without number m.injections), record { types = refl; ini = refl; chain = refl })

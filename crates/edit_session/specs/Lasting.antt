@@ -20,9 +20,15 @@ touched_by (edit.SelectConfig name) = touched.Selection
 touched_by (edit.Inject path due kind bits payload) = touched.Messages
 touched_by (edit.Withdraw number) = touched.Messages
 
+-- a model has the types of another, its ini text, and the entries along its chain
+pub record IsOfSameText (m new : Model) : Type 0 where
+  pub types : new.types ≡ m.types
+  pub ini : new.ini ≡ m.ini
+  pub chain : new.chain ≡ m.chain
+
 -- what stays of a model, and what is known of the new one, where so much was changed
 abbrev pub IsTouched : Touched → Model → Model → Type 0
-IsTouched touched.Messages m new = RestOnSame m new × (new.ini ≡ m.ini)
+IsTouched touched.Messages m new = RestOnSame m new × IsOfSameText m new
 IsTouched touched.Lines m new = (m.types ≡ new.types) × AreSaid new.ini
 IsTouched touched.Selection m new = (m.types ≡ new.types) × (new.ini ≡ m.ini)
 IsTouched touched.Files m new = new.ini ≡ m.ini

@@ -167,27 +167,49 @@ impl SessionModel {
     {
         let same = self.lasts(&model, touched);
         let is_read = self.stays_read(&model, touched);
-        let evaluated = self.with_values(alloc, model, same)?;
+        let evaluated = self.with_values(alloc, model, touched, same)?;
         Ok(Following {
             model: SessionModel { evaluated, is_read },
             same,
         })
     }
 
-    /// A model, with the values of this one, where they stay, or with those that are found for it.
+    /// A model, of which an edit of this one changed so much, with what stays of this one. The
+    /// values are found anew unless it is known that they stay.
     fn with_values(
+        &self,
+        alloc: Global,
+        model: Model,
+        touched: Touched,
+        same: bool,
+    ) -> Result<EvaluatedModel, NoMemory>
+        requires touched { IsTouched touched self.now model }
+        requires same { same ≡ true → RestOnSame self.now model }
+        ensures { IfOk result (λ evaluated. evaluated ≡ model) }
+    {
+        match touched {
+            Touched::Messages => self.evaluated.with_same_text(model),
+            Touched::Lines => self.with_lines(alloc, model, same),
+            Touched::Selection => self.with_lines(alloc, model, same),
+            Touched::Files => EvaluatedModel::new(alloc, model),
+        }
+    }
+
+    /// A model of the same types, with the values of this one, where they stay.
+    fn with_lines(
         &self,
         alloc: Global,
         model: Model,
         same: bool,
     ) -> Result<EvaluatedModel, NoMemory>
-        requires { same ≡ true → RestOnSame self.now model }
+        requires types { self.now.types ≡ model.types }
+        requires same { same ≡ true → RestOnSame self.now model }
         ensures { IfOk result (λ evaluated. evaluated ≡ model) }
     {
         if same {
-            self.evaluated.with_same_values(model)
+            self.evaluated.with_same_values(alloc, model)
         } else {
-            EvaluatedModel::new(alloc, model)
+            self.evaluated.with_same_types(alloc, model)
         }
     }
 }

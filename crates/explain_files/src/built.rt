@@ -15,6 +15,7 @@ use inside_run::scene::ModuleSource;
 use inside_run::values::{empty_table, value_of};
 use model_data::model::Model;
 use model_settings::setting::ModelSetting;
+use model_settings::tables::ModelTables;
 use ned_trees::declarations::{TypeDeclaration, TypeKind};
 use param_engine::table::Table;
 use sim_values::NoMemory;
@@ -185,7 +186,8 @@ fn paths_of(alloc: Global, model: &Model, lines: usize) -> Result<Option<Paths>,
     let Some(network) = model.network() else {
         return Ok(None);
     };
-    let setting = ModelSetting::new(alloc, model)?;
+    let tables = ModelTables::new(alloc, model)?;
+    let setting = ModelSetting::new(model, &tables);
     let mut paths = Paths::new(alloc);
     let most = MOST_TRIES / lines.max(1);
     if push_network(&mut paths, alloc, &setting, network, most)? {

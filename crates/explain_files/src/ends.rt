@@ -8,7 +8,6 @@ use inside_keys::found::Found;
 use inside_keys::key::{Key, What};
 use inside_run::values::{empty_table, value_of};
 use model_answers::plain::PlainAnswers;
-use model_settings::setting::ModelSetting;
 use ned_trees::connections::{
     Arrow, Connection, ConnectionItem, ConnectionLine, End, GateIndex, Half, Owner,
 };
@@ -90,11 +89,11 @@ fn type_of_owner<'a>(
 
 /// How many elements the vector of submodules of that name has, where that has a value.
 fn size_of_vector(alloc: Global, it: Around<'_>, name: &Text) -> Result<Option<i64>, NoMemory> {
-    let setting = ModelSetting::new(alloc, it.answers.model())?;
-    let mut table = empty_table(alloc, &setting);
+    let setting = it.answers.setting();
+    let mut table = empty_table(alloc, setting);
     let site = module_of(alloc, it.path)?;
     let what = What::VectorSize(name.copy(alloc)?);
-    let Ok(place) = value_of(alloc, &setting, &mut table, Key { site, what })? else {
+    let Ok(place) = value_of(alloc, setting, &mut table, Key { site, what })? else {
         return Ok(None);
     };
     match table.value(place) {

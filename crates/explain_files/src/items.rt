@@ -3,6 +3,7 @@
 use crate::modules::placed_at;
 use model_data::model::Model;
 use model_settings::setting::ModelSetting;
+use model_settings::tables::ModelTables;
 use ned_inheritance::table::{BuildError, flat_types};
 use ned_scopes::copies::copy_type;
 use ned_trees::declarations::TypeDeclaration;
@@ -84,7 +85,8 @@ fn has_fault(
     path: &[u8],
     fault: ModelFault,
 ) -> Result<bool, NoMemory> {
-    let setting = ModelSetting::new(alloc, model)?;
+    let tables = ModelTables::new(alloc, model)?;
+    let setting = ModelSetting::new(model, &tables);
     match placed_at(alloc, &setting, path)? {
         Ok(_) => Ok(false),
         Err((told, found)) => Ok(told.is(path) && found == fault),

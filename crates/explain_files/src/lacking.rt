@@ -218,8 +218,8 @@ pub fn lacking_gate(
     path: &[u8],
     of: &TypeDeclaration,
 ) -> Result<Option<Lacking>, NoMemory> {
-    let setting = ModelSetting::new(alloc, answers.model())?;
-    let Some(part) = lacking_part(alloc, &setting, path, of)? else {
+    let setting = answers.setting();
+    let Some(part) = lacking_part(alloc, setting, path, of)? else {
         return Ok(None);
     };
     match setting.types().get(part.of_type) {

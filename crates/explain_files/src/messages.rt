@@ -14,6 +14,7 @@ use model_questions::record::{MAX_NESTING, Origin, Record, path_of};
 use model_reading::begin::model_of;
 use model_settings::setting::ModelSetting;
 use model_settings::standings::{index_in, name_in};
+use model_settings::tables::ModelTables;
 use ned_trees::declarations::{TypeDeclaration, TypeKind};
 use sim_values::NoMemory;
 use sim_values::model_fault::ModelFault;
@@ -21,6 +22,7 @@ use sim_values::text::Text;
 use sim_values::value::Value;
 use sqlite_items::Items;
 use std::alloc::Global;
+use std::marker;
 
 /// What stands at a path.
 #[derive(Clone, Copy, PartialEq, Eq)]
@@ -186,20 +188,62 @@ fn tell_standing(told: &mut Explanation, path: &[u8], standing: PathEnd) {
     told.say(": as the model is now, the message is discarded");
 }
 
-/// The model in which messages arrive. Files that make no model have none.
-#[derive(Drop)]
-pub struct MessageModel {
-    model: Option<Model>,
+/// A model, with what is looked up of it.
+struct TabledModel {
+    model: Model,
+    tables: ModelTables,
     /// Modules may be created in its network.
     creates: bool,
 }
 
-/// Whether modules may be created in the network of a model, where there is one.
-fn creates_in(alloc: Global, model: &Option<Model>) -> Result<bool, NoMemory> {
-    match model {
-        Some(model) => may_create(alloc, model),
-        None => Ok(false),
+// Written out, so that a crate which drops one need not prove what that does.
+impl Drop for TabledModel {
+    fn drop(self) {
+        let TabledModel {
+            model: _,
+            tables: _,
+            creates: _,
+        } = self;
     }
+}
+
+// Contracts see the model.
+impl marker::Model for TabledModel {
+    ghost use Rattle.model_data.specs.declared.model.Model.{Model};
+    ghost use Rattle.model_data.specs.contracts.model.Model.{the_row};
+    ghost use Rattle.model_settings.specs.Tables.{AreTablesOf};
+
+    ghost Value = { Model };
+
+    ghost coded = { the_row.coded };
+
+    ghost view = { λ a. a.model };
+
+    ghost invariant = { λ a. AreTablesOf a.model a.tables };
+}
+
+impl TabledModel {
+    /// All that is looked up of a model.
+    fn new(alloc: Global, model: Model) -> Result<TabledModel, NoMemory> {
+        let creates = may_create(alloc, &model)?;
+        let tables = ModelTables::new(alloc, &model)?;
+        Ok(TabledModel {
+            model,
+            tables,
+            creates,
+        })
+    }
+
+    /// What the values of the model rest on.
+    fn setting(&self) -> ModelSetting<'_> {
+        ModelSetting::new(&self.model, &self.tables)
+    }
+}
+
+/// The model in which messages arrive. Files that make no model have none.
+#[derive(Drop)]
+pub struct MessageModel {
+    model: Option<TabledModel>,
 }
 
 impl MessageModel {
@@ -207,11 +251,10 @@ impl MessageModel {
     pub fn new(alloc: Global, sources: &Sources<'_>) -> Result<MessageModel, NoMemory> {
         let config = sources.config.as_bytes();
         let model = match model_of(alloc, sources.texts, sources.ini, config) {
-            Ok(model) => Some(model),
+            Ok(model) => Some(TabledModel::new(alloc, model)?),
             Err(_) => None,
         };
-        let creates = creates_in(alloc, &model)?;
-        Ok(MessageModel { model, creates })
+        Ok(MessageModel { model })
     }
 
     /// What is said of a message to that path: that it is discarded, where no simple module stands
@@ -219,8 +262,7 @@ impl MessageModel {
     pub fn discarded_line(&self, alloc: Global, path: &[u8]) -> Result<Text, NoMemory> {
         let mut told = Explanation::new(alloc);
         if let Some(model) = &self.model {
-            let setting = ModelSetting::new(alloc, model)?;
-            let standing = standing_at(alloc, &setting, shown(path), self.creates)?;
+            let standing = standing_at(alloc, &model.setting(), shown(path), model.creates)?;
             tell_standing(&mut told, path, standing);
         }
         told.said()

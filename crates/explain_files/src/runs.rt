@@ -691,7 +691,7 @@ fn tell_fault(
     classes: &[&[u8]],
 ) -> Result<(), NoMemory> {
     let model = EvaluatedModel::new(told.alloc(), model)?;
-    let answers = PlainAnswers::new(told.alloc(), &model)?;
+    let answers = PlainAnswers::new(&model);
     let found = found_at(told.alloc(), &answers, fault.path.as_bytes())?;
     tell_found(told, sources, &answers, found, fault, classes)
 }

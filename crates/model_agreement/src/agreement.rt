@@ -181,7 +181,7 @@ pub fn agreement(
     ensures { IfOk result (λ valid. IsAgreement (answers_of one.now) (answers_of other.now)
         records.now last (noted_in asked.now) valid) }
 {
-    let first = PlainAnswers::new(alloc, one)?;
-    let second = PlainAnswers::new(alloc, other)?;
+    let first = PlainAnswers::new(one);
+    let second = PlainAnswers::new(other);
     agreed_up_to(alloc, &first, &second, same, records, asked, last)
 }

@@ -31,14 +31,13 @@ impl<'m, M: ModelMarker> Drop for AskedModel<'m, M> {
 
 impl<'m, M: ModelMarker> AskedModel<'m, M> {
     /// The answers of a model.
-    pub fn new(alloc: Global, model: &'m EvaluatedModel) -> Result<AskedModel<'m, M>, NoMemory>
+    pub fn new(model: &'m EvaluatedModel) -> AskedModel<'m, M>
         requires { answers_of model.now ≡ M.answers }
     {
-        let plain = PlainAnswers::new(alloc, model)?;
-        Ok(AskedModel {
-            plain,
+        AskedModel {
+            plain: PlainAnswers::new(model),
             of: PhantomData,
-        })
+        }
     }
 }
 

@@ -62,12 +62,20 @@ impl<'m> marker::Model for PlainAnswers<'m> {
 
 impl<'m> PlainAnswers<'m> {
     /// The answers of a model.
-    pub fn new(alloc: Global, model: &'m EvaluatedModel) -> Result<PlainAnswers<'m>, NoMemory>
-        ensures { IfOk result (λ answers. answers ≡ model.now) }
+    pub fn new(model: &'m EvaluatedModel) -> PlainAnswers<'m>
+        ensures { result ≡ model.now }
     {
-        let setting = ModelSetting::new(alloc, model.model())?;
-        let kept = model.values();
-        Ok(PlainAnswers { setting, kept })
+        PlainAnswers {
+            setting: model.setting(),
+            kept: model.values(),
+        }
+    }
+
+    /// What the values of the model rest on, with what is looked up of it.
+    pub fn setting(&self) -> &ModelSetting<'m>
+        ensures { result.now ≡ self.now }
+    {
+        &self.setting
     }
 
     /// The model that answers.

@@ -1,2 +1,3 @@
 pub mod Standings
 pub mod Created
+pub mod Tables

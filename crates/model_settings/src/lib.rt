@@ -6,3 +6,4 @@ pub mod created;
 pub mod laws;
 pub mod setting;
 pub mod standings;
+pub mod tables;

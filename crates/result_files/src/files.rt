@@ -58,7 +58,7 @@ pub fn prepare(
     ensures { IfOk result (λ files. files
         ≡ files_of model.now records.now finished.now recorded.now emissions.now) }
 {
-    let answers = PlainAnswers::new(alloc, model)?;
+    let answers = PlainAnswers::new(model);
     let header = header(alloc, model.model())?;
     let (scalars, vectors) = results(alloc, &answers, records, finished, recorded, emissions)?;
     Ok(ResultFiles {

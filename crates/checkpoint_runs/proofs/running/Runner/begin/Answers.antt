@@ -38,18 +38,6 @@ returns-in-Waits-clause-stopped g c =
     (back_stored b m c.args.limit back.0 (counts_in c.args.self.now.positions) (counts_in c.go_back.new.self.positions) back.1 still.going
     (ap counts_in still.positions ∙ kept_counts (Some back.0) c.args.self.now.positions))
 
--- where the run begins it stands, when there is no memory for its answers
-pub returns-in_err-answers-in-Done-Some-clause-stopped : goal.returns-in_err-answers-in-Done-Some-clause-stopped
-returns-in_err-answers-in-Done-Some-clause-stopped g c =
-    let b = g.C.Catalogue.behaviour in
-    let m = g.M.ModelMarker.answers in
-    let back = rw (c.in-Done-Some.is, c.in-Done-Some.field-0-is) at c.in_ok-request.ensures.back in
-    let stood = back.1.going.stood ∙ ap stood.After back.1.count in
-    subst (λ at. HasStored b m c.args.limit None (counts_in c.args.self.now.positions) at (counts_in c.go_back.new.self.positions)) (sym stood)
-    (back_stored b m c.args.limit c.in-Done-Some.start (counts_in c.args.self.now.positions) (counts_in c.go_back.new.self.positions) back.0
-    (subst (CanGoOn b m) back.1.count (_, back.1.going.going))
-    (ap counts_in back.1.positions ∙ kept_counts (Some c.in-Done-Some.start) c.args.self.now.positions))
-
 pub returns-in_err-status-in-Done-Some-clause-stopped : goal.returns-in_err-status-in-Done-Some-clause-stopped
 returns-in_err-status-in-Done-Some-clause-stopped g c =
     let b = g.C.Catalogue.behaviour in

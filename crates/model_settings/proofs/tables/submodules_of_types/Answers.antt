@@ -2,7 +2,7 @@ use Rattle.std.proofs.Common.{sym, subst}
 use Rattle.ned_trees.specs.declared.declarations.TypeDeclaration.{TypeDeclaration}
 use Rattle.ned_types.specs.WellFormed.{HaveOwnNames}
 use Rattle.model_settings.proofs.Once.{among_at}
-use Rattle.model_settings.proofs.setting.submodules_of_types.Goals as goal
+use Rattle.model_settings.proofs.tables.submodules_of_types.Goals as goal
 
 pub submodule_names-requires : goal.submodule_names-requires
 submodule_names-requires c =

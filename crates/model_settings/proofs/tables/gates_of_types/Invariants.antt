@@ -1,6 +1,6 @@
 use Rattle.std.proofs.Common.{◌≡◌, ◌++◌, drop}
 use Rattle.model_settings.specs.Standings.{gates_of_types}
-use Rattle.model_settings.proofs.setting.gates_of_types.Given as goal
+use Rattle.model_settings.proofs.tables.gates_of_types.Given as goal
 
 abbrev pub invariant-loop-declared : goal.invariant-loop-declared
 invariant-loop-declared l = l.gates ++ gates_of_types (drop l.declared-index l.types) ≡ gates_of_types l.types

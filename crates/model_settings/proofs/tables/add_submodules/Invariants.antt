@@ -1,7 +1,7 @@
 use Rattle.std.proofs.Common.{◌≡◌, drop, map}
 use Rattle.ned_trees.specs.declared.declarations.Submodule.{Submodule}
 use Rattle.model_settings.specs.Standings.{names_behind}
-use Rattle.model_settings.proofs.setting.add_submodules.Given as goal
+use Rattle.model_settings.proofs.tables.add_submodules.Given as goal
 
 abbrev pub invariant-loop-submodule : goal.invariant-loop-submodule
 invariant-loop-submodule l =
