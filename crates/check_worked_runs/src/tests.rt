@@ -166,12 +166,12 @@ fn tell_edits<C: Catalogue>(
     Ok((behind_refusal, behind_edit))
 }
 
-/// Whether the last run is done anew where the desk goes on with it.
-fn goes_on<C: Catalogue>(desk: &mut Desk<C>) -> bool
+/// Whether a run to that limit is done anew, where it was the last one.
+fn runs_again<C: Catalogue>(desk: &mut Desk<C>) -> bool
     requires { IsSettled C.behaviour (λ b. ⟦<dyn SimpleModule as SimpleModule>⟧ b.vtable) desk.old }
     ensures { IsSettled C.behaviour (λ b. ⟦<dyn SimpleModule as SimpleModule>⟧ b.vtable) desk.new }
 {
-    matches!(desk.go_on(&mut Unobserved), Ok(DeskTurn::Text(_)))
+    matches!(desk.run(5, &mut Unobserved), Ok(DeskTurn::Text(_)))
         && desk.config() == b"General".as_slice()
 }
 
@@ -180,7 +180,7 @@ fn goes_on<C: Catalogue>(desk: &mut Desk<C>) -> bool
 struct Lines {
     told: Vec<u8>,
     done: Option<(bool, bool)>,
-    goes_on: bool,
+    runs_again: bool,
 }
 
 /// What a desk at the network of these texts says to lines.
@@ -188,12 +188,12 @@ fn lines_of<C: Catalogue>(alloc: Global, texts: &NedTexts) -> Result<Lines, Begi
     let mut desk = desk_of::<C>(alloc, texts)?;
     let mut told = Vec::new(alloc);
     let done = tell_edits(&mut desk, &mut told).ok();
-    let goes_on = goes_on(&mut desk);
+    let runs_again = runs_again(&mut desk);
     std::mem::forget(desk);
     Ok(Lines {
         told,
         done,
-        goes_on,
+        runs_again,
     })
 }
 
@@ -213,7 +213,7 @@ fn edits_at_a_desk(rt: HostRuntime) -> Result<(), Fail> {
         lines.done == Some((true, false)),
         "a run is done where none is, or the reverse"
     );
-    assert!(rt; lines.goes_on, "the run isn't done anew");
+    assert!(rt; lines.runs_again, "the run isn't done anew");
     Ok(())
 }
 

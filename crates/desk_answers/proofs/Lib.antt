@@ -1,2 +1,2 @@
-pub mod Limits
+pub mod Forgoing
 pub mod Refusing

@@ -27,10 +27,6 @@ module _ {C X : Type 0} {Y : X → Type 0} where
   abbrev pub editing_at : Members X Y → Desk C X Y → Editing
   editing_at members d = editing_of members d.session
 
-  -- the limit of the last run
-  abbrev pub limit_at : Desk C X Y → ℕ
-  limit_at d = d.limit
-
   -- what it keeps
   abbrev pub IsSettled : Behaviour → Members X Y → Desk C X Y → Type 0
   IsSettled b members d = IsSound b members d.session
@@ -165,8 +161,3 @@ Forgoes b (command.Ned number path) before after = after ≡ before
 Forgoes b command.Positions before after = after ≡ before
 Forgoes b command.Held before after = after ≡ before
 Forgoes b _ before after = ⊥
-
--- the limit of the last run, after a command
-abbrev pub limit_after : Command → ℕ → ℕ
-limit_after (command.Run limit) before = limit
-limit_after _ before = before

@@ -11,7 +11,7 @@ ghost use Rattle.edit_session.specs.declared.session.SupplyReason.{SupplyReason}
 ghost use Rattle.desk_commands.specs.Commands.{command_of};
 ghost use Rattle.desk_client.specs.Answers.{held_text, positions_text, IsTold};
 ghost use Rattle.model_edits.specs.declared.edit.Edit.TheVariants as edits;
-ghost use Rattle.desk_answers.specs.Turns.{editing_at, limit_at, limit_after, AnswersCommand};
+ghost use Rattle.desk_answers.specs.Turns.{editing_at, AnswersCommand};
 ghost use Rattle.desk_answers.specs.Turns.{AnswersEdit, AnswersLine, Forgoes, IsOfDesk, IsRunTurn};
 ghost use Rattle.desk_answers.specs.Turns.{IsSettled, IsToldIn, MayBeDone, StaysSettled};
 
@@ -46,8 +46,6 @@ pub enum DeskTurn {
 pub struct Desk<C: Catalogue> {
     alloc: Global,
     session: Session<C>,
-    /// The limit of the last run.
-    limit: u64,
     /// What the session holds, so that contracts can name what boxes say of themselves.
     holds: PhantomData<Box<dyn SimpleModule>>,
 }
@@ -58,7 +56,6 @@ impl<C: Catalogue> Drop for Desk<C> {
         let Desk {
             alloc: _,
             session: _,
-            limit: _,
             holds: _,
         } = self;
     }
@@ -76,17 +73,15 @@ fn no_command() -> Answer
 }
 
 impl<C: Catalogue> Desk<C> {
-    /// The desk of a session. The limit of its last run is 0, as long as none was asked for.
+    /// The desk of a session.
     pub fn of_session(alloc: Global, session: Session<C>) -> Desk<C>
         requires sound { IsSound C.behaviour SimpleModule-box session }
         ensures sound { IsSettled C.behaviour SimpleModule-box result }
         ensures editing { editing_at SimpleModule-box result ≡ editing_of SimpleModule-box session }
-        ensures limit { limit_at result ≡ 0 }
     {
         Desk {
             alloc,
             session,
-            limit: 0,
             holds: PhantomData,
         }
     }
@@ -102,7 +97,6 @@ impl<C: Catalogue> Desk<C> {
             let after = editing_at SimpleModule-box self.new in
             IfOk result (λ turn. AnswersLine C.behaviour before line.now turn after) }
         ensures told { IfOk result (λ turn. IsToldIn turn) }
-        ensures limit { limit_at self.new ≡ limit_after (command_of line.now) (limit_at self.old) }
         ensures memory { let before = editing_at SimpleModule-box self.old in
             let after = editing_at SimpleModule-box self.new in
             OnErr result (Forgoes C.behaviour (command_of line.now) before after) }
@@ -126,7 +120,6 @@ impl<C: Catalogue> Desk<C> {
             IfOk result
             (λ answer. AnswersCommand C.behaviour before command (DeskTurn.Text answer) after) }
         ensures told { IfOk result (λ answer. IsTold answer.told answer.text) }
-        ensures limit { limit_at self.new ≡ limit_at self.old }
         ensures memory { let before = editing_at SimpleModule-box self.old in
             let after = editing_at SimpleModule-box self.new in
             OnErr result (Forgoes C.behaviour command before after) }
@@ -153,7 +146,6 @@ impl<C: Catalogue> Desk<C> {
             let after = editing_at SimpleModule-box self.new in
             IfOk result (λ answer. AnswersEdit C.behaviour before edit answer.text after) }
         ensures told { IfOk result (λ answer. IsTold answer.told answer.text) }
-        ensures limit { limit_at self.new ≡ limit_at self.old }
         ensures memory { OnErr result (self.new ≡ self.old) }
     {
         let number = self.session.number_given(&edit);
@@ -181,7 +173,6 @@ impl<C: Catalogue> Desk<C> {
             IfOk result (λ answer. AnswersEdit C.behaviour before (edits.ReplaceNed file text)
             answer.text after) }
         ensures told { IfOk result (λ answer. IsTold answer.told answer.text) }
-        ensures limit { limit_at self.new ≡ limit_at self.old }
         ensures memory { OnErr result (self.new ≡ self.old) }
     {
         self.edit(Edit::ReplaceNed(file as usize, text))
@@ -189,11 +180,11 @@ impl<C: Catalogue> Desk<C> {
 
     /// Runs the model for at most so many events: goes on with the run that waits, unless it waits
     /// after more events, or begins at the greatest stored position up to there, or with setup. The
-    /// observer is told of each event that is executed. Where memory runs out there is no answer: no run is done, or this one is.
+    /// observer is told of each event that is executed. Where memory runs out there is no answer: no
+    /// run is done, or this one is.
     pub fn run<W: Observer>(&mut self, limit: u64, observer: &mut W) -> Result<DeskTurn, NoMemory>
         requires sound { IsSettled C.behaviour SimpleModule-box self.old }
         ensures kept { StaysSettled C.behaviour SimpleModule-box self.old self.new }
-        ensures limit { limit_at self.new ≡ limit }
         ensures ran { let before = editing_at SimpleModule-box self.old in
             let after = editing_at SimpleModule-box self.new in
             IfOk result (λ turn. IsRunTurn C.behaviour before limit turn after) }
@@ -202,28 +193,10 @@ impl<C: Catalogue> Desk<C> {
             let after = editing_at SimpleModule-box self.new in
             OnErr result (MayBeDone C.behaviour before limit after) }
     {
-        self.limit = limit;
         match self.session.run(limit, observer)? {
             RunStatus::Waits(request) => Ok(DeskTurn::Want(request)),
             RunStatus::Done(report) => Ok(DeskTurn::Text(done(self.alloc, report)?)),
         }
-    }
-
-    /// Goes on with the last run. Where memory runs out there is no answer: no run is done, or this
-    /// one is.
-    pub fn go_on<W: Observer>(&mut self, observer: &mut W) -> Result<DeskTurn, NoMemory>
-        requires sound { IsSettled C.behaviour SimpleModule-box self.old }
-        ensures kept { StaysSettled C.behaviour SimpleModule-box self.old self.new }
-        ensures limit { limit_at self.new ≡ limit_at self.old }
-        ensures ran { let before = editing_at SimpleModule-box self.old in
-            let after = editing_at SimpleModule-box self.new in
-            IfOk result (λ turn. IsRunTurn C.behaviour before (limit_at self.old) turn after) }
-        ensures told { IfOk result (λ turn. IsToldIn turn) }
-        ensures memory { let before = editing_at SimpleModule-box self.old in
-            let after = editing_at SimpleModule-box self.new in
-            OnErr result (MayBeDone C.behaviour before (limit_at self.old) after) }
-    {
-        self.run(self.limit, observer)
     }
 
     /// Gives the module that the run waits for its box, or hands the box back.
@@ -239,7 +212,6 @@ impl<C: Catalogue> Desk<C> {
             IfErr result (λ fault. (fault.held ≡ held)
             × (editing_at SimpleModule-box self.new ≡ editing)
             × (fault.reason ≡ SupplyReason.NotWanted ↔ wanted_of C.behaviour editing ≡ None)) }
-        ensures limit { limit_at self.new ≡ limit_at self.old }
     {
         self.session.supply(held)
     }
@@ -257,7 +229,6 @@ impl<C: Catalogue> Desk<C> {
         ensures err { let editing = editing_at SimpleModule-box self.old in
             OnErr result ((wanted_of C.behaviour editing ≡ None)
             × (editing_at SimpleModule-box self.new ≡ editing)) }
-        ensures limit { limit_at self.new ≡ limit_at self.old }
     {
         self.session.decline()
     }
@@ -269,7 +240,6 @@ impl<C: Catalogue> Desk<C> {
         ensures sound { IsSettled C.behaviour SimpleModule-box self.new }
         ensures left { editing_at SimpleModule-box self.new
             ≡ given_up (editing_at SimpleModule-box self.old) }
-        ensures limit { limit_at self.new ≡ limit_at self.old }
     {
         self.session.give_up_run();
     }

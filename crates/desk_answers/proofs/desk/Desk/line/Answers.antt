@@ -1,12 +1,7 @@
-use Rattle.std.proofs.Common.{sym}
 use Rattle.desk_commands.specs.Commands.{command_of}
-use Rattle.desk_answers.specs.Turns.{editing_at, limit_at}
-use Rattle.desk_answers.proofs.Limits.{limit_kept, where_no_memory}
+use Rattle.desk_answers.specs.Turns.{editing_at}
+use Rattle.desk_answers.proofs.Forgoing.{where_no_memory}
 use Rattle.desk_answers.proofs.desk.Desk.line.Goals as goal
-
-pub returns-in_err-command-clause-limit : goal.returns-in_err-command-clause-limit
-returns-in_err-command-clause-limit g c =
-    sym (limit_kept (command_of c.args.line.now) (limit_at c.args.self.now) c.in_err-command.ensures.memory)
 
 pub returns-in_err-command-clause-memory : goal.returns-in_err-command-clause-memory
 returns-in_err-command-clause-memory g c =

@@ -1,23 +1,12 @@
 -- What stays after a command that is an edit.
-use Rattle.std.proofs.Common.{◌≡◌, ℕ, Result, Ok, Err, OnErr, refl}
+use Rattle.std.proofs.Common.{Result, Ok, Err, OnErr, refl}
 use Rattle.sim_values.specs.declared.NoMemory.{NoMemory}
 use Rattle.module_api.specs.Behaviour.{Behaviour}
 use Rattle.edit_session.specs.Editing.{Editing}
 use Rattle.desk_commands.specs.Commands.{IsEdit}
 use Rattle.desk_commands.specs.declared.commands.Command.{Command}
 use Rattle.desk_commands.specs.declared.commands.Command.TheVariants as command
-use Rattle.desk_answers.specs.Turns.{limit_after, Forgoes}
-
--- the limit of the last run
-pub limit_kept : (c : Command) (l : ℕ) → IsEdit c → limit_after c l ≡ l
-limit_kept (command.Run limit) l is = absurd is
-limit_kept (command.Edit e) l is = refl
-limit_kept (command.Ned number path) l is = refl
-limit_kept command.Positions l is = absurd is
-limit_kept command.Held l is = absurd is
-limit_kept command.Write l is = absurd is
-limit_kept command.Unknown l is = absurd is
-limit_kept command.TooLarge l is = absurd is
+use Rattle.desk_answers.specs.Turns.{Forgoes}
 
 -- all of the session, where memory runs out for the line
 all_kept : (b : Behaviour) (c : Command) (e : Editing) → IsEdit c → Forgoes b c e e
