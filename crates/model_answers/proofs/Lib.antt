@@ -5,3 +5,5 @@ mod Lines
 mod Names
 mod NoGates
 mod Placing
+mod Walks
+mod Keeping

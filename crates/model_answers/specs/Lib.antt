@@ -4,3 +4,4 @@ pub mod Insides
 pub mod Reading
 pub mod Answering
 pub mod ClassExamples
+pub mod Kept
