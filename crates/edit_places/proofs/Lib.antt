@@ -1,0 +1,2 @@
+mod Common
+mod Reached
