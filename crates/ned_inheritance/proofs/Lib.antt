@@ -3,13 +3,14 @@ pub mod BuildingLaws
 pub mod Repeats
 pub mod NamedLaws
 pub mod Circles
-pub mod GateLaws
 pub mod InterfaceLaws
 pub mod OrderLaws
 pub mod KeptLaws
 pub mod LineLaws
 pub mod SectionLaws
 pub mod PlaceLaws
+pub mod AgainLaws
+pub mod ClashLaws
 pub mod ReadyLaws
 pub mod RoundLaws
 pub mod FlatLaws

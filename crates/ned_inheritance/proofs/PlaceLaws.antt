@@ -3,7 +3,6 @@ use Rattle.std.proofs.Common.{◌≡◌, ℕ, zero, suc, ◌+◌, Bool, true, fa
 use Rattle.std.specs.Prelude.{is_err, is_some, Err, IfErr, Ok, Result}
 use Rattle.std.specs.List.{list_any}
 use Rattle.std.specs.Option.{option_map}
-use Rattle.std.proofs.lemmas.Bool.{false≢true}
 use Rattle.ned_trees.specs.declared.connections.ConnectionItem.{ConnectionItem}
 use Rattle.ned_trees.specs.declared.declarations.TypeDeclaration.{TypeDeclaration}
 use Rattle.ned_types.specs.Flat.{or_else}
@@ -14,11 +13,11 @@ use Rattle.ned_inheritance.specs.declared.places.FaultPlace.{FaultPlace}
 use Rattle.ned_inheritance.specs.Inheritance.{extends_other, extends_unknown}
 use Rattle.ned_inheritance.specs.Interfaces.{breaks_interface, has_broken, is_interface_for, keeps_other, lacks_any, lacks_gate, lacks_parameter, names_no_type}
 use Rattle.ned_inheritance.specs.Named.{is_other_named, is_unknown_named}
-use Rattle.ned_inheritance.specs.Places.{clash_number, first_from, is_known, lacked_from, lacked_in, lacked_of_any, other_in, place_from, placed, unknown_channel_from, unknown_in}
+use Rattle.ned_inheritance.specs.Places.{first_from, is_known, lacked_from, lacked_in, lacked_of_any, other_in, place_from, placed, unknown_channel_from, unknown_in}
 use Rattle.ned_inheritance.specs.declared.table.TypeFault.{TypeFault}
 use Rattle.ned_inheritance.specs.declared.table.TypeFault.TheVariants as fault
 use Rattle.ned_inheritance.specs.declared.table.BuildError.TheVariants.{Fault}
-use Rattle.ned_types.specs.Clashes.{clashes, connections_of, has_clash, has_unknown_channel, is_channel_unknown}
+use Rattle.ned_types.specs.Clashes.{connections_of, has_clash, has_unknown_channel, is_channel_unknown}
 use Rattle.ned_types.specs.Types.{has_duplicate}
 use Rattle.ned_inheritance.specs.Building.{base_fault, Builds, flat_fault, TellsFlat}
 use Rattle.ned_inheritance.specs.Circles.{IsCirclePlace}
@@ -34,7 +33,14 @@ picked picks n (x ∷ xs) = by (picks x) (picked picks (suc n) xs)
     by true later = refl
     by false later = later
 
-drop_at : {X : Type 0} (xs : List X) (n : ℕ) (x : X) → slice_get xs n ≡ Some x → drop n xs ≡ x ∷ drop (suc n) xs
+-- the first of those that are picked in two ways is one
+pub first_like : {X : Type 0} (p q : X → Bool) → ((x : X) → p x ≡ q x) → (n : ℕ) (xs : List X) → first_from p n xs ≡ first_from q n xs
+first_like p q same n [] = refl
+first_like p q same n (x ∷ xs) =
+    ap (λ b. if b then Some n else first_from p (suc n) xs) (same x)
+    ∙ ap (λ o. if q x then Some n else o) (first_like p q same (suc n) xs)
+
+pub drop_at : {X : Type 0} (xs : List X) (n : ℕ) (x : X) → slice_get xs n ≡ Some x → drop n xs ≡ x ∷ drop (suc n) xs
 drop_at [] n x e = cc
 drop_at (y ∷ ys) zero x e = let same : y ≡ x = cc in ap (λ z. z ∷ ys) same
 drop_at (y ∷ ys) (suc n) x e = drop_at ys n x e
@@ -56,11 +62,11 @@ pub place_told : (broken : TypeDeclaration → Option Member) (n : ℕ) (ts : Li
 place_told broken n [] = refl
 place_told broken n (t ∷ ts) = placed_told n (broken t) (place_from broken (suc n) ts) ∙ ap (λ b. is_some (broken t) || b) (place_told broken (suc n) ts)
 
-any_like : {X : Type 0} (p q : X → Bool) → ((x : X) → p x ≡ q x) → (xs : List X) → list_any p xs ≡ list_any q xs
+pub any_like : {X : Type 0} (p q : X → Bool) → ((x : X) → p x ≡ q x) → (xs : List X) → list_any p xs ≡ list_any q xs
 any_like p q h [] = refl
 any_like p q h (x ∷ xs) = ap (λ b. b || list_any p xs) (h x) ∙ ap (λ b. q x || b) (any_like p q h xs)
 
-any_or : {X : Type 0} (p q : X → Bool) (xs : List X) → list_any (λ x. p x || q x) xs ≡ (list_any p xs || list_any q xs)
+pub any_or : {X : Type 0} (p q : X → Bool) (xs : List X) → list_any (λ x. p x || q x) xs ≡ (list_any p xs || list_any q xs)
 any_or p q [] = refl
 any_or p q (x ∷ xs) = ap (λ b. (p x || q x) || b) (any_or p q xs) ∙ mixed (p x) (q x) (list_any p xs) (list_any q xs)
 
@@ -73,15 +79,15 @@ rotated false true false d = refl
 rotated false false true d = refl
 rotated false false false d = refl
 
-map_told : {X Y : Type 0} (f : X → Y) (o : Option X) → is_some (option_map f o) ≡ is_some o
+pub map_told : {X Y : Type 0} (f : X → Y) (o : Option X) → is_some (option_map f o) ≡ is_some o
 map_told f None = refl
 map_told f (Some x) = refl
 
-else_told : {X : Type 0} (a b : Option X) → is_some (or_else a b) ≡ (is_some a || is_some b)
+pub else_told : {X : Type 0} (a b : Option X) → is_some (or_else a b) ≡ (is_some a || is_some b)
 else_told None b = refl
 else_told (Some x) b = refl
 
-if_told : {X : Type 0} (b : Bool) (x : X) (o : Option X) → is_some (if b then Some x else o) ≡ (b || is_some o)
+pub if_told : {X : Type 0} (b : Bool) (x : X) (o : Option X) → is_some (if b then Some x else o) ≡ (b || is_some o)
 if_told true x o = refl
 if_told false x o = refl
 
@@ -204,42 +210,8 @@ none_found types apart none roots alike =
 
 -- ---- the faults of flat types, by what was found
 
-abbrev flat_of : Bool → Bool → Option TypeFault
+abbrev pub flat_of : Bool → Bool → Option TypeFault
 flat_of clash broken = if clash then Some fault.KindClash else (if broken then Some fault.Interface else None)
-
--- a number is told exactly where one clashes
-pub clash_told : (types : List TypeDeclaration) → is_some (clash_number types) ≡ has_clash types
-clash_told types = picked (λ t. clashes types t) 0 types
-
--- what is told of the first of these types that clashes
-pub clash_here : (types ts : List TypeDeclaration) (n : ℕ) (t : TypeDeclaration) (m : Option Member) (place : Option FaultPlace) (all : Option ℕ) → slice_get ts n ≡ Some t → place ≡ placed n m → is_some m ≡ clashes types t → is_some place ≡ true
-    → first_from (λ u. clashes types u) n (drop n ts) ≡ all → option_map (λ (p : FaultPlace). p.number) place ≡ all
-clash_here types ts n t None place all here is member found told = absurd (false≢true (sym (ap is_some is) ∙ found))
-clash_here types ts n t (Some m) place all here is member found told =
-    ap (option_map (λ (p : FaultPlace). p.number)) is
-    ∙ ap (λ b. if b then Some n else first_from (λ u. clashes types u) (suc n) (drop (suc n) ts)) member
-    ∙ ap (first_from (λ u. clashes types u) n) (sym (drop_at ts n t here))
-    ∙ told
-
--- and of one that does not
-pub clash_passed : (types : List TypeDeclaration) (n : ℕ) (t : TypeDeclaration) (m : Option Member) (place : Option FaultPlace) → place ≡ placed n m → is_some m ≡ clashes types t → is_some place ≡ false → clashes types t ≡ false
-clash_passed types n t None place is member none = sym member
-clash_passed types n t (Some m) place is member none = absurd (false≢true (sym none ∙ ap is_some is))
-
-pub clash_tells : (types : List TypeDeclaration) (p : FaultPlace) → clash_number types ≡ Some p.number → TellsFlat types (Some (fault.KindClash, p))
-clash_tells types p found = (ap (λ b. flat_of b (has_broken types)) (sym (clash_told types) ∙ ap is_some found), found)
-
-pub no_clash_told : (types : List TypeDeclaration) → clash_number types ≡ None → has_clash types ≡ false
-no_clash_told types none = sym (clash_told types) ∙ ap is_some none
-
--- what is answered of a clash, where these are the types by their names
-pub clash_answered : (named types : List TypeDeclaration) (place : Option FaultPlace) (p : FaultPlace) → named ≡ types → option_map (λ (q : FaultPlace). q.number) place ≡ first_from (λ t. clashes named t) 0 types → place ≡ Some p → TellsFlat types (Some (fault.KindClash, p))
-clash_answered named types place p names told is =
-    clash_tells types p (ap (λ (ns : List TypeDeclaration). first_from (λ t. clashes ns t) 0 types) (sym names) ∙ sym told ∙ ap (option_map (λ (q : FaultPlace). q.number)) is)
-
-pub no_clash_answered : (named types : List TypeDeclaration) (place : Option FaultPlace) → named ≡ types → option_map (λ (q : FaultPlace). q.number) place ≡ first_from (λ t. clashes named t) 0 types → place ≡ None → has_clash types ≡ false
-no_clash_answered named types place names told is =
-    no_clash_told types (ap (λ (ns : List TypeDeclaration). first_from (λ t. clashes ns t) 0 types) (sym names) ∙ sym told ∙ ap (option_map (λ (q : FaultPlace). q.number)) is)
 
 pub lacked_tells : (types : List TypeDeclaration) (p : FaultPlace) → has_clash types ≡ false → place_from (lacked_in types) 0 types ≡ Some p → TellsFlat types (Some (fault.Interface, p))
 lacked_tells types p none found =

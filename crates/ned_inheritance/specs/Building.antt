@@ -13,7 +13,7 @@ use Rattle.ned_inheritance.specs.declared.table.TypeFault.TheVariants.{Interface
 use Rattle.ned_inheritance.specs.declared.table.BuildError.{BuildError}
 use Rattle.ned_inheritance.specs.declared.table.BuildError.TheVariants.{Fault, NoMemory}
 use Rattle.ned_inheritance.specs.declared.places.FaultPlace.{FaultPlace}
-use Rattle.ned_inheritance.specs.Places.{clash_number, duplicate_from, IsClashPlace}
+use Rattle.ned_inheritance.specs.Places.{duplicate_from, IsClashPlace, IsFirstClash}
 use Rattle.ned_inheritance.specs.Places.{lacked_in, other_in, place_from, unknown_in}
 use Rattle.ned_types.specs.Clashes.{has_clash, has_unknown_channels}
 use Rattle.ned_types.specs.Types.{has_duplicate, has_inner_network, has_unknown, is_built_in}
@@ -50,7 +50,8 @@ abbrev pub fault_of : List TypeDeclaration → Option TypeFault
 fault_of types = or_else (base_fault types) (flat_fault (flat_types types))
 
 -- THE PLACE of a fault: the first, type by type, that has it; of a circle a type in one. A clash is
--- one of names and kinds, or else one of flat types, of which the first type that has it is told
+-- one of names and kinds, or else one of flat types, of which the first type that has it is told,
+-- and the first member of it that clashes
 abbrev pub IsPlace : List TypeDeclaration → TypeFault → FaultPlace → Type 0
 IsPlace types DuplicateType p = duplicate_from [] 0 types ≡ Some p.number
 IsPlace types UnknownType p = place_from (unknown_in types) 0 types ≡ Some p
@@ -63,7 +64,7 @@ abbrev pub IsFlatPlace : List TypeDeclaration → TypeFault → FaultPlace → T
 IsFlatPlace types DuplicateType p = ⊥
 IsFlatPlace types UnknownType p = ⊥
 IsFlatPlace types InheritanceCircle p = ⊥
-IsFlatPlace types KindClash p = clash_number types ≡ Some p.number
+IsFlatPlace types KindClash p = IsFirstClash types p
 IsFlatPlace types Interface p = place_from (lacked_in types) 0 types ≡ Some p
 
 -- the answer to these types: the flat type of each, or their first fault and its place; or memory

@@ -1,10 +1,12 @@
 pub mod Interfaces
 pub mod Inheritance
 pub mod Places
+pub mod Misfits
 pub mod Circles
 pub mod Building
 pub mod Seen
 pub mod Example
+pub mod ClashExample
 pub mod Named
 pub mod Order
 pub mod Flats

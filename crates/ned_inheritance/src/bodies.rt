@@ -1,10 +1,10 @@
 //! What the bodies of submodules may say.
 
-ghost use Rattle.std.specs.Prelude.{◌≡◌, [], is_some, IfOk};
-ghost use Rattle.ned_types.specs.Types.{bodies_clash, bodies_declare, declares_gates};
-ghost use Rattle.ned_types.specs.Types.{has_unfit_body, body_clashes, has_unfit};
-ghost use Rattle.ned_types.specs.Types.{is_gate_declaration};
-ghost use Rattle.std.specs.List.{list_any};
+ghost use Rattle.std.specs.Prelude.{◌≡◌, [], IfOk};
+ghost use Rattle.ned_types.specs.Types.{is_gate_declaration, is_unfit};
+ghost use Rattle.ned_inheritance.specs.declared.places.Member.TheVariants as member;
+ghost use Rattle.ned_inheritance.specs.Misfits.{misfit_in, told_of};
+ghost use Rattle.ned_inheritance.specs.Places.{body_gate, first_from, first_told, unfit_body};
 ghost use Rattle.ned_inheritance.specs.Seen.{names_in, is_unfit_over};
 
 use crate::named::NamedTypes;
@@ -23,17 +23,14 @@ pub(crate) fn body_clash(
     named: &NamedTypes<'_>,
     submodules: &[Submodule],
 ) -> Result<Option<Member>, AllocError>
-    ensures { IfOk result (λ member. is_some member ≡ bodies_clash named.now submodules.now) }
+    ensures { IfOk result
+        (λ member. member ≡ first_told (unfit_body named.now) 0 submodules.now) }
 {
-    let mut number = 0usize;
-    let mut rest = submodules;
-    'submodules: while let Some((submodule, after)) = rest.split_first() {
+    for (number, submodule) in submodules.iter().enumerate() {
         let member = unfit_body(alloc, named, number, submodule)?;
         if member.is_some() {
             return Ok(member);
         }
-        number = number.saturating_add(1);
-        rest = after;
     }
     Ok(None)
 }
@@ -44,7 +41,7 @@ fn unfit_body(
     number: usize,
     submodule: &Submodule,
 ) -> Result<Option<Member>, AllocError>
-    ensures { IfOk result (λ member. is_some member ≡ has_unfit_body named.now submodule.now) }
+    ensures { IfOk result (λ member. member ≡ unfit_body named.now number submodule.now) }
 {
     match named.find(type_name(submodule)) {
         Some(declared) => {
@@ -68,7 +65,7 @@ pub(crate) enum Misfit {
 
 /// That misfit in the body of the submodule of that number.
 fn in_body(number: usize, misfit: Option<Misfit>) -> Option<Member>
-    ensures { is_some result ≡ is_some misfit }
+    ensures { result ≡ told_of (member.Unfit number) (member.UnfitAgain number) misfit }
 {
     match misfit {
         Some(Misfit::Unfit(at)) => Some(Member::Unfit(number, at)),
@@ -84,7 +81,7 @@ pub(crate) fn first_misfit(
     lines: &[SectionLine],
     body: &[SectionLine],
 ) -> Result<Option<Misfit>, AllocError>
-    ensures { IfOk result (λ misfit. is_some misfit ≡ body_clashes lines.now body.now) }
+    ensures { IfOk result (λ misfit. misfit ≡ misfit_in lines.now body.now) }
 {
     if body.is_empty() {
         return Ok(None);
@@ -104,7 +101,7 @@ fn first_unfit(
     lines: &[SectionLine],
     body: &[SectionLine],
 ) -> Result<Option<usize>, AllocError>
-    ensures { IfOk result (λ at. is_some at ≡ has_unfit lines.now body.now) }
+    ensures { IfOk result (λ at. at ≡ first_from (λ l. is_unfit lines.now l) 0 body.now) }
 {
     let mut declared = IndexSet::new(alloc);
     let mut fixed = IndexSet::new(alloc);
@@ -121,7 +118,7 @@ fn first_unfit_over<'a>(
 ) -> Result<Option<usize>, AllocError>
     requires declared { declared.old.keys ≡ [] }
     requires fixed { fixed.old.keys ≡ [] }
-    ensures { IfOk result (λ at. is_some at ≡ has_unfit lines.now body.now) }
+    ensures { IfOk result (λ at. at ≡ first_from (λ l. is_unfit lines.now l) 0 body.now) }
 {
     let _again = see_declared(declared, lines)?;
     see_fixed(fixed, lines)?;
@@ -135,8 +132,8 @@ fn first_unfit_by(
     fixed: &IndexSet<&[u8]>,
     body: &[SectionLine],
 ) -> Option<usize>
-    ensures { is_some result
-        ≡ list_any (is_unfit_over (names_in declared.now.keys) (names_in fixed.now.keys)) body.now }
+    ensures { result ≡ first_from
+        (λ l. is_unfit_over (names_in declared.now.keys) (names_in fixed.now.keys) l) 0 body.now }
 {
     for (at, line) in body.iter().enumerate() {
         if is_unfit(declared, fixed, line) {
@@ -162,7 +159,7 @@ fn is_gate_declaration(line: &GateLine) -> bool
 
 /// The first line of gates in the body of a submodule that declares one.
 fn first_declared(submodule: &Submodule) -> Option<usize>
-    ensures { is_some result ≡ declares_gates submodule.now }
+    ensures { result ≡ first_from is_gate_declaration 0 submodule.now.body.gates }
 {
     let gates = submodule.body.gates.as_slice();
     for (at, line) in gates.iter().enumerate() {
@@ -173,13 +170,24 @@ fn first_declared(submodule: &Submodule) -> Option<usize>
     None
 }
 
+/// The same of the submodule of that number.
+fn body_gate(number: usize, submodule: &Submodule) -> Option<Member>
+    ensures { result ≡ body_gate number submodule.now }
+{
+    match first_declared(submodule) {
+        Some(at) => Some(Member::BodyGate(number, at)),
+        None => None,
+    }
+}
+
 /// The first line of gates in a body of these submodules that declares one: only their types may.
 pub(crate) fn declared_in_body(submodules: &[Submodule]) -> Option<Member>
-    ensures { is_some result ≡ bodies_declare submodules.now }
+    ensures { result ≡ first_told body_gate 0 submodules.now }
 {
     for (number, submodule) in submodules.iter().enumerate() {
-        if let Some(at) = first_declared(submodule) {
-            return Some(Member::BodyGate(number, at));
+        let member = body_gate(number, submodule);
+        if member.is_some() {
+            return member;
         }
     }
     None

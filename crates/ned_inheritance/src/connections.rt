@@ -1,18 +1,16 @@
 //! The channels of connections: whether what they name is there, and is a channel, and whether
 //! their blocks fit it.
 
-ghost use Rattle.std.specs.Prelude.{◌≡◌, [], is_some, IfOk};
-ghost use Rattle.std.specs.List.{list_any};
+ghost use Rattle.std.specs.Prelude.{◌≡◌, [], IfOk};
 ghost use Rattle.std.specs.Option.{option_copied, option_map};
 ghost use Rattle.ned_inheritance.specs.declared.places.Member.TheVariants as member;
 ghost use Rattle.ned_types.specs.Channels.{built_in_lines};
-ghost use Rattle.ned_types.specs.Clashes.{block_clashes, channel_lines, channel_name};
-ghost use Rattle.ned_types.specs.Clashes.{channel_of_block, connections_clash, connections_of};
-ghost use Rattle.ned_types.specs.Clashes.{is_channel_unknown, line_clashes, lines_of_channel};
-ghost use Rattle.ned_types.specs.Clashes.{sets_delay, sets_rate};
-ghost use Rattle.ned_types.specs.Types.{body_clashes, is_given};
-ghost use Rattle.ned_inheritance.specs.Places.{first_from, unknown_channel_from};
-ghost use Rattle.ned_inheritance.specs.Places.{unknown_channel_of};
+ghost use Rattle.ned_types.specs.Clashes.{channel_lines, channel_name, connections_of};
+ghost use Rattle.ned_types.specs.Clashes.{is_channel_unknown};
+ghost use Rattle.ned_inheritance.specs.Misfits.{misfit_in, told_of};
+ghost use Rattle.ned_inheritance.specs.Places.{block_clash_in, connection_clash_in, first_from};
+ghost use Rattle.ned_inheritance.specs.Places.{first_told, item_clash_in, line_clash_in};
+ghost use Rattle.ned_inheritance.specs.Places.{unknown_channel_from, unknown_channel_of};
 
 use crate::bodies::{Misfit, first_misfit};
 use crate::faults::{is_built_in, is_taken};
@@ -109,7 +107,8 @@ pub(crate) fn unknown_channel(named: &NamedTypes<'_>, items: &[ConnectionItem]) 
 
 /// That misfit in the block of the channel of a connection.
 fn in_block(item: usize, line: usize, misfit: Option<Misfit>) -> Option<Member>
-    ensures { is_some result ≡ is_some misfit }
+    ensures { result
+        ≡ told_of (member.UnfitBlock item line) (member.UnfitBlockAgain item line) misfit }
 {
     match misfit {
         Some(Misfit::Unfit(at)) => Some(Member::UnfitBlock(item, line, at)),
@@ -127,8 +126,7 @@ fn misfit_over(
     block: &[SectionLine],
 ) -> Result<Option<Misfit>, AllocError>
     requires { lines.old ≡ [] }
-    ensures { IfOk result
-        (λ misfit. is_some misfit ≡ body_clashes (built_in_lines name.now) block.now) }
+    ensures { IfOk result (λ misfit. misfit ≡ misfit_in (built_in_lines name.now) block.now) }
 {
     add_built_in(alloc, lines, name)?;
     first_misfit(alloc, lines.as_slice(), block)
@@ -140,8 +138,7 @@ fn built_in_misfit(
     name: &[u8],
     block: &[SectionLine],
 ) -> Result<Option<Misfit>, AllocError>
-    ensures { IfOk result
-        (λ misfit. is_some misfit ≡ body_clashes (built_in_lines name.now) block.now) }
+    ensures { IfOk result (λ misfit. misfit ≡ misfit_in (built_in_lines name.now) block.now) }
 {
     let mut lines = Items::new(alloc);
     misfit_over(alloc, &mut lines, name, block)
@@ -156,8 +153,8 @@ fn block_clash(
     line: usize,
     channel: &Channel,
 ) -> Result<Option<Member>, AllocError>
-    ensures { IfOk result (λ member. is_some member
-        ≡ block_clashes channel.now.lines (channel_lines named.now (channel_name channel.now))) }
+    ensures { IfOk result (λ member. member ≡ block_clash_in item line channel.now.lines
+        (channel_lines named.now (channel_name channel.now))) }
 {
     let name = channel_name(channel);
     let block = channel.lines.as_slice();
@@ -182,7 +179,8 @@ fn line_clash(
     line: usize,
     connection: &ConnectionLine,
 ) -> Result<Option<Member>, AllocError>
-    ensures { IfOk result (λ member. is_some member ≡ line_clashes named.now connection.now) }
+    ensures { IfOk result
+        (λ member. member ≡ line_clash_in named.now item line connection.now) }
 {
     match &connection.connection.channel {
         Some(channel) => block_clash(alloc, named, item, line, channel),
@@ -198,17 +196,13 @@ fn lines_clash(
     lines: &[ConnectionLine],
 ) -> Result<Option<Member>, AllocError>
     ensures { IfOk result
-        (λ member. is_some member ≡ list_any (λ l. line_clashes named.now l) lines.now) }
+        (λ member. member ≡ first_told (line_clash_in named.now item) 0 lines.now) }
 {
-    let mut number = 0usize;
-    let mut rest = lines;
-    'lines: while let Some((line, after)) = rest.split_first() {
+    for (number, line) in lines.iter().enumerate() {
         let member = line_clash(alloc, named, item, number, line)?;
         if member.is_some() {
             return Ok(member);
         }
-        number = number.saturating_add(1);
-        rest = after;
     }
     Ok(None)
 }
@@ -219,8 +213,7 @@ fn item_clash(
     number: usize,
     item: &ConnectionItem,
 ) -> Result<Option<Member>, AllocError>
-    ensures { IfOk result (λ member. is_some member
-        ≡ list_any (λ l. line_clashes named.now l) (connections_of item.now)) }
+    ensures { IfOk result (λ member. member ≡ item_clash_in named.now number item.now) }
 {
     match item {
         ConnectionItem::Line(line) => line_clash(alloc, named, number, 0, line),
@@ -235,17 +228,13 @@ pub(crate) fn connection_clash(
     named: &NamedTypes<'_>,
     items: &[ConnectionItem],
 ) -> Result<Option<Member>, AllocError>
-    ensures { IfOk result (λ member. is_some member ≡ connections_clash named.now items.now) }
+    ensures { IfOk result (λ member. member ≡ connection_clash_in named.now items.now) }
 {
-    let mut number = 0usize;
-    let mut rest = items;
-    'items: while let Some((item, after)) = rest.split_first() {
+    for (number, item) in items.iter().enumerate() {
         let member = item_clash(alloc, named, number, item)?;
         if member.is_some() {
             return Ok(member);
         }
-        number = number.saturating_add(1);
-        rest = after;
     }
     Ok(None)
 }

@@ -1,22 +1,20 @@
 //! Why declared types make no model.
 
-ghost use Rattle.std.specs.Prelude.{◌≡◌, ◌||◌, false, not, is_some, None, IfOk};
-ghost use Rattle.ned_types.specs.Clashes.{clashes, has_clash};
+ghost use Rattle.std.specs.Prelude.{◌≡◌, ◌||◌, [], false, not, None, IfOk};
+ghost use Rattle.ned_types.specs.Clashes.{has_clash};
 ghost use Rattle.ned_types.specs.Types.{has_duplicate, is_built_in, is_type_named, names_unknown};
 ghost use Rattle.ned_types.specs.Types.{has_inner_network, is_inner_name, is_inner_network};
-ghost use Rattle.ned_types.specs.Types.{is_submodule_known, submodules_clash, is_submodule_suited};
-ghost use Rattle.ned_types.specs.Types.{suits_kind, repeats_submodule, has_other_kind};
+ghost use Rattle.ned_types.specs.Types.{is_submodule_known, is_submodule_suited, suits_kind};
 ghost use Rattle.ned_inheritance.specs.Inheritance.{flat_types, types_in};
 ghost use Rattle.ned_inheritance.specs.Flats.{AreChanged};
 ghost use Rattle.ned_inheritance.specs.Order.{IsOrder};
 ghost use Rattle.ned_inheritance.specs.Building.{Builds, BuildsChanged, AnswersTable};
 ghost use Rattle.ned_inheritance.specs.Building.{AreFaultless, KeepRules, TellsFlat};
 ghost use Rattle.ned_types.specs.WellFormed.{IsWellFormed};
-ghost use Rattle.std.specs.Option.{option_map};
 ghost use Rattle.ned_inheritance.specs.Named.{is_other_named, is_unknown_named};
-ghost use Rattle.ned_inheritance.specs.Places.{first_from, other_in, place_from, placed};
+ghost use Rattle.ned_inheritance.specs.Places.{clash_in, first_again, first_from, is_name_before};
+ghost use Rattle.ned_inheritance.specs.Places.{other_in, place_from, placed, submodule_clash_in};
 ghost use Rattle.ned_inheritance.specs.Places.{unknown_in};
-ghost use Rattle.ned_inheritance.specs.Seen.{is_one_named, names_in};
 
 use crate::bodies::{body_clash, declared_in_body};
 use crate::connections::{connection_clash, unknown_channel};
@@ -28,7 +26,7 @@ use crate::lines::lines_of;
 use crate::named::{NamedTypes, by_name};
 use crate::order::ordered;
 use crate::places::{FaultPlace, Member, placed};
-use crate::sections::section_clash;
+use crate::sections::{section_clash, see};
 use crate::table::{BuildError, TypeFault};
 use indexmap::IndexSet;
 use ned_trees::declarations::{Submodule, SubmoduleType, TypeDeclaration, TypeKind};
@@ -292,15 +290,13 @@ fn later_fault(
     }
 }
 
-/// Where the first of these flat types that has a clash has one.
-#[tactic(auto, using(crate::proofs::PlaceLaws::clash_here))]
+/// Where the first of these flat types that has a clash has its first one.
 fn clash_place(
     alloc: Global,
     named: &NamedTypes<'_>,
     types: &[TypeDeclaration],
 ) -> Result<Option<FaultPlace>, AllocError>
-    ensures { IfOk result (λ place. option_map (λ p. p.number) place
-        ≡ first_from (λ t. clashes named.now t) 0 types.now) }
+    ensures { IfOk result (λ place. place ≡ place_from (clash_in named.now) 0 types.now) }
 {
     for (number, declared) in types.iter().enumerate() {
         let place = placed(number, clash_in(alloc, named, declared)?);
@@ -317,7 +313,7 @@ fn clash_in(
     named: &NamedTypes<'_>,
     declared: &TypeDeclaration,
 ) -> Result<Option<Member>, AllocError>
-    ensures { IfOk result (λ member. is_some member ≡ clashes named.now declared.now) }
+    ensures { IfOk result (λ member. member ≡ clash_in named.now declared.now) }
 {
     let member = section_clash(alloc, declared.lines.as_slice())?;
     if member.is_some() {
@@ -338,7 +334,8 @@ fn submodule_clash(
     named: &NamedTypes<'_>,
     submodules: &[Submodule],
 ) -> Result<Option<Member>, AllocError>
-    ensures { IfOk result (λ member. is_some member ≡ submodules_clash named.now submodules.now) }
+    ensures { IfOk result
+        (λ member. member ≡ submodule_clash_in named.now submodules.now) }
 {
     if let Some(at) = repeated_submodule(alloc, submodules)? {
         return Ok(Some(Member::SubmoduleAgain(at)));
@@ -356,29 +353,24 @@ fn submodule_clash(
 /// The first submodule that has the name of one before it. The names that were seen stand in a set,
 /// so each is compared with few.
 fn repeated_submodule(alloc: Global, submodules: &[Submodule]) -> Result<Option<usize>, AllocError>
-    ensures { IfOk result (λ at. is_some at ≡ repeats_submodule submodules.now) }
+    ensures { IfOk result (λ at. at ≡ first_again is_name_before [] 0 submodules.now) }
 {
     let mut seen = IndexSet::new(alloc);
     repeats_seen(&mut seen, submodules)
 }
 
-/// The first of these that has a name that was seen before.
+/// The same, where the names are added to an empty set.
 fn repeats_seen<'a>(
     seen: &mut IndexSet<&'a [u8]>,
     submodules: &'a [Submodule],
 ) -> Result<Option<usize>, AllocError>
-    ensures { IfOk result (λ at. is_some at
-        ≡ (is_one_named (names_in seen.old.keys) submodules.now
-        || repeats_submodule submodules.now)) }
+    requires { seen.old.keys ≡ [] }
+    ensures { IfOk result (λ at. at ≡ first_again is_name_before [] 0 submodules.now) }
 {
-    let mut at = 0usize;
-    let mut rest = submodules;
-    'submodules: while let Some((submodule, after)) = rest.split_first() {
-        if !seen.insert(submodule.name.as_bytes())? {
+    for (at, submodule) in submodules.iter().enumerate() {
+        if !see(seen, submodule.name.as_bytes())? {
             return Ok(Some(at));
         }
-        at = at.saturating_add(1);
-        rest = after;
     }
     Ok(None)
 }
@@ -386,7 +378,7 @@ fn repeats_seen<'a>(
 /// The first submodule whose type isn't one of modules, or that after `like` isn't an interface of
 /// modules.
 fn first_of_other_kind(named: &NamedTypes<'_>, submodules: &[Submodule]) -> Option<usize>
-    ensures { is_some result ≡ has_other_kind named.now submodules.now }
+    ensures { result ≡ first_from (λ s. not (is_submodule_suited named.now s)) 0 submodules.now }
 {
     for (at, submodule) in submodules.iter().enumerate() {
         if !is_submodule_suited(named, submodule) {

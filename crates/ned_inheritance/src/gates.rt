@@ -1,10 +1,11 @@
 //! Gates that are declared twice.
 
-ghost use Rattle.std.specs.Prelude.{◌≡◌, ◌||◌, ◌++◌, false, not, is_some, IfOk, OnOk};
-ghost use Rattle.ned_types.specs.Types.{redeclares_gate};
-ghost use Rattle.ned_inheritance.specs.Seen.{declared_gate, declares_one, is_one_gate_named};
-ghost use Rattle.ned_inheritance.specs.Seen.{names_in};
+ghost use Rattle.std.specs.Prelude.{◌≡◌, [], not, IfOk, OnOk};
+ghost use Rattle.ned_types.specs.Types.{declares_gate, is_declared_again};
+ghost use Rattle.ned_inheritance.specs.Places.{first_again};
+ghost use Rattle.ned_inheritance.specs.Seen.{declares_one, names_in, AddsNames};
 
+use crate::sections::see;
 use indexmap::IndexSet;
 use ned_trees::declarations::GateLine;
 use std::alloc::{AllocError, Global};
@@ -15,28 +16,24 @@ pub(crate) fn redeclared_gate(
     alloc: Global,
     gates: &[GateLine],
 ) -> Result<Option<usize>, AllocError>
-    ensures { IfOk result (λ at. is_some at ≡ redeclares_gate gates.now) }
+    ensures { IfOk result (λ at. at ≡ first_again is_declared_again [] 0 gates.now) }
 {
     let mut seen = IndexSet::new(alloc);
     declares_seen(&mut seen, gates)
 }
 
-/// The first of these lines that declares a gate whose name was seen before.
+/// The same, where the names of the gates are added to an empty set.
 fn declares_seen<'a>(
     seen: &mut IndexSet<&'a [u8]>,
     gates: &'a [GateLine],
 ) -> Result<Option<usize>, AllocError>
-    ensures { IfOk result (λ at. is_some at
-        ≡ (is_one_gate_named (names_in seen.old.keys) gates.now || redeclares_gate gates.now)) }
+    requires { seen.old.keys ≡ [] }
+    ensures { IfOk result (λ at. at ≡ first_again is_declared_again [] 0 gates.now) }
 {
-    let mut at = 0usize;
-    let mut rest = gates;
-    'lines: while let Some((line, after)) = rest.split_first() {
+    for (at, line) in gates.iter().enumerate() {
         if !see_gate(seen, line)? {
             return Ok(Some(at));
         }
-        at = at.saturating_add(1);
-        rest = after;
     }
     Ok(None)
 }
@@ -44,11 +41,11 @@ fn declares_seen<'a>(
 /// Adds the name of the gate that the line declares, if it declares one. Answers whether it is new.
 fn see_gate<'a>(seen: &mut IndexSet<&'a [u8]>, line: &'a GateLine) -> Result<bool, AllocError>
     ensures new { IfOk result (λ new. new ≡ not (declares_one (names_in seen.old.keys) line.now)) }
-    ensures names { OnOk result (declares_one (names_in seen.old.keys) line.now ≡ false
-        → names_in seen.new.keys ≡ names_in seen.old.keys ++ declared_gate line.now) }
+    ensures names { OnOk result (AddsNames (names_in seen.old.keys) (λ n. declares_gate n line.now)
+        (names_in seen.new.keys)) }
 {
     match line {
-        GateLine::Declaration(gate) => Ok(seen.insert(gate.name.as_bytes())?),
+        GateLine::Declaration(gate) => see(seen, gate.name.as_bytes()),
         GateLine::Refinement(_) => Ok(true),
     }
 }

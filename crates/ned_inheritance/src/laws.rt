@@ -1,6 +1,7 @@
 //! Laws of types.
 
 ghost use Rattle.ned_inheritance.specs.Circles.{CirclesAreFound};
+ghost use Rattle.ned_inheritance.specs.ClashExample.{ExampleClashes};
 ghost use Rattle.ned_inheritance.specs.Example.{ExampleBodies, ExampleChannels, ExampleExtending};
 ghost use Rattle.ned_inheritance.specs.Example.{ExampleFaults, ExampleGates, ExampleInsides};
 ghost use Rattle.ned_inheritance.specs.Example.{ExampleInterfaces, ExampleIsFlat, ExampleNetworks};
@@ -18,6 +19,7 @@ pub fn examples()
     ensures extending { ExampleExtending }
     ensures insides { ExampleInsides }
     ensures parts { ExampleParts }
+    ensures clashes { ExampleClashes }
 {}
 
 /// A circle is found exactly where one of the types extends itself, perhaps by way of others: it is

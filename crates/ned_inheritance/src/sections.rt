@@ -1,12 +1,15 @@
 //! Parameter sections: what is declared twice, and given without a declaration or after a fixed
 //! value. The names that were seen stand in sets, so each line is compared with few.
 
-ghost use Rattle.std.specs.Prelude.{◌≡◌, ◌||◌, [], not, is_some, IfOk, OnOk};
-ghost use Rattle.std.specs.List.{list_any};
+ghost use Rattle.std.specs.Prelude.{◌≡◌, [], not, Some, None, if◌then◌else◌, IfOk, OnOk};
+ghost use Rattle.std.specs.Option.{option_map};
 ghost use Rattle.std.specs.Str.{bytes_eq};
-ghost use Rattle.ned_types.specs.Types.{section_clashes, is_declaration, declares, is_declared};
-ghost use Rattle.ned_types.specs.Types.{redeclares, gives_fixed, is_fixed_in, sets_fixed_again};
-ghost use Rattle.ned_types.specs.Types.{gives_undeclared};
+ghost use Rattle.ned_types.specs.Flat.{or_else};
+ghost use Rattle.ned_types.specs.Types.{is_declaration, declares, is_declared, is_refixed};
+ghost use Rattle.ned_types.specs.Types.{gives_fixed, is_fixed_in};
+ghost use Rattle.ned_inheritance.specs.declared.places.Member.TheVariants as member;
+ghost use Rattle.ned_inheritance.specs.Places.{first_again, first_from, is_declared_twice};
+ghost use Rattle.ned_inheritance.specs.Places.{misdeclared_in, section_clash_in};
 ghost use Rattle.ned_inheritance.specs.Seen.{names_in, is_in, AddsNames, redeclares_seen};
 ghost use Rattle.ned_inheritance.specs.Seen.{gives_seen, sets_undeclared};
 
@@ -22,7 +25,7 @@ pub(crate) fn section_clash(
     alloc: Global,
     lines: &[SectionLine],
 ) -> Result<Option<Member>, AllocError>
-    ensures { IfOk result (λ member. is_some member ≡ section_clashes lines.now) }
+    ensures { IfOk result (λ member. member ≡ section_clash_in lines.now) }
 {
     let member = misdeclared(alloc, lines)?;
     if member.is_some() {
@@ -34,8 +37,7 @@ pub(crate) fn section_clash(
 /// The first line that declares a parameter a second time, or else that gives a value to one that
 /// isn't declared.
 fn misdeclared(alloc: Global, lines: &[SectionLine]) -> Result<Option<Member>, AllocError>
-    ensures { IfOk result
-        (λ member. is_some member ≡ (redeclares lines.now || gives_undeclared lines.now)) }
+    ensures { IfOk result (λ member. member ≡ misdeclared_in lines.now) }
 {
     let mut declared = IndexSet::new(alloc);
     misdeclared_by(&mut declared, lines)
@@ -47,8 +49,7 @@ fn misdeclared_by<'a>(
     lines: &'a [SectionLine],
 ) -> Result<Option<Member>, AllocError>
     requires { declared.old.keys ≡ [] }
-    ensures { IfOk result
-        (λ member. is_some member ≡ (redeclares lines.now || gives_undeclared lines.now)) }
+    ensures { IfOk result (λ member. member ≡ misdeclared_in lines.now) }
 {
     let again = declared_again(see_declared(declared, lines)?);
     if again.is_some() {
@@ -59,7 +60,7 @@ fn misdeclared_by<'a>(
 
 /// That the line of that number declares a parameter a second time.
 fn declared_again(at: Option<usize>) -> Option<Member>
-    ensures { is_some result ≡ is_some at }
+    ensures { result ≡ option_map member.DeclaredAgain at }
 {
     match at {
         Some(at) => Some(Member::DeclaredAgain(at)),
@@ -69,7 +70,7 @@ fn declared_again(at: Option<usize>) -> Option<Member>
 
 /// That the line of that number gives a value to a parameter that isn't declared.
 fn undeclared(at: Option<usize>) -> Option<Member>
-    ensures { is_some result ≡ is_some at }
+    ensures { result ≡ option_map member.Undeclared at }
 {
     match at {
         Some(at) => Some(Member::Undeclared(at)),
@@ -79,7 +80,7 @@ fn undeclared(at: Option<usize>) -> Option<Member>
 
 /// That the line of that number gives a value to a parameter with a fixed one.
 fn given(at: Option<usize>) -> Option<Member>
-    ensures { is_some result ≡ is_some at }
+    ensures { result ≡ option_map member.GivenAgain at }
 {
     match at {
         Some(at) => Some(Member::GivenAgain(at)),
@@ -89,7 +90,7 @@ fn given(at: Option<usize>) -> Option<Member>
 
 /// The first number that is there.
 fn first_number(again: Option<usize>, seen: bool, at: usize) -> Option<usize>
-    ensures { is_some result ≡ (is_some again || seen) }
+    ensures { result ≡ or_else again (if seen then Some at else None) }
 {
     if again.is_some() {
         return again;
@@ -97,26 +98,21 @@ fn first_number(again: Option<usize>, seen: bool, at: usize) -> Option<usize>
     if seen { Some(at) } else { None }
 }
 
-/// Adds the names of the parameters that these lines declare. Answers the first line whose
-/// parameter was seen before, or is declared twice.
+/// Adds the names of the parameters that these lines declare to an empty set. Answers the first
+/// line that declares a parameter which one before it declares.
 pub(crate) fn see_declared<'a>(
     declared: &mut IndexSet<&'a [u8]>,
     lines: &'a [SectionLine],
 ) -> Result<Option<usize>, AllocError>
-    ensures again { IfOk result (λ again. is_some again
-        ≡ (list_any (redeclares_seen (names_in declared.old.keys)) lines.now
-        || redeclares lines.now)) }
+    requires { declared.old.keys ≡ [] }
+    ensures again { IfOk result (λ again. again ≡ first_again is_declared_twice [] 0 lines.now) }
     ensures names { OnOk result (AddsNames (names_in declared.old.keys)
         (λ n. is_declared n lines.now) (names_in declared.new.keys)) }
 {
     let mut again = None;
-    let mut at = 0usize;
-    let mut rest = lines;
-    'lines: while let Some((line, after)) = rest.split_first() {
+    for (at, line) in lines.iter().enumerate() {
         let seen = see_declaration(declared, line)?;
         again = first_number(again, seen, at);
-        at = at.saturating_add(1);
-        rest = after;
     }
     Ok(again)
 }
@@ -177,31 +173,26 @@ pub(crate) fn see<'a>(seen: &mut IndexSet<&'a [u8]>, name: &'a [u8]) -> Result<b
 
 /// The first line that gives a value to a parameter that has a fixed one in a line before it.
 pub(crate) fn given_again(alloc: Global, lines: &[SectionLine]) -> Result<Option<usize>, AllocError>
-    ensures { IfOk result (λ at. is_some at ≡ sets_fixed_again lines.now) }
+    ensures { IfOk result (λ at. at ≡ first_again is_refixed [] 0 lines.now) }
 {
     let mut fixed = IndexSet::new(alloc);
     one_gives_seen(&mut fixed, lines)
 }
 
-/// The first of these lines that gives a value to a parameter that was seen, or is given a fixed
-/// value before it.
+/// The first of these lines that gives a value to a parameter that has a fixed one in a line before
+/// it. The names of those that have are added to an empty set.
 fn one_gives_seen<'a>(
     seen: &mut IndexSet<&'a [u8]>,
     lines: &'a [SectionLine],
 ) -> Result<Option<usize>, AllocError>
-    ensures { IfOk result (λ at. is_some at
-        ≡ (list_any (gives_seen (names_in seen.old.keys)) lines.now
-        || sets_fixed_again lines.now)) }
+    requires { seen.old.keys ≡ [] }
+    ensures { IfOk result (λ at. at ≡ first_again is_refixed [] 0 lines.now) }
 {
-    let mut at = 0usize;
-    let mut rest = lines;
-    'lines: while let Some((line, after)) = rest.split_first() {
+    for (at, line) in lines.iter().enumerate() {
         if gives_seen(seen, line) {
             return Ok(Some(at));
         }
         see_fixing(seen, line)?;
-        at = at.saturating_add(1);
-        rest = after;
     }
     Ok(None)
 }
@@ -215,7 +206,7 @@ pub(crate) fn gives_seen(seen: &IndexSet<&[u8]>, line: &SectionLine) -> bool
 
 /// The first of these lines that gives a value to a parameter that wasn't seen.
 fn first_unseen(seen: &IndexSet<&[u8]>, lines: &[SectionLine]) -> Option<usize>
-    ensures { is_some result ≡ list_any (sets_undeclared (names_in seen.now.keys)) lines.now }
+    ensures { result ≡ first_from (λ l. sets_undeclared (names_in seen.now.keys) l) 0 lines.now }
 {
     for (at, line) in lines.iter().enumerate() {
         if sets_undeclared(seen, line) {

@@ -1,7 +1,7 @@
 use Rattle.std.proofs.Common.{◌≡◌, drop}
-use Rattle.std.specs.List.{list_any}
 use Rattle.ned_types.specs.Types.{is_gate_declaration}
+use Rattle.ned_inheritance.specs.Places.{first_from}
 use Rattle.ned_inheritance.proofs.bodies.first_declared.Given as goal
 
 abbrev pub invariant-loop-at : goal.invariant-loop-at
-invariant-loop-at l = list_any is_gate_declaration (drop l.at l.gates) ≡ list_any is_gate_declaration l.gates
+invariant-loop-at l = first_from is_gate_declaration l.at (drop l.at l.gates) ≡ first_from is_gate_declaration 0 l.gates

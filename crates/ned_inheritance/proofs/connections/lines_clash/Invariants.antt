@@ -1,10 +1,6 @@
-use Rattle.std.proofs.Common.{◌≡◌, length}
-use Rattle.std.specs.List.{list_any}
-use Rattle.ned_types.specs.Clashes.{line_clashes}
+use Rattle.std.proofs.Common.{◌≡◌, drop}
+use Rattle.ned_inheritance.specs.Places.{first_told, line_clash_in}
 use Rattle.ned_inheritance.proofs.connections.lines_clash.Given as goal
 
-abbrev pub invariant-lines : goal.invariant-lines
-invariant-lines l = list_any (λ c. line_clashes l.named c) l.rest ≡ list_any (λ c. line_clashes l.named c) l.lines
-
-abbrev pub decreases-lines : goal.decreases-lines
-decreases-lines l = length l.rest
+abbrev pub invariant-loop-number : goal.invariant-loop-number
+invariant-loop-number l = first_told (line_clash_in l.named l.item) l.number (drop l.number l.lines) ≡ first_told (line_clash_in l.named l.item) 0 l.lines

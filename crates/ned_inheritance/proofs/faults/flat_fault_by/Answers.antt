@@ -1,4 +1,4 @@
-use Rattle.ned_inheritance.proofs.PlaceLaws.{clash_answered, no_clash_answered}
+use Rattle.ned_inheritance.proofs.ClashLaws.{clash_answered, no_clash_answered}
 use Rattle.ned_inheritance.proofs.faults.flat_fault_by.Goals as goal
 
 pub later_fault-requires-clause-fit : goal.later_fault-requires-clause-fit

@@ -1,28 +1,30 @@
-use Rattle.std.proofs.Common.{◌||◌, ◌++◌, ◌∷◌, [], refl, sym, ap, ◌∙◌, bytes_eq}
-use Rattle.std.specs.List.{list_any}
-use Rattle.ned_inheritance.specs.Seen.{is_one_named, names_in}
-use Rattle.ned_types.specs.Types.{repeats_submodule}
-use Rattle.ned_inheritance.proofs.Repeats.{none_left, seen_before, not_seen, seen_more, seen_already}
+use Rattle.std.proofs.Common.{Some, bytes_eq, sym, ap, ◌∙◌}
+use Rattle.std.proofs.lemmas.Option.{slice_get-get_or}
+use Rattle.ned_inheritance.specs.Places.{is_name_before}
+use Rattle.ned_inheritance.specs.Seen.{is_in, names_in}
+use Rattle.ned_inheritance.proofs.AgainLaws.{added_as, again_here, again_passed, seen_next}
+use Rattle.ned_inheritance.proofs.NamedLaws.{told_there, told_new}
 use Rattle.ned_inheritance.proofs.faults.repeats_seen.Goals as goal
-
-pub submodules-init : goal.submodules-init
-submodules-init c = refl
 
 pub returns-then-not-branch : goal.returns-then-not-branch
 returns-then-not-branch c =
-    seen_before (names_in c.submodules.seen.keys) c.submodules.rest.now c.in-Some.submodule.now c.in-Some.after.now c.in-Some.ensures.cases.0
-    (ap (λ n. list_any (bytes_eq n) (names_in c.submodules.seen.keys)) (sym c.as_bytes.ensures)
-    ∙ seen_already c.submodules.seen.keys c.as_bytes.result c.in_ok-insert.field-0 c.in_ok-insert.ensures.added c.if-not-branch.true)
-    ∙ c.submodules.invariant
+    let ss = c.args.submodules.now in
+    let n = c.loop-at.at in
+    let s = c.index-submodules-at.result in
+    let here = slice_get-get_or ss n s c.loop-at-test.true ∙ ap Some (sym c.index-submodules-at.is) in
+    let there = told_there c.in_ok-see.field-0 _ c.in_ok-see.ensures.new c.if-not-branch.true in
+    again_here is_name_before n ss s _ here
+    (sym (c.loop-at.invariant.0 s.name) ∙ ap (λ m. is_in m (names_in c.loop-at.seen.keys)) (sym c.as_bytes.ensures) ∙ there) c.loop-at.invariant.1
 
-pub submodules-preserved : goal.submodules-preserved
-submodules-preserved c =
-    let keys = c.submodules.seen.keys in
-    let left = c.in-Some.after.now in
-    let more = seen_more keys c.insert.new.self.keys c.as_bytes.result c.in_ok-insert.field-0 c.in_ok-insert.ensures.added c.in_ok-insert.ensures.keys c.if-not-branch.false in
-    ap (λ names. is_one_named names left || repeats_submodule left) (more.1 ∙ ap (λ n. names_in keys ++ n ∷ []) c.as_bytes.ensures)
-    ∙ not_seen (names_in keys) c.submodules.rest.now c.in-Some.submodule.now left c.in-Some.ensures.cases.0 (ap (λ n. list_any (bytes_eq n) (names_in keys)) (sym c.as_bytes.ensures) ∙ more.0)
-    ∙ c.submodules.invariant
-
-pub returns : goal.returns
-returns c = none_left (names_in c.submodules.seen.keys) c.submodules.rest.now c.in_default.ensures.cases ∙ c.submodules.invariant
+pub loop-at-preserved : goal.loop-at-preserved
+loop-at-preserved c =
+    let ss = c.args.submodules.now in
+    let n = c.loop-at.at in
+    let s = c.index-submodules-at.result in
+    let names = names_in c.loop-at.seen.keys in
+    let more = names_in c.see.new.seen.keys in
+    let here = slice_get-get_or ss n s c.loop-at-test.true ∙ ap Some (sym c.index-submodules-at.is) in
+    let new = told_new c.in_ok-see.field-0 _ c.in_ok-see.ensures.new c.if-not-branch.false in (
+      seen_next (λ m t. bytes_eq t.name m) names more n ss s here (added_as names more c.as_bytes.result.now s.name c.as_bytes.ensures c.in_ok-see.ensures.names) c.loop-at.invariant.0,
+      again_passed is_name_before n ss s _ here (sym (c.loop-at.invariant.0 s.name) ∙ ap (λ m. is_in m names) (sym c.as_bytes.ensures) ∙ new) c.loop-at.invariant.1,
+    )

@@ -1,10 +1,10 @@
-use Rattle.std.proofs.Common.{◌≡◌, ◌||◌, length}
-use Rattle.ned_inheritance.specs.Seen.{is_one_named, names_in}
-use Rattle.ned_types.specs.Types.{repeats_submodule}
+use Rattle.std.proofs.Common.{◌≡◌, [], drop, take, bytes_eq}
+use Rattle.ned_inheritance.specs.Places.{first_again, is_name_before}
+use Rattle.ned_inheritance.specs.Seen.{names_in}
+use Rattle.ned_inheritance.proofs.AgainLaws.{AreSeen}
 use Rattle.ned_inheritance.proofs.faults.repeats_seen.Given as goal
 
-abbrev pub invariant-submodules : goal.invariant-submodules
-invariant-submodules l = (is_one_named (names_in l.seen.keys) l.rest || repeats_submodule l.rest) ≡ (is_one_named (names_in l.initial.seen.keys) l.submodules || repeats_submodule l.submodules)
-
-abbrev pub decreases-submodules : goal.decreases-submodules
-decreases-submodules l = length l.rest
+abbrev pub invariant-loop-at : goal.invariant-loop-at
+invariant-loop-at l =
+    AreSeen (λ m s. bytes_eq s.name m) (names_in l.seen.keys) (take l.at l.submodules)
+    × (first_again is_name_before (take l.at l.submodules) l.at (drop l.at l.submodules) ≡ first_again is_name_before [] 0 l.submodules)

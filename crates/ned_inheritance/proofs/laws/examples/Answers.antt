@@ -30,3 +30,6 @@ returns-clause-insides c = record { like_interface = refl; like_other = refl; li
 
 pub returns-clause-parts : goal.returns-clause-parts
 returns-clause-parts c = record { unconnected = refl; connections = refl; vector = refl; condition = refl; gates = refl; compound = refl; network = refl }
+
+pub returns-clause-clashes : goal.returns-clause-clashes
+returns-clause-clashes c = record { none = refl; declared = refl; undeclared = refl; given = refl; gate = refl; submodule = refl; other_kind = refl; unfit = refl; unfit_again = refl; body_gate = refl; other_channel = refl; block = refl; block_again = refl }

@@ -1,11 +1,11 @@
-use Rattle.std.proofs.Common.{◌≡◌, ◌||◌, length}
-use Rattle.std.specs.List.{list_any}
-use Rattle.ned_inheritance.specs.Seen.{names_in, gives_seen}
-use Rattle.ned_types.specs.Types.{sets_fixed_again}
+use Rattle.std.proofs.Common.{◌≡◌, [], drop, take}
+use Rattle.ned_inheritance.specs.Places.{first_again}
+use Rattle.ned_inheritance.specs.Seen.{names_in}
+use Rattle.ned_types.specs.Types.{gives_fixed, is_refixed}
+use Rattle.ned_inheritance.proofs.AgainLaws.{AreSeen}
 use Rattle.ned_inheritance.proofs.sections.one_gives_seen.Given as goal
 
-abbrev pub invariant-lines : goal.invariant-lines
-invariant-lines l = (list_any (gives_seen (names_in l.seen.keys)) l.rest || sets_fixed_again l.rest) ≡ (list_any (gives_seen (names_in l.initial.seen.keys)) l.lines || sets_fixed_again l.lines)
-
-abbrev pub decreases-lines : goal.decreases-lines
-decreases-lines l = length l.rest
+abbrev pub invariant-loop-at : goal.invariant-loop-at
+invariant-loop-at l =
+    AreSeen gives_fixed (names_in l.seen.keys) (take l.at l.lines)
+    × (first_again is_refixed (take l.at l.lines) l.at (drop l.at l.lines) ≡ first_again is_refixed [] 0 l.lines)

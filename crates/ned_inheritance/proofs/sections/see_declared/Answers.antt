@@ -1,18 +1,17 @@
-use Rattle.std.proofs.Common.{ap, ◌∙◌}
-use Rattle.std.specs.Prelude.{is_some}
-use Rattle.ned_inheritance.specs.Seen.{names_in, is_in}
-use Rattle.ned_types.specs.Types.{declares}
-use Rattle.ned_inheritance.proofs.SectionLaws.{is_twice, declared_more, more_left}
+use Rattle.std.proofs.Common.{Some, ◌&&◌, sym, ap, ◌∙◌}
+use Rattle.std.proofs.lemmas.Option.{slice_get-get_or}
+use Rattle.ned_types.specs.Types.{declares, is_declaration, name_in}
+use Rattle.ned_inheritance.specs.Places.{is_declared_twice}
+use Rattle.ned_inheritance.specs.Seen.{names_in}
+use Rattle.ned_inheritance.proofs.AgainLaws.{again_told_more, seen_next}
 use Rattle.ned_inheritance.proofs.sections.see_declared.Goals as goal
 
-pub lines-preserved : goal.lines-preserved
-lines-preserved c =
-    let names = names_in c.lines.declared.keys in
-    let more = names_in c.see_declaration.new.declared.keys in
-    let left = c.in-Some.after.now in
-    let adds = c.in_ok-seen.ensures.names in (
-      ap (λ t. is_twice t more left) c.first_number-again.ensures
-          ∙ declared_more (is_some c.lines.again) c.in_ok-seen.seen names more c.lines.rest.now c.in-Some.line.now left c.in-Some.ensures.cases.0 c.in_ok-seen.ensures.again adds
-          ∙ c.lines.invariant.0,
-      λ n. more_left (declares n) (is_in n names) (is_in n more) c.lines.rest.now c.in-Some.line.now left c.in-Some.ensures.cases.0 (adds n) ∙ c.lines.invariant.1 n,
+pub loop-at-preserved : goal.loop-at-preserved
+loop-at-preserved c =
+    let lines = c.args.lines.now in
+    let n = c.loop-at.at in
+    let l = c.index-lines-at.result in
+    let here = slice_get-get_or lines n l c.loop-at-test.true ∙ ap Some (sym c.index-lines-at.is) in (
+      seen_next declares (names_in c.loop-at.declared.keys) (names_in c.see_declaration.new.declared.keys) n lines l here c.in_ok-seen.ensures.names c.loop-at.invariant.0,
+      again_told_more is_declared_twice n lines l c.loop-at.again c.first_number-again.result c.in_ok-seen.seen _ here (c.in_ok-seen.ensures.again ∙ ap (λ b. is_declaration l && b) (c.loop-at.invariant.0 (name_in l))) c.first_number-again.ensures c.loop-at.invariant.1,
     )
