@@ -150,6 +150,14 @@ module _ {K V F : Type 0} (rules : Rules K V F) (exact : IsExact rules) (n : ℕ
   added_there : StandsAt after k p
   added_there = (ap key_in added.there, added.counts)
 
+-- the key of a place stays
+added_keys : {K V : Type 0} {same : K → K → Bool} (s after : Store K V) (p : ℕ) (k : K) (v : V) (asked : List ℕ) → IsAdded same s p k v asked after → (q : ℕ) (j : K) → key_at s.entries q ≡ Some j → key_at after.entries q ≡ Some j
+added_keys {K = K} s after p k v asked added q j h = by (equal_or_not q p)
+  where
+    by : (q ≡ p) ⊎ (q ≢ p) → key_at after.entries q ≡ Some j
+    by (inl d) = ap (key_at after.entries) d ∙ ap key_in added.there ∙ ap (λ (z : K). Some z) (sym (added.own j (subst (λ z. key_at s.entries z ≡ Some j) d h)))
+    by (inr d) = ap key_in (added.others q d) ∙ h
+
 -- ---- one entry more is put
 
 module _ {K V F : Type 0} (rules : Rules K V F) (exact : IsExact rules) (start : Keeping K V) (flags : List Bool) (es : Entries K V) (own : IsKept (over_base rules start flags) es) where
@@ -312,6 +320,7 @@ module _ {K V F : Type 0} (rules : Rules K V F) (exact : IsExact rules) (start :
       met = λ k v h. met_next k v (so_far.met k v h);
       stand = stand_next p s (λ j q h. h) here;
       as_long = next_long p;
+      leaves = so_far.leaves;
     }
 
     -- it is added
@@ -330,8 +339,26 @@ module _ {K V F : Type 0} (rules : Rules K V F) (exact : IsExact rules) (start :
           (added_stands rules exact (length s.entries) s after p e.0 e.1.value (map (moved_to places) e.1.asked) so_far.base unknown added)
           (added_there rules exact (length s.entries) s after p e.0 e.1.value (map (moved_to places) e.1.asked) so_far.base unknown added);
       as_long = next_long p;
+      leaves = record {
+        keys = λ q k h. added_keys s after p e.0 e.1.value (map (moved_to places) e.1.asked) added q k (so_far.leaves.keys q k h);
+        alone = λ q k h free.
+            let d = elsewhere q k h free in
+            let a = so_far.leaves.alone q k h free in
+            (added.others q d ∙ a.0, added.others_asked q d ∙ a.1, added.others_count q d ∙ a.2);
+      };
     }
       where
+        -- the entry has a value
+        met : (w : V) × (own_known e.0 ≡ Some w)
+        met = own_value (so_far.before ++ e ∷ []) rest next_parts (length so_far.before) e.0 (ap key_of_entry (slice_get_last so_far.before e))
+
+        -- what counts, or isn't known in the table, is at another place
+        elsewhere : (q : ℕ) (k : K) → key_at start.entries q ≡ Some k → (is_live flags q ≡ true) ⊎ (own_known k ≡ None) → q ≢ p
+        elsewhere q k h (inl l) = another rules exact (length s.entries) s after p e.0 e.1.value (map (moved_to places) e.1.asked) so_far.base unknown added q ((so_far.leaves.alone q k h (inl l)).2 ∙ l)
+        elsewhere q k h (inr none) = λ d.
+            let same : k ≡ e.0 = added.own k (subst (λ z. key_at s.entries z ≡ Some k) d (so_far.leaves.keys q k h)) in
+            none_some (sym none ∙ ap own_known same ∙ met.1)
+
         -- the value of the entry is the one that the table knows
         its_value : own_known e.0 ≡ Some e.1.value
         its_value =
@@ -364,6 +391,7 @@ module _ {K V F : Type 0} (rules : Rules K V F) (exact : IsExact rules) (start :
     met = λ k v h. inl h;
     stand = λ i k h. absurd (none_some h);
     as_long = ap length f;
+    leaves = record { keys = λ q k h. h; alone = λ q k h free. (refl, refl, refl) };
   }
 
   module _ (rest : Entries K V) (places : List ℕ) (s : Store K V) (so_far : IsPutSoFar rules start flags es rest places s) where

@@ -5,9 +5,10 @@ use Rattle.param_following.specs.Following.{Rules}
 use Rattle.param_engine.specs.Tables.{Entries, known, AreNoted}
 use Rattle.param_engine.specs.Tables.{key_at as own_key_at}
 use Rattle.param_engine.specs.Working.{Grows}
-use Rattle.rest_index.specs.Rests.{is_live}
+use Rattle.rest_index.specs.Rests.{asked_of, is_live}
 use Rattle.param_keeping.specs.Added.{IsAdded}
 use Rattle.param_keeping.specs.Stores.{Keeping, Store, IsStored, known_in, key_at, one_more}
+use Rattle.param_keeping.specs.Stores.{store_of}
 use Rattle.param_base.specs.Asking.{known_by}
 use Rattle.param_base.specs.Spots.{over_base}
 
@@ -48,6 +49,16 @@ abbrev pub counted_with : {K V : Type 0} → (K → Option V) → Entries K V �
 counted_with knows [] n = n
 counted_with knows (e ∷ es) n = counted_with knows es (more_if_unknown (knows e.0) n)
 
+-- WHAT IS LEFT ALONE: no place gets another key; and a place that counts, or whose key the table
+-- doesn't know, has what it had, asked for what it asked for, and counts as it did
+pub record LeavesAlone {K V : Type 0} (same : K → K → Bool) (es : Entries K V) (s after : Store K V)
+    : Type 0 where
+  pub keys : (q : ℕ) (k : K) → key_at s.entries q ≡ Some k → key_at after.entries q ≡ Some k
+  pub alone : (q : ℕ) (k : K) → key_at s.entries q ≡ Some k
+      → (is_live s.live q ≡ true) ⊎ (known same es k ≡ None) →
+      (slice_get after.entries q ≡ slice_get s.entries q)
+      × (asked_of after.rows q ≡ asked_of s.rows q) × (is_live after.live q ≡ is_live s.live q)
+
 -- A table of one's own, found over a base, is being put into it, entry by entry from the front: the
 -- base may be kept still, has what it had, and of the table those before; and for each of these the
 -- list says where it stands now.
@@ -64,3 +75,4 @@ pub record IsPutSoFar {K V F : Type 0} (rules : Rules K V F) (start : Keeping K 
   pub stand : (own : ℕ) (k : K) → own_key_at before own ≡ Some k
       → StandsAt s k (moved_to places own)
   pub as_long : length places ≡ length before
+  pub leaves : LeavesAlone rules.same es (store_of start flags) s

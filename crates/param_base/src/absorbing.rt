@@ -2,7 +2,7 @@
 
 ghost use Rattle.std.specs.Prelude.{◌≡◌, ℕ, map, true, OnOk, OnErr, IfOk};
 ghost use Rattle.param_base.specs.Absorbing.{counted_with, more_if_unknown, moved_to, IsOneOf};
-ghost use Rattle.param_base.specs.Absorbing.{IsPut};
+ghost use Rattle.param_base.specs.Absorbing.{IsPut, LeavesAlone};
 ghost use Rattle.param_base.specs.Asking.{known_by};
 ghost use Rattle.param_base.specs.Spots.{over_base, IsBase};
 ghost use Rattle.param_engine.specs.Tables.{known, IsKept};
@@ -94,6 +94,9 @@ pub fn absorb<A: Asker>(
         (known_by A.Key.eq kept.new live.new) }
     ensures found { OnOk result (Grows (known A.Key.eq found.entries)
         (known_by A.Key.eq kept.new live.new)) }
+    // Other places stay as they were.
+    ensures alone { OnOk result (LeavesAlone A.Key.eq found.entries
+        (store_of kept.old live.old) (store_of kept.new live.new)) }
     ensures only { IsOneOf (known_by A.Key.eq kept.old live.old) (known A.Key.eq found.entries)
         (known_by A.Key.eq kept.new live.new) }
     ensures counted { OnOk result (kept.new.evaluations

@@ -6,3 +6,4 @@ mod Inserting
 mod Same
 mod Steps
 mod Room
+mod GivenBack

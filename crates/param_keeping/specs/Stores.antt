@@ -38,6 +38,14 @@ key_in (Some e) = Some e.0
 abbrev pub key_at : {K V : Type 0} → List (K × V) → ℕ → Option K
 key_at es p = key_in (slice_get es p)
 
+-- and its value, whether it counts or not
+abbrev pub value_in : {K V : Type 0} → Option (K × V) → Option V
+value_in None = None
+value_in (Some e) = Some e.1
+
+abbrev pub value_at : {K V : Type 0} → List (K × V) → ℕ → Option V
+value_at es p = value_in (slice_get es p)
+
 abbrev pub keys_at : {K V : Type 0} → List (K × V) → List ℕ → List (Option K)
 keys_at es [] = []
 keys_at es (p ∷ ps) = key_at es p ∷ keys_at es ps

@@ -1,11 +1,12 @@
 //! Values that are kept, each in a place that stays.
 
 ghost use Rattle.std.specs.Prelude.{◌≡◌, ℕ, [], None, Some, true, OnOk, OnErr, IfOk, IfSome};
-ghost use Rattle.std.specs.Prelude.{◌+◌, ◌<◌, length, slice_get};
+ghost use Rattle.std.specs.Prelude.{◌+◌, ◌<◌, ◌^◌, length, slice_get, slice_set};
+ghost use Rattle.std.specs.Option.{option_copied};
 ghost use Rattle.rest_index.specs.Rests.{asked_of, is_among, is_live, IsLeft};
 ghost use Rattle.param_keeping.specs.Added.{IsAdded, KnowsTheSame};
-ghost use Rattle.param_keeping.specs.Stores.{known_in, one_more, store_of, AreOne, IsShaped};
-ghost use Rattle.param_keeping.specs.Stores.{Keeping};
+ghost use Rattle.param_keeping.specs.Stores.{key_at, known_in, one_more, store_of, value_at};
+ghost use Rattle.param_keeping.specs.Stores.{AreOne, IsShaped, Keeping};
 
 use indexmap::IndexMap;
 use rest_index::giving_up::{Flags, give_up, is_live, take_back};
@@ -66,6 +67,30 @@ impl<K: Eq + Hash + Drop, V: Drop> Kept<K, V> {
         self.rows.as_slice()
     }
 
+    /// How many places there are.
+    pub fn len(&self) -> usize
+        ensures len { result ≡ length self.now.entries }
+        ensures small { result < 2 ^ 63 }
+    {
+        self.entries.len()
+    }
+
+    /// The key of a place, if there is such a place.
+    pub fn key(&self, place: usize) -> Option<&K>
+        ensures { option_copied result ≡ key_at self.now.entries place }
+    {
+        let (key, _) = self.entries.get_index(place)?;
+        Some(key)
+    }
+
+    /// What stands at a place, whether it counts or not.
+    pub fn value(&self, place: usize) -> Option<&V>
+        ensures { option_copied result ≡ value_at self.now.entries place }
+    {
+        let (_, value) = self.entries.get_index(place)?;
+        Some(value)
+    }
+
     /// The place and the value of a key, where it counts by these flags.
     pub fn find(&self, key: &K, live: &[bool]) -> Option<(usize, &V)>
         requires shaped { IsShaped K.eq (store_of self.now live.now) }
@@ -104,6 +129,21 @@ impl<K: Eq + Hash + Drop, V: Drop> Kept<K, V> {
                 Err(error.into())
             }
         }
+    }
+
+    /// What stands at a place counts again, where all that it asked for counts. It takes no memory.
+    pub fn give_back(&self, live: &mut Items<bool>, place: usize)
+        requires shaped { IsShaped K.eq (store_of self.now live.old) }
+        requires there { place < length self.now.entries }
+        requires counts { (p : ℕ) → is_among p (asked_of self.now.rows place) ≡ true
+            → is_live live.old p ≡ true }
+        ensures live { live.new ≡ slice_set live.old place true }
+        ensures added { (k : K) (v : V) → slice_get self.now.entries place ≡ Some (k, v)
+            → IsAdded K.eq (store_of self.now live.old) place k v (asked_of self.now.rows place)
+            (store_of self.now live.new) }
+    {
+        let _count = self.entries.len();
+        live.set(place, true);
     }
 
     /// There is room for one place more.

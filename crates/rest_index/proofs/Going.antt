@@ -241,3 +241,8 @@ module _ (rows : List Row) (seeds : List ℕ) where
   as_many next start g none on =
       let e = ap length (on.goes.given ∙ ap (λ z. z ++ on.goes.more) none) in
       let c = on.goes.counted in let f = few start.live in omega (arith, e, c, f)
+
+-- what counts no more stays, whether it asked for a place or not
+pub not_counted_stays : (asked : Bool) (g : Flags) (u : ℕ) → is_live g.live u ≡ false → g ≡ cond asked (without g u) g
+not_counted_stays false g u h = refl
+not_counted_stays true g u h = sym (ap (λ b. cond b (record { live = slice_set g.live u false; given = g.given ++ u ∷ [] }) g) h)

@@ -97,7 +97,8 @@ fn give_up_all(flags: &mut Flags, places: &[usize]) -> Result<(), AllocError>
     Ok(())
 }
 
-/// Gives up one that may have asked for a place, where it did.
+/// Gives up one that may have asked for a place, where it did. What it asked for is not looked
+/// through where it counts no more.
 fn give_up_user(
     rows: &[Row],
     place: usize,
@@ -107,6 +108,9 @@ fn give_up_user(
     ensures ok { OnOk result (flags.new ≡ without_user rows.now place flags.old user) }
     ensures back { with_all flags.new.live flags.new.given ≡ with_all flags.old.live flags.old.given }
 {
+    if !is_live(flags.live.as_slice(), user) {
+        return Ok(());
+    }
     if is_among(place, asked_of(rows, user)) {
         give_up_one(flags, user)?;
     }

@@ -111,3 +111,6 @@ pub returns-clause-counted : goal.returns-clause-counted
 returns-clause-counted g c =
     ap (λ l. counted_with (known_by g.A.Key.PartialEq.eq c.args.kept.now c.args.live.now) l c.entries.kept.evaluations) (sym c.in_default.ensures.steps.0)
     ∙ c.entries.invariant.1
+
+pub returns-clause-alone : goal.returns-clause-alone
+returns-clause-alone g c = c.entries.invariant.0.leaves
