@@ -11,7 +11,7 @@ use Rattle.ini_trees.specs.declared.entry.EntryValue.{EntryValue}
 use Rattle.ini_trees.specs.declared.lines.IniEntry.{IniEntry}
 use Rattle.ini_trees.specs.Entries.{first_match, speaks_of, value_for, value_said}
 use Rattle.ini_trees.specs.Words.{Bytes}
-use Rattle.place_index.specs.Places.{path_at, reaches}
+use Rattle.place_index.specs.Places.{PathsOf, reaches}
 use Rattle.rest_index.specs.Rests.{is_among}
 use Rattle.edit_places.specs.Edited.{between, is_reached, AreReached, HaveEnds, NoneIsMissed}
 use Rattle.edit_places.proofs.Common.{drop_at, none_some, take_at, take_more}
@@ -67,8 +67,8 @@ is_between before after front back ends = record {
 
 -- ---- the places that entries reach
 
-pub reached_both : (paths : List (Option Bytes)) (xs ys : List IniEntry) (p : ℕ) → is_reached paths (xs ++ ys) p ≡ (is_reached paths xs p || is_reached paths ys p)
-reached_both paths xs ys p = list_any-append (λ (e : IniEntry). reaches e (path_at paths p)) xs ys
+pub reached_both : (paths : PathsOf) (xs ys : List IniEntry) (p : ℕ) → is_reached paths (xs ++ ys) p ≡ (is_reached paths xs p || is_reached paths ys p)
+reached_both paths xs ys p = list_any-append (λ (e : IniEntry). reaches e (paths p)) xs ys
 
 none_false : (b : Bool) → (b || false) ≡ b
 none_false true = refl
@@ -79,20 +79,20 @@ or_assoc true b c = refl
 or_assoc false b c = refl
 
 -- one entry more reaches its own
-pub reached_more : (paths : List (Option Bytes)) (es : List IniEntry) (from n : ℕ) (e : IniEntry) (p : ℕ) (old so_far new more : Bool) → from ≤ n → slice_get es n ≡ Some e
-    → so_far ≡ (old || is_reached paths (between from n es) p) → new ≡ (so_far || more) → more ≡ reaches e (path_at paths p)
+pub reached_more : (paths : PathsOf) (es : List IniEntry) (from n : ℕ) (e : IniEntry) (p : ℕ) (old so_far new more : Bool) → from ≤ n → slice_get es n ≡ Some e
+    → so_far ≡ (old || is_reached paths (between from n es) p) → new ≡ (so_far || more) → more ≡ reaches e (paths p)
     → new ≡ (old || is_reached paths (between from (n + 1) es) p)
 reached_more paths es from n e p old so_far new more le at was is own =
     is ∙ ap (λ b. b || more) was ∙ or_assoc old (is_reached paths (between from n es) p) more
-    ∙ ap (λ b. old || (is_reached paths (between from n es) p || b)) (own ∙ sym (none_false (reaches e (path_at paths p))))
+    ∙ ap (λ b. old || (is_reached paths (between from n es) p || b)) (own ∙ sym (none_false (reaches e (paths p))))
     ∙ ap (λ b. old || b) (sym (reached_both paths (between from n es) (e ∷ []) p) ∙ ap (λ l. is_reached paths l p) (sym (between_more es from n e le at)))
 
 -- no entry reaches none
-pub reached_none : (paths : List (Option Bytes)) (es : List IniEntry) (from p : ℕ) (old : Bool) → old ≡ (old || is_reached paths (between from from es) p)
+pub reached_none : (paths : PathsOf) (es : List IniEntry) (from p : ℕ) (old : Bool) → old ≡ (old || is_reached paths (between from from es) p)
 reached_none paths es from p old = sym (ap (λ l. old || is_reached paths l p) (between_none es from) ∙ none_false old)
 
 -- and where all were looked at, all that they reach are there
-pub reached_all : (paths : List (Option Bytes)) (es : List IniEntry) (from n to p : ℕ) (old new : Bool) → n ≡ to → new ≡ (old || is_reached paths (between from n es) p)
+pub reached_all : (paths : PathsOf) (es : List IniEntry) (from n to p : ℕ) (old new : Bool) → n ≡ to → new ≡ (old || is_reached paths (between from n es) p)
     → new ≡ (old || is_reached paths (between from to es) p)
 reached_all paths es from n to p old new e h = h ∙ ap (λ k. old || is_reached paths (between from k es) p) e
 
@@ -100,7 +100,7 @@ pub among_both : (p : ℕ) (xs ys : List ℕ) → is_among p (xs ++ ys) ≡ (is_
 among_both p xs ys = list_any-append (λ q. q == p) xs ys
 
 -- those of what was taken out, and then those of what was put in
-pub places_reached : (paths : List (Option Bytes)) (before after : List IniEntry) (front back : ℕ) (ends : HaveEnds before after front back) (many more : ℕ) (none first both : List ℕ)
+pub places_reached : (paths : PathsOf) (before after : List IniEntry) (front back : ℕ) (ends : HaveEnds before after front back) (many more : ℕ) (none first both : List ℕ)
     → many ≡ length before → more ≡ length after → none ≡ []
     → ((p : ℕ) → is_among p first ≡ (is_among p none || is_reached paths (between front (many - back) before) p))
     → ((p : ℕ) → is_among p both ≡ (is_among p first || is_reached paths (between front (more - back) after) p)) → AreReached paths before after both
@@ -120,7 +120,7 @@ places_reached paths before after front back ends many more none first both all 
 spoken : (path : Bytes) (es : List IniEntry) → is_utf8 path ≡ true → list_any (λ (e : IniEntry). is_utf8 path && speaks_of path e) es ≡ is_spoken_of path es
 spoken path es h = ap (λ (b : Bool). list_any (λ (e : IniEntry). b && speaks_of path e) es) h
 
-pub none_missed : OnlyMatchedPathsChange → (paths : List (Option Bytes)) (before after : List IniEntry) (places : List ℕ) → AreReached paths before after places
+pub none_missed : OnlyMatchedPathsChange → (paths : PathsOf) (before after : List IniEntry) (places : List ℕ) → AreReached paths before after places
     → NoneIsMissed paths before after places
 none_missed law paths before after places (taken, put, stands, reached) p path at out = by (is_utf8 path) refl
   where

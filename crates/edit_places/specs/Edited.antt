@@ -1,5 +1,5 @@
 -- Which places an edit of entries reaches.
-use Rattle.std.specs.Prelude.{◌≡◌, ◌≤◌, ◌+◌, ◌-◌, ℕ, Bool, false, List, ◌++◌, Option, Some, length}
+use Rattle.std.specs.Prelude.{◌≡◌, ◌≤◌, ◌+◌, ◌-◌, ℕ, Bool, false, List, ◌++◌, Some, length}
 use Rattle.std.specs.Prelude.{take, drop}
 use Rattle.std.specs.List.{list_any, All}
 use Rattle.inside_edits.specs.Entries.{IsBetween}
@@ -7,7 +7,7 @@ use Rattle.ini_entries.specs.Meaning.{IsEntryMeaning}
 use Rattle.ini_trees.specs.declared.lines.IniEntry.{IniEntry}
 use Rattle.ini_trees.specs.Entries.{value_for}
 use Rattle.ini_trees.specs.Words.{Bytes}
-use Rattle.place_index.specs.Places.{path_at, reaches}
+use Rattle.place_index.specs.Places.{PathsOf, reaches}
 use Rattle.rest_index.specs.Rests.{is_among}
 
 -- an entry says what its key and its value say, as one does that was read of a text
@@ -25,19 +25,19 @@ pub record HaveEnds (one other : List IniEntry) (front back : ℕ) : Type 0 wher
 abbrev pub between : ℕ → ℕ → List IniEntry → List IniEntry
 between from to es = take (to - from) (drop from es)
 
--- one of these entries speaks of the path that is noted at a place
-abbrev pub is_reached : List (Option Bytes) → List IniEntry → ℕ → Bool
-is_reached paths es p = list_any (λ (e : IniEntry). reaches e (path_at paths p)) es
+-- one of these entries speaks of the path of a place
+abbrev pub is_reached : PathsOf → List IniEntry → ℕ → Bool
+is_reached paths es p = list_any (λ (e : IniEntry). reaches e (paths p)) es
 
 -- THE PLACES THAT AN EDIT REACHES: between entries that stay before it and behind it some were taken
 -- out, and others put in; the places are those of whose paths one of all these speaks.
-abbrev pub AreReached : List (Option Bytes) → List IniEntry → List IniEntry → List ℕ → Type 0
+abbrev pub AreReached : PathsOf → List IniEntry → List IniEntry → List ℕ → Type 0
 AreReached paths before after places = (taken : List IniEntry) × (put : List IniEntry)
     × IsBetween before after taken put
     × ((p : ℕ) → is_among p places ≡ is_reached paths (taken ++ put) p)
 
 -- NONE IS MISSED: of the path of each other place the entries say after the edit what they said
 -- before it
-abbrev pub NoneIsMissed : List (Option Bytes) → List IniEntry → List IniEntry → List ℕ → Type 0
-NoneIsMissed paths before after places = (p : ℕ) (path : Bytes) → path_at paths p ≡ Some path
+abbrev pub NoneIsMissed : PathsOf → List IniEntry → List IniEntry → List ℕ → Type 0
+NoneIsMissed paths before after places = (p : ℕ) (path : Bytes) → paths p ≡ Some path
     → is_among p places ≡ false → value_for path after ≡ value_for path before

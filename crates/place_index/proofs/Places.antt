@@ -3,7 +3,6 @@ use Rattle.std.proofs.Common.{◌≡◌, ◌≢◌, ◌⊎◌, inl, inr, ℕ, ze
 use Rattle.std.proofs.lemmas.Bool.{and_parts, cases_eq}
 use Rattle.std.proofs.lemmas.List.{take_all, take_more}
 use Rattle.std.specs.Char.{is_ascii}
-use Rattle.std.specs.Prelude.{slice_set}
 use Rattle.std.proofs.lemmas.Str.{is_utf8-from_IsUtf8}
 use Rattle.std.specs.Str.{IsAscii, IsUtf8, bytes_eq, chars, is_utf8}
 use Rattle.ini_index.proofs.KeyLaws.{key_asked}
@@ -16,84 +15,9 @@ use Rattle.ini_trees.specs.declared.lines.IniEntry.{IniEntry}
 use Rattle.ini_trees.specs.Entries.{is_parameter_name, last_name, speaks, speaks_of}
 use Rattle.ini_trees.proofs.TextLaws.{no_text}
 use Rattle.ini_trees.specs.Words.{Bytes, word_typename}
-use Rattle.place_index.specs.Listing.{ListsMore}
-use Rattle.place_index.specs.Places.{are_ascii, path_at, reaches, ArePlaced, IsNoted, IsPlaced}
+use Rattle.place_index.specs.Places.{AreListed, Listing, PathsOf, are_ascii, reaches}
 use Rattle.rest_index.specs.Rests.{is_among}
-
--- ---- paths at places
-
-pub grown : (paths : List (Option Bytes)) (p : ℕ) → path_at (paths ++ None ∷ []) p ≡ path_at paths p
-grown [] zero = refl
-grown [] (suc p) = refl
-grown (x ∷ paths) zero = refl
-grown (x ∷ paths) (suc p) = grown paths p
-
-set_own : (paths : List (Option Bytes)) (place : ℕ) (o : Option Bytes) → place < length paths → path_at (slice_set paths place o) place ≡ o
-set_own [] place o h = absurd (omega (arith, h))
-set_own (x ∷ paths) zero o h = refl
-set_own (x ∷ paths) (suc n) o h = set_own paths n o (omega (arith, h))
-
-set_other : (paths : List (Option Bytes)) (place p : ℕ) (o : Option Bytes) → (p ≡ place → ⊥) → path_at (slice_set paths place o) p ≡ path_at paths p
-set_other [] place p o h = refl
-set_other (x ∷ paths) zero zero o h = absurd (h refl)
-set_other (x ∷ paths) zero (suc p) o h = refl
-set_other (x ∷ paths) (suc n) zero o h = refl
-set_other (x ∷ paths) (suc n) (suc p) o h = set_other paths n p o (λ e. h (ap suc e))
-
-pub set_noted : (paths : List (Option Bytes)) (place : ℕ) (o : Option Bytes) → place < length paths → IsNoted place o paths (slice_set paths place o)
-set_noted paths place o h = record { own = set_own paths place o h; others = λ p n. set_other paths place p o n }
-
--- a place that isn't there has no path
-pub none_beyond : (paths : List (Option Bytes)) (place : ℕ) → length paths ≤ place → path_at paths place ≡ None
-none_beyond [] place h = refl
-none_beyond (x ∷ paths) zero h = absurd (omega (arith, h))
-none_beyond (x ∷ paths) (suc n) h = none_beyond paths n (omega (arith, h))
-
-pub noted_as_it_was : (paths : List (Option Bytes)) (place : ℕ) (o : Option Bytes) → path_at paths place ≡ o → IsNoted place o paths paths
-noted_as_it_was paths place o h = record { own = h; others = λ p n. refl }
-
--- from paths that are those of before at each place
-pub noted_from : (before paths after : List (Option Bytes)) (place : ℕ) (o : Option Bytes) → ((p : ℕ) → path_at paths p ≡ path_at before p) → IsNoted place o paths after → IsNoted place o before after
-noted_from before paths after place o same noted = record { own = noted.own; others = λ p n. noted.others p n ∙ same p }
-
--- ---- places that are listed
-
-placed_there : (p : ℕ) (path : Bytes) (u v : Bytes → List ℕ) → ListsMore u v → IsPlaced p path u → IsPlaced p path v
-placed_there p path u v more is = record {
-  whole = more path p is.whole;
-  named = more (last_name path) p is.named;
-  odd = λ h. more [] p (is.odd h);
-}
-
-pub placed_more : (paths : List (Option Bytes)) (u v : Bytes → List ℕ) → ListsMore u v → ArePlaced paths u → ArePlaced paths v
-placed_more paths u v more are p path h = placed_there p path u v more (are p path h)
-
-pub placed_same : (paths others : List (Option Bytes)) (u : Bytes → List ℕ) → ((p : ℕ) → path_at others p ≡ path_at paths p) → ArePlaced paths u → ArePlaced others u
-placed_same paths others u same are p path h = are p path (sym (same p) ∙ h)
-
-same_path : (a b : Bytes) → Some a ≡ Some b → a ≡ b
-same_path a b h = ap (or_that a) h
-  where
-    or_that : Bytes → Option Bytes → Bytes
-    or_that x None = x
-    or_that x (Some y) = y
-
-no_path : (path : Bytes) → None ≡ Some path → ⊥
-no_path path h = cc
-
-pub placed_noted : (paths after : List (Option Bytes)) (place : ℕ) (o : Option Bytes) (u : Bytes → List ℕ) → IsNoted place o paths after → ((path : Bytes) → o ≡ Some path → IsPlaced place path u) → ArePlaced paths u → ArePlaced after u
-placed_noted paths after place o u noted own are p path h = elim (cases_eq p place) [
-  | inl same ↦ subst (λ q. IsPlaced q path u) (sym same) (own path (sym noted.own ∙ ap (path_at after) (sym same) ∙ h))
-  | inr other ↦ are p path (sym (noted.others p other) ∙ h)
-]
-
-pub placed_set : (paths : List (Option Bytes)) (place : ℕ) (path : Bytes) (u : Bytes → List ℕ) → place < length paths → IsPlaced place path u → ArePlaced paths u → ArePlaced (slice_set paths place (Some path)) u
-placed_set paths place path u within own are =
-    placed_noted paths (slice_set paths place (Some path)) place (Some path) u (set_noted paths place (Some path) within) (λ other h. subst (λ (x : Bytes). IsPlaced place x u) (same_path path other h) own) are
-
-pub placed_unset : (paths : List (Option Bytes)) (place : ℕ) (u : Bytes → List ℕ) → place < length paths → ArePlaced paths u → ArePlaced (slice_set paths place None) u
-placed_unset paths place u within are =
-    placed_noted paths (slice_set paths place None) place None u (set_noted paths place None within) (λ other h. absurd (no_path other h)) are
+use Rattle.place_index.proofs.LastNames.{last_twice}
 
 -- ---- places of whose paths an entry speaks
 
@@ -131,33 +55,33 @@ both true false false h = refl
 both false true false h = refl
 both false false false h = refl
 
-module _ (law : LastNameIsLiteral) (e : IniEntry) (paths : List (Option Bytes)) (under : Bytes → List ℕ) (are : ArePlaced paths under) (key : Bytes) (is : key ≡ key_of e.meaning) (some : key ≢ []) where
+module _ (law : LastNameIsLiteral) (e : IniEntry) (paths : PathsOf) (under : Listing) (are : AreListed paths under) (key : Bytes) (is : key ≡ key_of e.meaning) (some : key ≢ []) where
   -- a place of whose path it speaks is listed under its key, or under the empty text
-  under_key : (p : ℕ) (path : Bytes) → path_at paths p ≡ Some path → speaks_of path e ≡ true → (is_among p (under key) || is_among p (under [])) ≡ true
+  under_key : (p : ℕ) (path : Bytes) → paths p ≡ Some path → speaks_of path e ≡ true → (is_among p (under (last_name key)) || is_among p (under [])) ≡ true
   under_key p path h s = by (are_ascii path) refl
     where
-      by : (b : Bool) → are_ascii path ≡ b → (is_among p (under key) || is_among p (under [])) ≡ true
-      by false odd = or_right (is_among p (under key)) (is_among p (under [])) ((are p path h).odd odd)
-      by true ascii = or_left (is_among p (under key)) (is_among p (under [])) (elim (key_asked law (pieces_of e.meaning) path (all_ascii path ascii) (matched_by path e.meaning s)) [
-        | inl same ↦ ap (λ t. is_among p (under t)) (is ∙ same) ∙ (are p path h).whole
+      by : (b : Bool) → are_ascii path ≡ b → (is_among p (under (last_name key)) || is_among p (under [])) ≡ true
+      by false odd = or_right (is_among p (under (last_name key))) (is_among p (under [])) ((are p path h).odd odd)
+      by true ascii = or_left (is_among p (under (last_name key))) (is_among p (under [])) (elim (key_asked law (pieces_of e.meaning) path (all_ascii path ascii) (matched_by path e.meaning s)) [
+        | inl same ↦ ap (λ t. is_among p (under (last_name t))) (is ∙ same) ∙ (are p path h).named
         | inr r ↦ elim r [
-          | inl same ↦ ap (λ t. is_among p (under t)) (is ∙ same) ∙ (are p path h).named
+          | inl same ↦ ap (λ t. is_among p (under t)) (ap last_name (is ∙ same) ∙ last_twice path) ∙ (are p path h).named
           | inr none ↦ absurd (some (is ∙ none))
         ]
       ])
 
   -- so those that are listed under the one or the other, and of whose paths it speaks, are all of whose
   -- paths it speaks
-  pub by_key : (p : ℕ) (none one two named odd : List ℕ) → none ≡ [] → named ≡ under key → odd ≡ under [] → is_among p one ≡ (is_among p none || (is_among p named && reaches e (path_at paths p)))
-      → is_among p two ≡ (is_among p one || (is_among p odd && reaches e (path_at paths p))) → is_among p two ≡ reaches e (path_at paths p)
+  pub by_key : (p : ℕ) (none one two named odd : List ℕ) → none ≡ [] → named ≡ under (last_name key) → odd ≡ under [] → is_among p one ≡ (is_among p none || (is_among p named && reaches e (paths p)))
+      → is_among p two ≡ (is_among p one || (is_among p odd && reaches e (paths p))) → is_among p two ≡ reaches e (paths p)
   by_key p none one two named odd empty is_named is_odd first second =
       second
-      ∙ ap (λ b. b || (is_among p odd && reaches e (path_at paths p))) (first ∙ ap (λ (l : List ℕ). is_among p l || (is_among p named && reaches e (path_at paths p))) empty)
-      ∙ ap (λ (l : List ℕ). (false || (is_among p l && reaches e (path_at paths p))) || (is_among p odd && reaches e (path_at paths p))) is_named
-      ∙ ap (λ (l : List ℕ). (false || (is_among p (under key) && reaches e (path_at paths p))) || (is_among p l && reaches e (path_at paths p))) is_odd
-      ∙ both (is_among p (under key)) (is_among p (under [])) (reaches e (path_at paths p)) (by (path_at paths p) refl)
+      ∙ ap (λ b. b || (is_among p odd && reaches e (paths p))) (first ∙ ap (λ (l : List ℕ). is_among p l || (is_among p named && reaches e (paths p))) empty)
+      ∙ ap (λ (l : List ℕ). (false || (is_among p l && reaches e (paths p))) || (is_among p odd && reaches e (paths p))) is_named
+      ∙ ap (λ (l : List ℕ). (false || (is_among p (under (last_name key)) && reaches e (paths p))) || (is_among p l && reaches e (paths p))) is_odd
+      ∙ both (is_among p (under (last_name key))) (is_among p (under [])) (reaches e (paths p)) (by (paths p) refl)
     where
-      by : (o : Option Bytes) → path_at paths p ≡ o → reaches e o ≡ true → (is_among p (under key) || is_among p (under [])) ≡ true
+      by : (o : Option Bytes) → paths p ≡ o → reaches e o ≡ true → (is_among p (under (last_name key)) || is_among p (under [])) ≡ true
       by None h r = absurd (true≢false (sym r))
       by (Some path) h r = under_key p path h (and_parts (is_utf8 path) (speaks_of path e) r).1
 
@@ -255,8 +179,8 @@ one_found passes place was found before more p = (
         go false e = e
 
 -- the entry of each place was asked
-pub all_found : (e : IniEntry) (paths : List (Option Bytes)) (place : ℕ) (found : List ℕ) → length paths ≤ place → AreFound (λ p. reaches e (path_at paths p)) place found → (p : ℕ) → is_among p found ≡ reaches e (path_at paths p)
-all_found e paths place found beyond are p = by (cases_lt p place)
+pub all_found : (e : IniEntry) (paths : PathsOf) (count place : ℕ) (found : List ℕ) → ((p : ℕ) → count ≤ p → paths p ≡ None) → count ≤ place → AreFound (λ p. reaches e (paths p)) place found → (p : ℕ) → is_among p found ≡ reaches e (paths p)
+all_found e paths count place found none beyond are p = by (cases_lt p place)
   where
     cases_lt : (a b : ℕ) → (a < b) ⊎ (b ≤ a)
     cases_lt a zero = inr (omega arith)
@@ -266,9 +190,9 @@ all_found e paths place found beyond are p = by (cases_lt p place)
       | inr h ↦ inr (omega (arith, h))
     ]
 
-    by : (p < place) ⊎ (place ≤ p) → is_among p found ≡ reaches e (path_at paths p)
+    by : (p < place) ⊎ (place ≤ p) → is_among p found ≡ reaches e (paths p)
     by (inl h) = (are p).0 h
-    by (inr h) = (are p).1 h ∙ sym (ap (reaches e) (none_beyond paths p (omega (arith, h, beyond))))
+    by (inr h) = (are p).1 h ∙ sym (ap (reaches e) (none p (omega (arith, h, beyond))))
 
 -- ---- paths that are texts, and others
 

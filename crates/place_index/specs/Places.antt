@@ -1,6 +1,5 @@
--- Places, each with a path of the ini text or none.
+-- Places, each with a path of the ini text or none, and where they are listed.
 use Rattle.std.specs.Prelude.{◌≡◌, ℕ, Bool, true, false, ◌&&◌, List, [], Option, Some, None}
-use Rattle.std.specs.Prelude.{slice_get}
 use Rattle.std.specs.Char.{is_ascii}
 use Rattle.std.specs.List.{list_all}
 use Rattle.std.specs.Str.{is_utf8}
@@ -9,19 +8,13 @@ use Rattle.ini_trees.specs.Entries.{last_name, speaks_of}
 use Rattle.ini_trees.specs.Words.{Bytes}
 use Rattle.rest_index.specs.Rests.{is_among}
 
-abbrev pub path_in : Option (Option Bytes) → Option Bytes
-path_in None = None
-path_in (Some path) = path
+-- the path of each place that has one
+abbrev pub PathsOf : Type 0
+PathsOf = ℕ → Option Bytes
 
--- the path that is noted at a place, if any
-abbrev pub path_at : List (Option Bytes) → ℕ → Option Bytes
-path_at paths p = path_in (slice_get paths p)
-
--- the path of that place is noted, and that of no other is another one than before
-pub record IsNoted (place : ℕ) (path : Option Bytes) (before after : List (Option Bytes))
-    : Type 0 where
-  pub own : path_at after place ≡ path
-  pub others : (p : ℕ) → (p ≡ place → ⊥) → path_at after p ≡ path_at before p
+-- the places that are listed under each text
+abbrev pub Listing : Type 0
+Listing = Bytes → List ℕ
 
 -- the entry speaks of a path, which is a text
 abbrev pub reaches : IniEntry → Option Bytes → Bool
@@ -32,14 +25,12 @@ reaches e (Some path) = is_utf8 path && speaks_of path e
 abbrev pub are_ascii : Bytes → Bool
 are_ascii path = list_all is_ascii path
 
--- a place is listed under its path, and under the last name of that; under the empty text too, where
--- the path has other characters than those of ASCII
-pub record IsPlaced (p : ℕ) (path : Bytes) (under : Bytes → List ℕ) : Type 0 where
-  pub whole : is_among p (under path) ≡ true
+-- A PLACE IS LISTED under the last name of its path; under the empty text too, where the path has
+-- other characters than those of ASCII
+pub record IsListed (p : ℕ) (path : Bytes) (under : Listing) : Type 0 where
   pub named : is_among p (under (last_name path)) ≡ true
   pub odd : are_ascii path ≡ false → is_among p (under []) ≡ true
 
 -- EACH PLACE that has a path is listed so
-abbrev pub ArePlaced : List (Option Bytes) → (Bytes → List ℕ) → Type 0
-ArePlaced paths under = (p : ℕ) (path : Bytes) → path_at paths p ≡ Some path
-    → IsPlaced p path under
+abbrev pub AreListed : PathsOf → Listing → Type 0
+AreListed paths under = (p : ℕ) (path : Bytes) → paths p ≡ Some path → IsListed p path under

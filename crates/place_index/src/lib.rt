@@ -4,5 +4,6 @@
 pub mod index;
 mod key;
 mod listing;
-mod paths;
+pub mod paths;
+pub mod reached;
 mod speaks;

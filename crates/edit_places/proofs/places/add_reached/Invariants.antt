@@ -4,8 +4,8 @@ use Rattle.rest_index.specs.Rests.{is_among}
 use Rattle.edit_places.proofs.places.add_reached.Given as goal
 
 abbrev pub invariant-entries : goal.invariant-entries
-invariant-entries l = (l.from ≤ l.number) × (l.number ≤ l.to)
-    × ((p : ℕ) → is_among p l.places ≡ (is_among p l.fn.places || is_reached l.index (between l.from l.number l.entries) p))
+invariant-entries g l = (l.from ≤ l.number) × (l.number ≤ l.to)
+    × ((p : ℕ) → is_among p l.places ≡ (is_among p l.fn.places || is_reached (g.P.PlacePaths.paths l.at) (between l.from l.number l.entries) p))
 
 abbrev pub decreases-entries : goal.decreases-entries
-decreases-entries l = l.to - l.number
+decreases-entries g l = l.to - l.number
