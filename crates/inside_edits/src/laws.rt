@@ -1,6 +1,7 @@
 //! Laws of edits of the ini text. The functions do nothing: their contracts are the laws.
 
 ghost use Rattle.inside_edits.specs.Entries.{OnlyFirstMatchesChange, OnlyMatchedPathsChange};
+ghost use Rattle.inside_edits.specs.GivenBack.{GivenBackIsKept};
 ghost use Rattle.inside_edits.specs.Kept.{KeptOverIniEdit};
 ghost use Rattle.inside_edits.specs.Reads.{AsksAsBefore};
 
@@ -21,4 +22,11 @@ pub fn only_first_matches_change()
 /// is given up rests on one at these places.
 pub fn kept_over_ini_edit()
     ensures { KeptOverIniEdit }
+{}
+
+/// The inside of a module that was given up may be kept with values of the edited text, where each
+/// value that it asked for is there: the one that it was, or another one of a parameter of an inner
+/// module.
+pub fn given_back_is_kept()
+    ensures { GivenBackIsKept }
 {}

@@ -1,0 +1,6 @@
+mod Passing
+mod Blind
+pub mod Walk
+mod Ends
+mod Parts
+pub mod Values
