@@ -330,6 +330,7 @@ impl<C: Catalogue> Runner<C> {
     pub fn keep_up_to(&mut self, event: Option<u64>)
         ensures kernel { self.new.kernel ≡ self.old.kernel }
         ensures waiting { self.new.waiting ≡ self.old.waiting }
+        ensures stood { self.new.stood ≡ self.old.stood }
         ensures positions { self.new.positions ≡ kept_up_to event self.old.positions }
     {
         match event {

@@ -18,6 +18,7 @@ ghost use Rattle.edit_session.specs.Editing.{IsFor, IsFreshRun, IsGivenUp, IsUnk
 ghost use Rattle.checkpoint_runs.specs.Kept.{kept_up_to, AreGood, HasGood};
 ghost use Rattle.checkpoint_runs.specs.Positions.{CanBeStored};
 ghost use Rattle.checkpoint_runs.specs.Positions.{HasStored};
+ghost use Rattle.checkpoint_runs.specs.declared.phases.Stood.{Stood};
 ghost use Rattle.checkpoint_runs.specs.Running.{is_back, resumed};
 ghost use Rattle.kernel.specs.declared.request.Request.{Request};
 ghost use Rattle.edit_session.specs.Lasting.{IsTouched};
@@ -179,6 +180,7 @@ impl<C: Catalogue> Session<C> {
         ensures editing { IfOk result (λ session. (model : Model)
             × IsModelOf texts.now ini.now config.now model
             × (editing_of SimpleModule-box session ≡ fresh_editing model interval)) }
+        ensures stood { IfOk result (λ session. stood_in session ≡ Stood.Before) }
         ensures refused { IfErr result (λ fault. Refuses texts.now ini.now config.now fault) }
         // Where the texts make a model, there is a session of it, unless memory runs out.
         ensures complete { IfErr result (λ fault. IsRuledOut texts.now ini.now config.now fault) }
@@ -195,6 +197,7 @@ impl<C: Catalogue> Session<C> {
         requires { 1 ≤ interval }
         ensures sound { IsSound C.behaviour SimpleModule-box result }
         ensures editing { editing_of SimpleModule-box result ≡ fresh_editing model interval }
+        ensures stood { stood_in result ≡ Stood.Before }
     {
         Session::begun(alloc, SessionModel::of_lines(model), interval)
     }
@@ -204,6 +207,7 @@ impl<C: Catalogue> Session<C> {
         requires { 1 ≤ interval }
         ensures sound { IsSound C.behaviour SimpleModule-box result }
         ensures editing { editing_of SimpleModule-box result ≡ fresh_editing model interval }
+        ensures stood { stood_in result ≡ Stood.Before }
     {
         Session {
             alloc,
@@ -230,6 +234,7 @@ impl<C: Catalogue> Session<C> {
     pub fn edit(&mut self, edit: Edit) -> Result<Edited, Refusal>
         requires sound { IsSound C.behaviour SimpleModule-box self.old }
         ensures sound { IsSound C.behaviour SimpleModule-box self.new }
+        ensures stood { stood_in self.new ≡ stood_in self.old }
 
         // The session's model is then the one that the edit makes; it is told up to which event the
         // last run stays valid.
@@ -357,6 +362,7 @@ impl<C: Catalogue> Session<C> {
         requires changed { (edit : Edit)
             × IsChangeOf C.behaviour SimpleModule-box self.old edit change }
         ensures sound { IsSound C.behaviour SimpleModule-box self.new }
+        ensures stood { stood_in self.new ≡ stood_in self.old }
         ensures told { result ≡ change.edited }
         ensures left { editing_of SimpleModule-box self.new
             ≡ edited_by (editing_of SimpleModule-box self.old) change }
@@ -511,6 +517,7 @@ impl<C: Catalogue> Session<C> {
     pub fn give_up_run(&mut self)
         requires sound { IsSound C.behaviour SimpleModule-box self.old }
         ensures sound { IsSound C.behaviour SimpleModule-box self.new }
+        ensures stood { stood_in self.new ≡ stood_in self.old }
         ensures left { editing_of SimpleModule-box self.new
             ≡ given_up (editing_of SimpleModule-box self.old) }
     {
@@ -549,6 +556,7 @@ impl<C: Catalogue> Session<C> {
             IsFor C.behaviour (wanted_of C.behaviour editing) (meaning held) }
         requires sound { IsSound C.behaviour SimpleModule-box self.old }
         ensures sound { IsSound C.behaviour SimpleModule-box self.new }
+        ensures stood { stood_in self.new ≡ stood_in self.old }
         ensures ok { let editing = editing_of SimpleModule-box self.old in
             OnOk result (IsSome (wanted_of C.behaviour editing)
             × (editing_of SimpleModule-box self.new ≡ with_box C.behaviour editing)) }
@@ -576,6 +584,7 @@ impl<C: Catalogue> Session<C> {
             IsUnknown C.behaviour (wanted_of C.behaviour editing) }
         requires sound { IsSound C.behaviour SimpleModule-box self.old }
         ensures sound { IsSound C.behaviour SimpleModule-box self.new }
+        ensures stood { stood_in self.new ≡ stood_in self.old }
         ensures ok { let editing = editing_of SimpleModule-box self.old in
             OnOk result (IsSome (wanted_of C.behaviour editing)
             × (editing_of SimpleModule-box self.new
@@ -623,6 +632,7 @@ impl<C: Catalogue> Session<C> {
             IsFor C.behaviour (wanted_of C.behaviour editing) (meaning held) }
         requires sound { IsSound C.behaviour SimpleModule-box self.old }
         ensures sound { IsSound C.behaviour SimpleModule-box self.new }
+        ensures stood { stood_in self.new ≡ stood_in self.old }
         ensures ok { let editing = editing_of SimpleModule-box self.old in
             OnOk result (editing_of SimpleModule-box self.new ≡ with_box C.behaviour editing) }
         ensures err { OnErr result (editing_of SimpleModule-box self.new
