@@ -173,6 +173,18 @@ gone_stopped b m from k before t w outcome l going e h =
       counts = rw f (subst (λ n. counts_in t ≡ behind is_multiple (counts_in before) (numbers_from (suc from) (n - from))) (sym at) h);
     }
 
+-- the last event that did not end in a fault
+pub over_last : (b : Behaviour) (m : Answers) (k : ℕ) (w v : World) (outcome : Outcome) → Running w ≡ after b m k → Over v outcome ≡ next_stage b m (Running w) → lasting (is_fault outcome) v.count ≡ k
+over_last b m k w v outcome going over =
+    let at : w.count ≡ k = count_is b m k w going in
+    let fits : Fits w = subst (λ s. Fits (world_at s)) (sym going) (fits_after b m k) in
+    let c : Counts w (Over v outcome) = over_counts b m w v outcome fits over in
+    lasting_at (is_fault outcome) v.count k (λ e. c.0 e ∙ ap suc at) (λ e. ap (λ (x : World). x.count) (c.1 e) ∙ at)
+
+pub stopped_last : (b : Behaviour) (m : Answers) (k : ℕ) (w : World) (outcome : Outcome) → Running w ≡ after b m k → record { world = w; outcome = outcome } ≡ stopped (Running w) → lasting (is_fault outcome) w.count ≡ k
+stopped_last b m k w outcome going e =
+    ap (λ (f : Bool). lasting f w.count) (stops_without w outcome w.ended (ap (λ (r : Ran). r.outcome) e)) ∙ count_is b m k w going
+
 -- ---- and what it leaves
 
 -- an event could not be executed
@@ -218,6 +230,9 @@ pub owed_lasts : (b : Behaviour) (m : Answers) (from : ℕ) (before t : Timeline
     → is_owed (is_fault outcome) w.count (counts_of t.stored) ≡ true → Running w ≡ after b m w.count
 owed_lasts b m from before t w outcome g owed =
     g.lasts (not_is (is_fault outcome) (not_both (not (is_fault outcome)) (not (ends_at w.count (counts_of t.stored))) owed))
+
+pub owed_is_no_fault : (f : Bool) (last : ℕ) (counts : List ℕ) → is_owed f last counts ≡ true → f ≡ false
+owed_is_no_fault f last counts owed = not_is f (not_both (not f) (not (ends_at last counts)) owed)
 
 -- a position that is owed is not stored yet
 and_true : (s t : Bool) → s && t ≡ true → (s ≡ true) × (t ≡ true)

@@ -3,6 +3,7 @@ pub mod Ends
 pub mod Filling
 pub mod Going
 pub mod Onwards
+pub mod Observing
 pub mod Pausing
 pub mod Leaving
 pub mod Good

@@ -2,9 +2,10 @@
 
 ghost use Rattle.std.specs.Prelude.{◌≡◌, ◌≤◌, ◌<◌, ◌&&◌, ◌++◌, ◌∷◌, [], not, true, None, Some};
 ghost use Rattle.checkpoint_runs.specs.declared.phases.AtSetup.{AtSetup};
-ghost use Rattle.std.specs.Prelude.{Option, OnOk, OnErr, IfOk, IfErr, List, length, ◌+◌};
+ghost use Rattle.std.specs.Prelude.{ℕ, Option, OnOk, OnErr, IfOk, IfErr, List, length, ◌+◌};
 ghost use Rattle.model_answers.specs.Answering.{answers_of};
-ghost use Rattle.run_semantics.specs.Run.{prepared, run_to, settled, stage_of, standing, wanted};
+ghost use Rattle.run_semantics.specs.Run.{prepared, run_to, settled, stage_of, standing, start};
+ghost use Rattle.run_semantics.specs.Run.{wanted};
 ghost use Rattle.kernel_actions.specs.Positions.{position_of};
 ghost use Rattle.kernel_call_views.specs.Tables.{AreShown};
 ghost use Rattle.model_questions.specs.Answers.{Answers as Answered};
@@ -26,6 +27,10 @@ ghost use Rattle.checkpoint_runs.specs.Kept.{HasGood, HasRun, HasRunOn, HasStart
 ghost use Rattle.checkpoint_runs.specs.Kept.{IsBesideKernel, IsGoing};
 ghost use Rattle.checkpoint_runs.specs.Positions.{last_count, start_of, HasBegun, HasLeft, HasStored};
 ghost use Rattle.checkpoint_runs.specs.Shown.{IsShownAfter};
+ghost use Rattle.checkpoint_runs.specs.Telling.{Executed, AreTold};
+ghost use Rattle.checkpoint_runs.specs.Observing.{behind_setup, begins_at, executed_after};
+ghost use Rattle.checkpoint_runs.specs.Observing.{told_by, told_to, told_when, went_on};
+ghost use Rattle.checkpoint_runs.specs.Observing.{AreExecuted, IsTold};
 ghost use Rattle.kernel_boxes.specs.Seats.{BoxAt, AreBelow as AreOfSmallerIds};
 ghost use Rattle.kernel_boxes.specs.Saved.{instances_held};
 ghost use Rattle.checkpoint_runs.specs.declared.phases.Stood.{Stood};
@@ -290,6 +295,9 @@ impl<C: Catalogue> Runner<C> {
         ensures err { OnErr result
             (HasStored C.behaviour M.answers limit None (counts_in self.old.positions)
             self.new.stood (counts_in self.new.positions)) }
+        ensures stood { OnErr result ((event : ℕ)
+            × (start_of limit (counts_of self.old.positions.stored) ≡ Some event)
+            × (self.new.stood ≡ Stood.After event)) }
     {
         let Some(position) = self.positions.at_most(limit) else {
             return Ok(RunStatus::Done(None));
@@ -364,7 +372,10 @@ impl<C: Catalogue> Runner<C> {
     // ---- events
 
     /// Tells the observer how many events are executed, and when the last one was.
-    fn tell<W: Observer>(&self, observer: &mut W) {
+    fn tell<W: Observer>(&self, observer: &mut W)
+        ensures { let world = world_in SimpleModule-box self.now.kernel in
+            W.told observer.old (Executed world.count world.clock) observer.new }
+    {
         observer.event(self.kernel.count(), self.kernel.clock());
     }
 
@@ -394,6 +405,13 @@ impl<C: Catalogue> Runner<C> {
             self.new.stood (counts_in self.new.positions)) }
         ensures ran { IfOk result (λ status.
             HasRun C.behaviour A.answers SimpleModule-box limit self.old self.new status) }
+        ensures told { let from = (world_in SimpleModule-box self.old.kernel).count in
+            let count = (world_in SimpleModule-box self.new.kernel).count in
+            IfOk result (λ status. AreTold W.told observer.old
+            (executed_after C.behaviour A.answers from (told_to count status)) observer.new) }
+        ensures until { let from = (world_in SimpleModule-box self.old.kernel).count in
+            OnErr result (AreExecuted C.behaviour A.answers from W.told observer.old self.new.stood
+            observer.new) }
         ensures shown { let left = world_in SimpleModule-box self.new.kernel in
             OnOk result (AreShown A.answers left.records shown.new) }
     {
@@ -444,6 +462,13 @@ impl<C: Catalogue> Runner<C> {
         ensures stopped { let from = (world_in SimpleModule-box self.old.kernel).count in
             HasBegun C.behaviour A.answers limit from (counts_in self.old.positions)
             self.new.stood (counts_in self.new.positions) }
+        ensures told { let from = (world_in SimpleModule-box self.old.kernel).count in
+            let count = (world_in SimpleModule-box self.new.kernel).count in
+            IfOk result (λ status. AreTold W.told observer.old
+            (told_when C.behaviour A.answers limit (Some from) count status) observer.new) }
+        ensures until { let from = (world_in SimpleModule-box self.old.kernel).count in
+            IsTold C.behaviour A.answers limit (Some from) W.told observer.old self.new.stood
+            observer.new }
         ensures shown { let left = world_in SimpleModule-box self.new.kernel in
             OnOk result (AreShown A.answers left.records shown.new) }
     {
@@ -491,6 +516,8 @@ impl<C: Catalogue> Runner<C> {
         ensures stopped { let from = (world_in SimpleModule-box self.old.kernel).count in
             HasBegun C.behaviour A.answers limit from (counts_in self.old.positions)
             self.new.stood (counts_in self.new.positions) }
+        ensures stood { OnErr result (self.new.stood ≡ self.old.stood) }
+        ensures ending { OnOk result (self.new.stood ≡ Stood.Ending) }
         ensures shown { let left = world_in SimpleModule-box self.new.kernel in
             OnOk result (AreShown A.answers left.records shown.new) }
     {
@@ -529,6 +556,13 @@ impl<C: Catalogue> Runner<C> {
             limit (counts_in self.old.positions) self.new status) }
         ensures stopped { HasStored C.behaviour A.answers limit None (counts_in self.old.positions)
             self.new.stood (counts_in self.new.positions) }
+        ensures told { let on = behind_setup (start C.behaviour A.answers) in
+            let count = (world_in SimpleModule-box self.new.kernel).count in
+            IfOk result (λ status. AreTold W.told observer.old
+            (told_when C.behaviour A.answers limit on count status) observer.new) }
+        ensures until { let on = behind_setup (start C.behaviour A.answers) in
+            IsTold C.behaviour A.answers limit on W.told observer.old self.new.stood
+            observer.new }
         ensures shown { let left = world_in SimpleModule-box self.new.kernel in
             OnOk result (AreShown A.answers left.records shown.new) }
     {
@@ -574,6 +608,12 @@ impl<C: Catalogue> Runner<C> {
             (counts_in self.old.positions) left waiting (counts_in self.new.positions) progress) }
         ensures stopped { HasStored C.behaviour M.answers limit None (counts_in self.old.positions)
             self.new.stood (counts_in self.new.positions) }
+        ensures told { let on = behind_setup (start C.behaviour M.answers) in
+            IfOk result (λ progress. AreTold W.told observer.old
+            (told_by C.behaviour M.answers limit on progress) observer.new) }
+        ensures until { let on = behind_setup (start C.behaviour M.answers) in
+            IsTold C.behaviour M.answers limit on W.told observer.old self.new.stood
+            observer.new }
         ensures shown { let left = world_in SimpleModule-box self.new.kernel in
             IfOk result (λ progress. IsShownAfter M.answers left.records shown.new progress) }
     {
@@ -627,6 +667,14 @@ impl<C: Catalogue> Runner<C> {
             (counts_in self.old.positions) left waiting (counts_in self.new.positions) progress) }
         ensures stopped { HasStored C.behaviour M.answers limit None (counts_in self.old.positions)
             self.new.stood (counts_in self.new.positions) }
+        ensures told { let began = start_of limit (counts_of self.old.positions.stored) in
+            let on = begins_at C.behaviour M.answers began in
+            IfOk result (λ progress. AreTold W.told observer.old
+            (told_by C.behaviour M.answers limit on progress) observer.new) }
+        ensures until { let began = start_of limit (counts_of self.old.positions.stored) in
+            let on = begins_at C.behaviour M.answers began in
+            IsTold C.behaviour M.answers limit on W.told observer.old self.new.stood
+            observer.new }
         ensures shown { let left = world_in SimpleModule-box self.new.kernel in
             IfOk result (λ progress. IsShownAfter M.answers left.records shown.new progress) }
     {
@@ -678,6 +726,14 @@ impl<C: Catalogue> Runner<C> {
             (counts_in self.old.positions) left waiting (counts_in self.new.positions) progress) }
         ensures stopped { HasStored C.behaviour M.answers limit (Some at)
             (counts_in self.old.positions) self.new.stood (counts_in self.new.positions) }
+        ensures told { let stored = counts_of self.old.positions.stored in
+            let on = went_on C.behaviour M.answers limit (Some at) stored in
+            IfOk result (λ progress. AreTold W.told observer.old
+            (told_by C.behaviour M.answers limit on progress) observer.new) }
+        ensures until { let stored = counts_of self.old.positions.stored in
+            let on = went_on C.behaviour M.answers limit (Some at) stored in
+            IsTold C.behaviour M.answers limit on W.told observer.old self.new.stood
+            observer.new }
         ensures shown { let left = world_in SimpleModule-box self.new.kernel in
             IfOk result (λ progress. IsShownAfter M.answers left.records shown.new progress) }
     {
@@ -727,6 +783,14 @@ impl<C: Catalogue> Runner<C> {
             (counts_in self.new.positions) progress) }
         ensures stopped { HasStored C.behaviour (answers_of model.now) limit (resumed limit phase)
             (counts_in self.old.positions) self.new.stood (counts_in self.new.positions) }
+        ensures told { let stored = counts_of self.old.positions.stored in
+            let on = went_on C.behaviour (answers_of model.now) limit (resumed limit phase) stored in
+            IfOk result (λ progress. AreTold W.told observer.old
+            (told_by C.behaviour (answers_of model.now) limit on progress) observer.new) }
+        ensures until { let stored = counts_of self.old.positions.stored in
+            let on = went_on C.behaviour (answers_of model.now) limit (resumed limit phase) stored in
+            IsTold C.behaviour (answers_of model.now) limit on W.told observer.old self.new.stood
+            observer.new }
         ensures shown { let left = world_in SimpleModule-box self.new.kernel in
             IfOk result (λ progress.
             IsShownAfter (answers_of model.now) left.records shown.new progress) }

@@ -12,6 +12,11 @@ use Rattle.checkpoint_runs.proofs.Advancing.{back_progress, back_waits}
 use Rattle.checkpoint_runs.proofs.Counting.{back_stored, kept_counts, last_again, setup_stored, start_stored}
 use Rattle.checkpoint_runs.proofs.Filling.{setup_advances}
 use Rattle.checkpoint_runs.proofs.Pausing.{first_none}
+use Rattle.checkpoint_runs.proofs.Observing.{told_by_on, told_in_progress, until_on, until_there}
+use Rattle.checkpoint_runs.specs.Observing.{begins_at, behind_setup}
+use Rattle.checkpoint_runs.specs.Positions.{start_of}
+use Rattle.run_semantics.specs.Run.{start}
+use Rattle.checkpoints.specs.Stored.{counts_of}
 use Rattle.checkpoint_runs.proofs.running.Runner.begin.Goals as goal
 
 -- where a run waits it goes back to a position
@@ -112,3 +117,69 @@ returns-in-Done-None-clause-advances g c =
     ok_step c.run_from_setup.result c.run_from_setup.ensures.advances (λ progress h.
     setup_advances b m c.args.limit c.args.at (standing_in (λ b. (g.dyn-1.0.entry b.vtable).1) c.args.self.now) (supplied_in (λ b. (g.dyn-1.0.entry b.vtable).1) c.args.self.now) old cleared w xs new progress back.0 (rw back.1 at (ap counts_in c.clear.ensures))
     (subst (λ r. Advances b m c.args.limit c.args.at None (standing_in (λ b. (g.dyn-1.0.entry b.vtable).1) r) (supplied_in (λ b. (g.dyn-1.0.entry b.vtable).1) r) cleared w xs new progress) back.1 h))
+
+-- ---- what is told of it
+
+pub returns-in_err-request-clause-until : goal.returns-in_err-request-clause-until
+returns-in_err-request-clause-until g c =
+    let b = g.C.Catalogue.behaviour in
+    let m = g.M.ModelMarker.answers in
+    let on = begins_at b m (start_of c.args.limit (counts_of c.args.self.now.positions.stored)) in
+    let back = c.in_err-request.ensures.stood in
+    until_there b m c.args.limit back.0 on g.W.Observer.told c.args.observer.now c.go_back.new.self.stood (ap (begins_at b m) back.1) back.2
+
+pub returns-in-Waits-clause-until : goal.returns-in-Waits-clause-until
+returns-in-Waits-clause-until g c =
+    let b = g.C.Catalogue.behaviour in
+    let m = g.M.ModelMarker.answers in
+    let on = begins_at b m (start_of c.args.limit (counts_of c.args.self.now.positions.stored)) in
+    let back = rw c.in-Waits.is at c.in_ok-request.ensures.back in
+    until_there b m c.args.limit back.0 on g.W.Observer.told c.args.observer.now c.go_back.new.self.stood (ap (begins_at b m) back.1) back.2.stood
+
+pub returns-in_err-status-in-Done-Some-clause-until : goal.returns-in_err-status-in-Done-Some-clause-until
+returns-in_err-status-in-Done-Some-clause-until g c =
+    let b = g.C.Catalogue.behaviour in
+    let m = g.M.ModelMarker.answers in
+    let on = begins_at b m (start_of c.args.limit (counts_of c.args.self.now.positions.stored)) in
+    let back = rw (c.in-Done-Some.is, c.in-Done-Some.field-0-is) at c.in_ok-request.ensures.back in
+    let there = Some (world_in (λ b. (g.dyn-1.0.entry b.vtable).1) c.go_back.new.self.kernel).count in
+    let here = ap (begins_at b m) back.0 ∙ ap Some (sym back.1.count) in
+    until_on b m c.args.limit on there g.W.Observer.told c.args.observer.now c.run_on.new.observer c.run_on.new.self.stood here c.run_on.ensures.until
+
+pub returns-in_ok-status-in-Done-Some-clause-until : goal.returns-in_ok-status-in-Done-Some-clause-until
+returns-in_ok-status-in-Done-Some-clause-until g c =
+    let b = g.C.Catalogue.behaviour in
+    let m = g.M.ModelMarker.answers in
+    let on = begins_at b m (start_of c.args.limit (counts_of c.args.self.now.positions.stored)) in
+    let back = rw (c.in-Done-Some.is, c.in-Done-Some.field-0-is) at c.in_ok-request.ensures.back in
+    let there = Some (world_in (λ b. (g.dyn-1.0.entry b.vtable).1) c.go_back.new.self.kernel).count in
+    let here = ap (begins_at b m) back.0 ∙ ap Some (sym back.1.count) in
+    until_on b m c.args.limit on there g.W.Observer.told c.args.observer.now c.run_on.new.observer c.run_on.new.self.stood here c.run_on.ensures.until
+
+pub returns-in_ok-status-in-Done-Some-clause-told : goal.returns-in_ok-status-in-Done-Some-clause-told
+returns-in_ok-status-in-Done-Some-clause-told g c =
+    let b = g.C.Catalogue.behaviour in
+    let m = g.M.ModelMarker.answers in
+    let on = begins_at b m (start_of c.args.limit (counts_of c.args.self.now.positions.stored)) in
+    let back = rw (c.in-Done-Some.is, c.in-Done-Some.field-0-is) at c.in_ok-request.ensures.back in
+    let there = Some (world_in (λ b. (g.dyn-1.0.entry b.vtable).1) c.go_back.new.self.kernel).count in
+    let here = ap (begins_at b m) back.0 ∙ ap Some (sym back.1.count) in
+    rw (c.progress_of.ensures, c.count.ensures)
+    (told_in_progress b m c.args.limit (world_in (λ b. (g.dyn-1.0.entry b.vtable).1) c.run_on.new.self.kernel).count on there (Some c.in-Done-Some.start) g.W.Observer.told c.args.observer.now c.run_on.new.observer c.in_ok-status-in-Done-Some.status here c.in_ok-status-in-Done-Some.ensures.told)
+
+pub returns-in-Done-None-clause-until : goal.returns-in-Done-None-clause-until
+returns-in-Done-None-clause-until g c =
+    let b = g.C.Catalogue.behaviour in
+    let m = g.M.ModelMarker.answers in
+    let on = begins_at b m (start_of c.args.limit (counts_of c.args.self.now.positions.stored)) in
+    let back = rw (c.in-Done-None.is, c.in-Done-None.field-0-is) at c.in_ok-request.ensures.back in
+    until_on b m c.args.limit on (behind_setup (start b m)) g.W.Observer.told c.args.observer.now c.run_from_setup.new.observer c.run_from_setup.new.self.stood (ap (begins_at b m) back.0) c.run_from_setup.ensures.until
+
+pub returns-in-Done-None-clause-told : goal.returns-in-Done-None-clause-told
+returns-in-Done-None-clause-told g c =
+    let b = g.C.Catalogue.behaviour in
+    let m = g.M.ModelMarker.answers in
+    let on = begins_at b m (start_of c.args.limit (counts_of c.args.self.now.positions.stored)) in
+    let back = rw (c.in-Done-None.is, c.in-Done-None.field-0-is) at c.in_ok-request.ensures.back in
+    ok_step c.run_from_setup.result c.run_from_setup.ensures.told (λ progress h.
+    told_by_on b m c.args.limit on (behind_setup (start b m)) g.W.Observer.told c.args.observer.now c.run_from_setup.new.observer progress (ap (begins_at b m) back.0) h)

@@ -120,3 +120,10 @@ returns-in-None-clause-back g c =
         positions = c.cut_after.ensures;
       },
     )
+
+-- where it stands if memory runs out
+pub returns-in_err-request-clause-stood : goal.returns-in_err-request-clause-stood
+returns-in_err-request-clause-stood g c =
+    let old = c.args.self.now in
+    let start = start_is c.args.limit old.positions.stored ∙ ap (option_map (λ (p : Position). p.count)) (sym c.in-Some.ensures) ∙ ap Some (sym c.count-start.ensures) in
+    on_err c.from_residual.result (c.count-start.result, start, refl)

@@ -9,12 +9,15 @@ use Rattle.run_semantics.specs.Run.{Running, after, run_to, stopped, wanted}
 use Rattle.run_semantics.specs.World.{HasRoom}
 use Rattle.run_semantics.proofs.Ends.{count_going, count_over, run_over, next_after}
 use Rattle.checkpoint_runs.specs.Kept.{supplied_in, taken_if, waiting_in, AreGood}
+use Rattle.checkpoint_runs.specs.Observing.{executed_after}
 use Rattle.checkpoint_runs.specs.Running.{first_wait, parts_in}
+use Rattle.checkpoint_runs.specs.Telling.{AreTold}
 use Rattle.checkpoint_runs.specs.declared.phases.Stood.TheVariants as stood
 use Rattle.checkpoint_runs.proofs.Counting.{on_err}
 use Rattle.checkpoint_runs.proofs.Filling.{wait_over}
-use Rattle.checkpoint_runs.proofs.Going.{begun_after, begun_untaken, below_next, count_is, going_at, gone_over, gone_stopped, stored_next, StoredAt}
+use Rattle.checkpoint_runs.proofs.Going.{begun_after, begun_untaken, below_next, count_is, going_at, gone_over, gone_stopped, over_last, stopped_last, stored_next, StoredAt}
 use Rattle.checkpoint_runs.proofs.Good.{good_on, good_stored}
+use Rattle.checkpoint_runs.proofs.Observing.{executed_until, executed_untaken, told_next, told_up_to}
 use Rattle.checkpoint_runs.proofs.Pausing.{first_none, first_ready, has_modules, wait_ends, wait_none, wait_some, later}
 use Rattle.checkpoint_runs.proofs.running.Runner.run_events.Goals as goal
 
@@ -60,6 +63,13 @@ returns-in-Some-clause-ran g c =
       counts = subst (λ n. StoredAt begun.count c.args.self.now.positions c.loop-k.self.positions n) (sym at) c.loop-k.invariant.stored;
     }
 
+pub returns-in-Some-clause-told : goal.returns-in-Some-clause-told
+returns-in-Some-clause-told g c =
+    let b = g.C.Catalogue.behaviour in
+    let m = g.A.Answers.answers in
+    let w = world_in (λ b. (g.dyn-1.0.entry b.vtable).1) c.loop-k.self.kernel in
+    told_up_to b m g.W.Observer.told (world_in (λ b. (g.dyn-1.0.entry b.vtable).1) c.args.self.now.kernel).count c.loop-k._k w.count c.args.observer.now c.loop-k.observer (sym (count_is b m c.loop-k._k w c.loop-k.invariant.going)) c.loop-k.invariant.told
+
 -- ---- memory runs out
 
 pub returns-in_err-missing-clause-begun : goal.returns-in_err-missing-clause-begun
@@ -78,6 +88,16 @@ returns-in_err-over-clause-begun g c =
     on_err c.from_residual-in_err-over.result
     (begun_after g.C.Catalogue.behaviour g.A.Answers.answers c.args.limit (world_in (λ b. (g.dyn-1.0.entry b.vtable).1) c.args.self.now.kernel).count c.loop-k._k c.loop-k.self.stood c.args.self.now.positions c.loop-k.self.positions
     (world_in (λ b. (g.dyn-1.0.entry b.vtable).1) c.loop-k.self.kernel) c.loop-k.invariant.stood c.loop-k.invariant.from (omega (arith, c.loop-k-test.true)) c.loop-k.invariant.going c.loop-k.invariant.stored)
+
+pub returns-in_err-missing-clause-until : goal.returns-in_err-missing-clause-until
+returns-in_err-missing-clause-until g c =
+    on_err c.from_residual.result
+    (executed_until g.C.Catalogue.behaviour g.A.Answers.answers g.W.Observer.told (world_in (λ b. (g.dyn-1.0.entry b.vtable).1) c.args.self.now.kernel).count c.loop-k._k c.args.observer.now c.loop-k.observer c.loop-k.self.stood c.loop-k.invariant.stood c.loop-k.invariant.told)
+
+pub returns-in_err-over-clause-until : goal.returns-in_err-over-clause-until
+returns-in_err-over-clause-until g c =
+    on_err c.from_residual-in_err-over.result
+    (executed_until g.C.Catalogue.behaviour g.A.Answers.answers g.W.Observer.told (world_in (λ b. (g.dyn-1.0.entry b.vtable).1) c.args.self.now.kernel).count c.loop-k._k c.args.observer.now c.loop-k.observer c.loop-k.self.stood c.loop-k.invariant.stood c.loop-k.invariant.told)
 
 -- ---- it is over
 
@@ -106,6 +126,16 @@ returns-in-Some-over-clause-ran g c =
       gone = gone_over b m (world_in (λ b. (g.dyn-1.0.entry b.vtable).1) c.args.self.now.kernel).count k c.args.self.now.positions c.loop-k.self.positions w v c.in-Some-over.outcome c.loop-k.invariant.from c.loop-k.invariant.going
           (rw c.in-Some-over.is at c.in_ok-over.ensures.step) c.loop-k.invariant.stored;
     }
+
+pub returns-in-Some-over-clause-told : goal.returns-in-Some-over-clause-told
+returns-in-Some-over-clause-told g c =
+    let b = g.C.Catalogue.behaviour in
+    let m = g.A.Answers.answers in
+    let k = c.loop-k._k in
+    let w = world_in (λ b. (g.dyn-1.0.entry b.vtable).1) c.loop-k.self.kernel in
+    let v = world_in (λ b. (g.dyn-1.0.entry b.vtable).1) c.step.new.self in
+    told_up_to b m g.W.Observer.told (world_in (λ b. (g.dyn-1.0.entry b.vtable).1) c.args.self.now.kernel).count k _ c.args.observer.now c.loop-k.observer
+    (sym (over_last b m k w v c.in-Some-over.outcome c.loop-k.invariant.going (rw c.in-Some-over.is at c.in_ok-over.ensures.step))) c.loop-k.invariant.told
 
 -- ---- it goes on
 
@@ -139,6 +169,19 @@ returns-in_err-keep_if-clause-good g c =
     c.loop-k.self.positions.stored c.step.ensures.grown c.loop-k.invariant.good in
     subst (λ K. AreGood g.C.Catalogue.behaviour g.A.Answers.answers (world_in (λ b. (g.dyn-1.0.entry b.vtable).1) K) c.keep_if.new.self.positions.stored) (sym c.in_err-keep_if.ensures.kept)
     (subst (λ (t : Timeline Position). AreGood g.C.Catalogue.behaviour g.A.Answers.answers (world_in (λ b. (g.dyn-1.0.entry b.vtable).1) c.step.new.self) t.stored) (sym c.in_err-keep_if.ensures.err) good)
+
+pub returns-in_err-keep_if-clause-until : goal.returns-in_err-keep_if-clause-until
+returns-in_err-keep_if-clause-until g c =
+    let b = g.C.Catalogue.behaviour in
+    let m = g.A.Answers.answers in
+    let k = c.loop-k._k in
+    let from = (world_in (λ b. (g.dyn-1.0.entry b.vtable).1) c.args.self.now.kernel).count in
+    let v = world_in (λ b. (g.dyn-1.0.entry b.vtable).1) c.step.new.self in
+    let going : Running v ≡ after b m (suc k) =
+    next_after b m (world_in (λ b. (g.dyn-1.0.entry b.vtable).1) c.loop-k.self.kernel) (Running v) k c.loop-k.invariant.going (rw c.in_default-over.is at c.in_ok-over.ensures.step) in
+    on_err c.from_residual-in_err-keep_if.result
+    (executed_untaken b m g.W.Observer.told from (suc k) c.args.observer.now c.tell.new.observer c.keep_if.new.self.stood (c.in_err-keep_if.ensures.untaken ∙ ap stood.Untaken (count_is b m (suc k) v going))
+    (told_next b m g.W.Observer.told from k c.args.observer.now c.loop-k.observer c.tell.new.observer v c.loop-k.invariant.from going c.loop-k.invariant.told c.tell.ensures))
 
 pub loop-k-preserved : goal.loop-k-preserved
 loop-k-preserved g c =
@@ -178,6 +221,8 @@ loop-k-preserved g c =
       stood = c.in_ok-keep_if.ensures.stood ∙ ap stood.After (count ∙ one);
       stored = subst (λ n. StoredAt from c.args.self.now.positions new n) one
           (stored_next from k c.args.self.now.positions old new (position_of v) c.loop-k.invariant.from count (c.in_ok-keep_if.ensures.ok ∙ ap (λ t. taken_if t (position_of v) old) due) c.loop-k.invariant.stored);
+      told = subst (λ n. AreTold g.W.Observer.told c.args.observer.now (executed_after b m from n) c.tell.new.observer) one
+          (told_next b m g.W.Observer.told from k c.args.observer.now c.loop-k.observer c.tell.new.observer v c.loop-k.invariant.from going c.loop-k.invariant.told c.tell.ensures);
     }
 
 pub returns-in_err-keep_if-clause-kinds : goal.returns-in_err-keep_if-clause-kinds
@@ -202,3 +247,11 @@ returns-clause-ran g c =
       gone = gone_stopped b m (world_in (λ b. (g.dyn-1.0.entry b.vtable).1) c.args.self.now.kernel).count k c.args.self.now.positions c.loop-k.self.positions
           (world_in (λ b. (g.dyn-1.0.entry b.vtable).1) c.loop-k.self.kernel) c.outcome_of-ended.result c.loop-k.invariant.from c.loop-k.invariant.going c.outcome_of-ended.ensures c.loop-k.invariant.stored;
     }
+
+pub returns-clause-told : goal.returns-clause-told
+returns-clause-told g c =
+    let b = g.C.Catalogue.behaviour in
+    let m = g.A.Answers.answers in
+    let k = c.loop-k._k in
+    told_up_to b m g.W.Observer.told (world_in (λ b. (g.dyn-1.0.entry b.vtable).1) c.args.self.now.kernel).count k _ c.args.observer.now c.loop-k.observer
+    (sym (stopped_last b m k (world_in (λ b. (g.dyn-1.0.entry b.vtable).1) c.loop-k.self.kernel) c.outcome_of-ended.result c.loop-k.invariant.going c.outcome_of-ended.ensures)) c.loop-k.invariant.told

@@ -1,4 +1,4 @@
-use Rattle.std.proofs.Common.{◌≡◌, ◌≤◌, [], true, zero, suc, refl, sym, ap, ◌∙◌, subst, arith}
+use Rattle.std.proofs.Common.{◌≡◌, ◌≤◌, [], Some, true, zero, suc, refl, sym, ap, ◌∙◌, subst, arith}
 use Rattle.checkpoints.specs.Stored.{counts_in, AreBelow, Timeline}
 use Rattle.kernel_actions.specs.declared.position.Position.{Position}
 use Rattle.kernel_call_views.specs.Tables.{AreShown}
@@ -17,6 +17,9 @@ use Rattle.checkpoint_runs.proofs.Ends.{started_status}
 use Rattle.checkpoint_runs.proofs.Filling.{ready_known, start_is_fault, wait_over}
 use Rattle.checkpoint_runs.proofs.Going.{count_is, going_at}
 use Rattle.checkpoint_runs.proofs.Good.{good_stored}
+use Rattle.checkpoint_runs.proofs.Observing.{on_nothing, on_setup, told_nothing, told_on, until_before, until_on, until_untaken}
+use Rattle.checkpoint_runs.specs.Observing.{behind_setup, last_told}
+use Rattle.run_semantics.specs.Run.{start}
 use Rattle.checkpoint_runs.proofs.running.Runner.run_to_end.Goals as goal
 
 pub run_on-requires-clause-going : goal.run_on-requires-clause-going
@@ -106,3 +109,72 @@ returns-in_err-keep_if-in-None-clause-stopped g c =
     let going : Running w ≡ after b m 0 = rw c.in-None.is at c.in_ok-outcome.ensures.step in
     first_untaken b m c.args.limit c.keep_if.new.self.stood c.args.self.now.positions c.keep_if.new.self.positions (c.in_err-keep_if-in-None.ensures.untaken ∙ ap stood.Untaken (count_is b m 0 w going)) (w, going)
     c.requires.none c.in_err-keep_if-in-None.ensures.err
+
+-- ---- what is told of it
+
+pub returns-in_err-outcome-clause-until : goal.returns-in_err-outcome-clause-until
+returns-in_err-outcome-clause-until g c =
+    let b = g.C.Catalogue.behaviour in
+    let m = g.A.Answers.answers in
+    until_before b m c.args.limit (behind_setup (start b m)) g.W.Observer.told c.args.observer.now c.args.self.now.stood c.requires.stood
+
+pub returns-in_err-ended-in-Some-clause-until : goal.returns-in_err-ended-in-Some-clause-until
+returns-in_err-ended-in-Some-clause-until g c =
+    let b = g.C.Catalogue.behaviour in
+    let m = g.A.Answers.answers in
+    until_before b m c.args.limit (behind_setup (start b m)) g.W.Observer.told c.args.observer.now c.args.self.now.stood c.requires.stood
+
+pub returns-in_ok-ended-in-Some-clause-until : goal.returns-in_ok-ended-in-Some-clause-until
+returns-in_ok-ended-in-Some-clause-until g c =
+    let b = g.C.Catalogue.behaviour in
+    let m = g.A.Answers.answers in
+    until_before b m c.args.limit (behind_setup (start b m)) g.W.Observer.told c.args.observer.now c.args.self.now.stood c.requires.stood
+
+pub returns-in_ok-ended-in-Some-clause-told : goal.returns-in_ok-ended-in-Some-clause-told
+returns-in_ok-ended-in-Some-clause-told g c =
+    let b = g.C.Catalogue.behaviour in
+    let m = g.A.Answers.answers in
+    let w = world_in (λ b. (g.dyn-1.0.entry b.vtable).1) c.start.new.self in
+    let over : Over w c.in-Some.outcome ≡ after b m 0 = rw c.in-Some.is at c.in_ok-outcome.ensures.step in
+    told_nothing b m c.args.limit (last_told b m c.args.limit) (behind_setup (start b m)) g.W.Observer.told c.args.observer.now (on_nothing b m w c.in-Some.outcome over)
+
+pub returns-in_err-keep_if-in-None-clause-until : goal.returns-in_err-keep_if-in-None-clause-until
+returns-in_err-keep_if-in-None-clause-until g c =
+    let b = g.C.Catalogue.behaviour in
+    let m = g.A.Answers.answers in
+    let w = world_in (λ b. (g.dyn-1.0.entry b.vtable).1) c.start.new.self in
+    let going : Running w ≡ after b m 0 = rw c.in-None.is at c.in_ok-outcome.ensures.step in
+    until_untaken b m c.args.limit 0 (behind_setup (start b m)) g.W.Observer.told c.args.observer.now c.keep_if.new.self.stood (on_setup b m w going) (c.in_err-keep_if-in-None.ensures.untaken ∙ ap stood.Untaken (count_is b m 0 w going))
+
+pub returns-in_err-status-in-None-clause-until : goal.returns-in_err-status-in-None-clause-until
+returns-in_err-status-in-None-clause-until g c =
+    let b = g.C.Catalogue.behaviour in
+    let m = g.A.Answers.answers in
+    let w = world_in (λ b. (g.dyn-1.0.entry b.vtable).1) c.start.new.self in
+    let new = c.keep_if.new.self in
+    let going : Running w ≡ after b m 0 = rw c.in-None.is at c.in_ok-outcome.ensures.step in
+    let from : (world_in (λ b. (g.dyn-1.0.entry b.vtable).1) new.kernel).count ≡ 0 = ap (λ K. (world_in (λ b. (g.dyn-1.0.entry b.vtable).1) K).count) c.in_ok-keep_if-in-None.ensures.kept ∙ count_is b m 0 w going in
+    let on : behind_setup (start b m) ≡ Some (world_in (λ b. (g.dyn-1.0.entry b.vtable).1) new.kernel).count = on_setup b m w going ∙ ap Some (sym from) in
+    until_on b m c.args.limit (behind_setup (start b m)) (Some (world_in (λ b. (g.dyn-1.0.entry b.vtable).1) new.kernel).count) g.W.Observer.told c.args.observer.now c.run_on.new.observer c.run_on.new.self.stood on c.run_on.ensures.until
+
+pub returns-in_ok-status-in-None-clause-until : goal.returns-in_ok-status-in-None-clause-until
+returns-in_ok-status-in-None-clause-until g c =
+    let b = g.C.Catalogue.behaviour in
+    let m = g.A.Answers.answers in
+    let w = world_in (λ b. (g.dyn-1.0.entry b.vtable).1) c.start.new.self in
+    let new = c.keep_if.new.self in
+    let going : Running w ≡ after b m 0 = rw c.in-None.is at c.in_ok-outcome.ensures.step in
+    let from : (world_in (λ b. (g.dyn-1.0.entry b.vtable).1) new.kernel).count ≡ 0 = ap (λ K. (world_in (λ b. (g.dyn-1.0.entry b.vtable).1) K).count) c.in_ok-keep_if-in-None.ensures.kept ∙ count_is b m 0 w going in
+    let on : behind_setup (start b m) ≡ Some (world_in (λ b. (g.dyn-1.0.entry b.vtable).1) new.kernel).count = on_setup b m w going ∙ ap Some (sym from) in
+    until_on b m c.args.limit (behind_setup (start b m)) (Some (world_in (λ b. (g.dyn-1.0.entry b.vtable).1) new.kernel).count) g.W.Observer.told c.args.observer.now c.run_on.new.observer c.run_on.new.self.stood on c.run_on.ensures.until
+
+pub returns-in_ok-status-in-None-clause-told : goal.returns-in_ok-status-in-None-clause-told
+returns-in_ok-status-in-None-clause-told g c =
+    let b = g.C.Catalogue.behaviour in
+    let m = g.A.Answers.answers in
+    let w = world_in (λ b. (g.dyn-1.0.entry b.vtable).1) c.start.new.self in
+    let new = c.keep_if.new.self in
+    let going : Running w ≡ after b m 0 = rw c.in-None.is at c.in_ok-outcome.ensures.step in
+    let from : (world_in (λ b. (g.dyn-1.0.entry b.vtable).1) new.kernel).count ≡ 0 = ap (λ K. (world_in (λ b. (g.dyn-1.0.entry b.vtable).1) K).count) c.in_ok-keep_if-in-None.ensures.kept ∙ count_is b m 0 w going in
+    let on : behind_setup (start b m) ≡ Some (world_in (λ b. (g.dyn-1.0.entry b.vtable).1) new.kernel).count = on_setup b m w going ∙ ap Some (sym from) in
+    told_on b m c.args.limit (world_in (λ b. (g.dyn-1.0.entry b.vtable).1) c.run_on.new.self.kernel).count (behind_setup (start b m)) (Some (world_in (λ b. (g.dyn-1.0.entry b.vtable).1) new.kernel).count) g.W.Observer.told c.args.observer.now c.run_on.new.observer c.in_ok-status-in-None.status on c.in_ok-status-in-None.ensures.told
