@@ -8,11 +8,14 @@ ghost use Rattle.model_questions.specs.declared.answer.Question.TheVariants.{Bey
 ghost use Rattle.model_questions.specs.declared.answer.Question.TheVariants.{InjectionBefore};
 ghost use Rattle.run_question_log.specs.Entries.{asked_in, noted_in};
 ghost use Rattle.run_semantics.specs.Agreement.{Agrees, IsAgreement};
-ghost use Rattle.model_agreement.specs.Common.{IsCommon};
+ghost use Rattle.model_agreement.specs.Changes.{AreAlikeBut};
+ghost use Rattle.model_agreement.specs.Known.{IsKnown};
 ghost use Rattle.model_agreement.specs.Narrowing.{Narrows};
 ghost use Rattle.model_agreement.specs.Models.{RestOnSame};
 
-use crate::common::{Common, common_of};
+use crate::changes::ChangedParameter;
+use crate::common::common_of;
+use crate::known::{Known, is_sure};
 use crate::same::same_answer;
 use model_answers::evaluated::EvaluatedModel;
 use model_answers::plain::PlainAnswers;
@@ -26,18 +29,18 @@ use std::alloc::Global;
 /// Whether two models give a question the same answer, with the modules of these records.
 fn agrees(
     alloc: Global,
-    common: Common,
+    known: Known<'_>,
     one: &PlainAnswers<'_>,
     other: &PlainAnswers<'_>,
     records: &[Record],
     question: &Question,
 ) -> Result<bool, NoMemory>
-    requires { IsCommon (answers_of one.now) (answers_of other.now) common }
+    requires { IsKnown one.now other.now records.now known }
     ensures { IfOk result (λ same. Decides same
         (answer_of (answers_of one.now) records.now question.now
         ≡ answer_of (answers_of other.now) records.now question.now)) }
 {
-    if common.is_about(question) {
+    if is_sure(alloc, known, records, question)? {
         return Ok(true);
     }
     let first = one.answer(alloc, records, question)?;
@@ -50,13 +53,13 @@ fn agrees(
 /// allows that time.
 fn agrees_on_both(
     alloc: Global,
-    common: Common,
+    known: Known<'_>,
     one: &PlainAnswers<'_>,
     other: &PlainAnswers<'_>,
     records: &[Record],
     due: Due,
 ) -> Result<bool, NoMemory>
-    requires { IsCommon (answers_of one.now) (answers_of other.now) common }
+    requires { IsKnown one.now other.now records.now known }
     ensures { IfOk result (λ same. Decides same
         ((answer_of (answers_of one.now) records.now (InjectionBefore (Some due) None)
         ≡ answer_of (answers_of other.now) records.now (InjectionBefore (Some due) None))
@@ -64,48 +67,48 @@ fn agrees_on_both(
         ≡ answer_of (answers_of other.now) records.now (BeyondLimit due.time)))) }
 {
     let first = Question::InjectionBefore(Some(due), None);
-    if !agrees(alloc, common, one, other, records, &first)? {
+    if !agrees(alloc, known, one, other, records, &first)? {
         return Ok(false);
     }
     let limit = Question::BeyondLimit(due.time.ps());
-    agrees(alloc, common, one, other, records, &limit)
+    agrees(alloc, known, one, other, records, &limit)
 }
 
 /// Whether two models give the questions that are noted so the same answers, with the modules of
 /// these records.
 fn agrees_on(
     alloc: Global,
-    common: Common,
+    known: Known<'_>,
     one: &PlainAnswers<'_>,
     other: &PlainAnswers<'_>,
     records: &[Record],
     entry: &LogEntry,
 ) -> Result<bool, NoMemory>
-    requires { IsCommon (answers_of one.now) (answers_of other.now) common }
+    requires { IsKnown one.now other.now records.now known }
     ensures { IfOk result (λ same. Decides same
         (Agrees (answers_of one.now) (answers_of other.now) records.now (asked_in entry.now))) }
 {
-    if common.is_about_all(entry) {
+    if known.common.is_about_all(entry) {
         return Ok(true);
     }
     match entry {
         LogEntry::BeyondLimit { time, .. } => {
             let question = Question::BeyondLimit(*time);
-            agrees(alloc, common, one, other, records, &question)
+            agrees(alloc, known, one, other, records, &question)
         }
         LogEntry::FirstInjection { time, priority, .. } => {
             let question = first_injection(*time, *priority);
-            agrees(alloc, common, one, other, records, &question)
+            agrees(alloc, known, one, other, records, &question)
         }
         LogEntry::Both { time, priority, .. } => {
             let due = Due {
                 time: *time,
                 priority: *priority,
             };
-            agrees_on_both(alloc, common, one, other, records, due)
+            agrees_on_both(alloc, known, one, other, records, due)
         }
         LogEntry::Other { question, .. } => {
-            agrees(alloc, common, one, other, records, question.get())
+            agrees(alloc, known, one, other, records, question.get())
         }
     }
 }
@@ -114,14 +117,14 @@ fn agrees_on(
 /// those before its own, where they give one of them different answers.
 fn narrowed(
     alloc: Global,
-    common: Common,
+    known: Known<'_>,
     one: &PlainAnswers<'_>,
     other: &PlainAnswers<'_>,
     records: &[Record],
     entry: &LogEntry,
     valid: u64,
 ) -> Result<Option<u64>, NoMemory>
-    requires { IsCommon (answers_of one.now) (answers_of other.now) common }
+    requires { IsKnown one.now other.now records.now known }
     ensures { IfOk result (λ left. Narrows (answers_of one.now) (answers_of other.now) records.now
         (asked_in entry.now) valid left) }
 {
@@ -129,7 +132,7 @@ fn narrowed(
     if event > valid {
         return Ok(Some(valid));
     }
-    if agrees_on(alloc, common, one, other, records, entry)? {
+    if agrees_on(alloc, known, one, other, records, entry)? {
         return Ok(Some(valid));
     }
     if event == 0 {
@@ -144,19 +147,18 @@ fn agreed_up_to(
     alloc: Global,
     one: &PlainAnswers<'_>,
     other: &PlainAnswers<'_>,
-    same: bool,
+    known: Known<'_>,
     records: &[Record],
     asked: &[LogEntry],
     last: u64,
 ) -> Result<Option<u64>, NoMemory>
-    requires { same ≡ true → RestOnSame one.now other.now }
+    requires { IsKnown one.now other.now records.now known }
     ensures { IfOk result (λ valid. IsAgreement (answers_of one.now) (answers_of other.now)
         records.now last (noted_in asked.now) valid) }
 {
-    let common = common_of(one, other, same);
     let mut valid = last;
     for entry in asked {
-        match narrowed(alloc, common, one, other, records, entry, valid)? {
+        match narrowed(alloc, known, one, other, records, entry, valid)? {
             Some(left) => valid = left,
             None => return Ok(None),
         }
@@ -183,5 +185,37 @@ pub fn agreement(
 {
     let first = PlainAnswers::new(one);
     let second = PlainAnswers::new(other);
-    agreed_up_to(alloc, &first, &second, same, records, asked, last)
+    let known = Known {
+        common: common_of(&first, &second, same),
+        alike: false,
+        changed: &[],
+    };
+    agreed_up_to(alloc, &first, &second, known, records, asked, last)
+}
+
+/// The same of two models that are alike but in these parameters, for the modules of these records.
+/// Of the questions about modules only those are asked that may have another answer: about one of
+/// these parameters; about modules that were created while the run went on, and those within them;
+/// which network is run, and what is inside of compound modules.
+pub fn agreement_but(
+    alloc: Global,
+    one: &EvaluatedModel,
+    other: &EvaluatedModel,
+    changed: &[ChangedParameter],
+    records: &[Record],
+    asked: &[LogEntry],
+    last: u64,
+) -> Result<Option<u64>, NoMemory>
+    requires { AreAlikeBut one.now other.now changed.now records.now }
+    ensures { IfOk result (λ valid. IsAgreement (answers_of one.now) (answers_of other.now)
+        records.now last (noted_in asked.now) valid) }
+{
+    let first = PlainAnswers::new(one);
+    let second = PlainAnswers::new(other);
+    let known = Known {
+        common: common_of(&first, &second, false),
+        alike: true,
+        changed,
+    };
+    agreed_up_to(alloc, &first, &second, known, records, asked, last)
 }

@@ -2,6 +2,9 @@
 #![tactic(auto)]
 
 pub mod agreement;
+pub mod changes;
 pub mod common;
+pub mod known;
+pub mod laws;
 pub mod models;
 pub mod same;
