@@ -31,6 +31,8 @@ use Rattle.checkpoint_runs.specs.Running.{known_at, needed_back, positions_at, r
 use Rattle.checkpoint_runs.specs.Running.{supplied_left}
 use Rattle.checkpoint_runs.specs.Running.{wait_of, wanted_by, wanted_next, whole_run, with_part}
 use Rattle.checkpoint_runs.specs.Running.{IsLive}
+use Rattle.checkpoint_runs.specs.Observing.{last_told, told_at, told_from, went_on}
+use Rattle.checkpoint_runs.specs.Telling.{Told}
 use Rattle.run_semantics.specs.Run.{after as stage_after}
 use Rattle.edit_session.specs.Reuse.{IsKnown, IsValidTo}
 
@@ -128,6 +130,22 @@ start_in e limit = began_at limit (resumed limit e.phase) e.positions.stored
 abbrev pub wait_in : Behaviour → Editing → ℕ → Option Wait
 wait_in b e limit = wait_of b (answers_of e.model) limit (at_setup e.phase) (resumed limit e.phase)
     e.positions.stored e.boxes e.supplied
+
+-- WHERE IT GOES ON, once its first event was no fault: where it begins, or where it waits
+abbrev pub went_on_in : Behaviour → Editing → ℕ → Option ℕ
+went_on_in b e limit =
+    went_on b (answers_of e.model) limit (resumed limit e.phase) e.positions.stored
+
+-- WHAT THE OBSERVER OF A RUN to that limit IS TOLD: where it goes on, and each event up to where it
+-- waits, or to its last one
+abbrev pub observed_up_to : Behaviour → Model → ℕ → Option ℕ → Option Wait → List Told
+observed_up_to b m limit on None =
+    told_from b (answers_of m) limit on (last_told b (answers_of m) limit)
+observed_up_to b m limit on (Some wait) = told_at b (answers_of m) limit on wait.at
+
+abbrev pub observed_in : Behaviour → Editing → ℕ → List Told
+observed_in b e limit =
+    observed_up_to b e.model limit (went_on_in b e limit) (wait_in b e limit)
 
 -- WHAT A RUN LEAVES THAT WAITS there: the boxes that stay there, and its positions. None is done, and
 -- what is known is what was asked up to there.

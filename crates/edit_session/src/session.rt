@@ -15,11 +15,14 @@ ghost use Rattle.edit_session.specs.Editing.{asked_at_start, declined_at, edited
 ghost use Rattle.edit_session.specs.Editing.{given_up, last_used, supplied_phase, Completed};
 ghost use Rattle.edit_session.specs.Editing.{wanted_of, with_box, IfDone, IfWaiting, IsAccepted};
 ghost use Rattle.edit_session.specs.Editing.{IsFor, IsFreshRun, IsGivenUp, IsUnknown, WaitsFor};
+ghost use Rattle.edit_session.specs.Editing.{observed_in, went_on_in};
 ghost use Rattle.checkpoint_runs.specs.Kept.{kept_up_to, AreGood, HasGood};
 ghost use Rattle.checkpoint_runs.specs.Positions.{CanBeStored};
 ghost use Rattle.checkpoint_runs.specs.Positions.{HasStored};
 ghost use Rattle.checkpoint_runs.specs.declared.phases.Stood.{Stood};
 ghost use Rattle.checkpoint_runs.specs.Running.{is_back, resumed};
+ghost use Rattle.checkpoint_runs.specs.Observing.{IsTold};
+ghost use Rattle.checkpoint_runs.specs.Telling.{AreTold};
 ghost use Rattle.kernel.specs.declared.request.Request.{Request};
 ghost use Rattle.edit_session.specs.Lasting.{IsTouched};
 ghost use Rattle.edit_session.specs.Reuse.{IsKnown, IsValidTo};
@@ -439,6 +442,16 @@ impl<C: Catalogue> Session<C> {
             let after = editing_of SimpleModule-box self.new in
             OnErr result (HasStored C.behaviour (answers_of before.model) limit
             (resumed limit before.phase) before.positions (stood_in self.new) after.positions) }
+
+        // The observer is told where it goes on and each event, up to where it waits or ends; after
+        // lack of memory up to where it stood.
+        ensures observed { let before = editing_of SimpleModule-box self.old in
+            OnOk result
+            (AreTold W.told observer.old (observed_in C.behaviour before limit) observer.new) }
+        ensures observed_until { let before = editing_of SimpleModule-box self.old in
+            let on = went_on_in C.behaviour before limit in
+            OnErr result (IsTold C.behaviour (answers_of before.model) limit on W.told observer.old
+            (stood_in self.new) observer.new) }
     {
         match self.run_through(limit, observer) {
             Ok(progress) => Ok(progress),
@@ -472,6 +485,13 @@ impl<C: Catalogue> Session<C> {
             let after = editing_of SimpleModule-box self.new in
             IfOk result (λ status.
             IfWaiting status (λ request. WaitsFor C.behaviour before limit request after)) }
+        ensures observed { let before = editing_of SimpleModule-box self.old in
+            OnOk result
+            (AreTold W.told observer.old (observed_in C.behaviour before limit) observer.new) }
+        ensures observed_until { let before = editing_of SimpleModule-box self.old in
+            let on = went_on_in C.behaviour before limit in
+            OnErr result (IsTold C.behaviour (answers_of before.model) limit on W.told observer.old
+            (stood_in self.new) observer.new) }
     {
         let phase = self.phase;
         self.give_up();

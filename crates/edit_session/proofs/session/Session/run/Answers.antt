@@ -1,4 +1,4 @@
-use Rattle.std.proofs.Common.{option_map, ap, ◌∙◌}
+use Rattle.std.proofs.Common.{option_map, sym, ap, ◌∙◌, subst}
 use Rattle.std.proofs.Math.Facts.{Fits-lt-pow}
 use Rattle.model_answers.specs.Answering.{answers_of}
 use Rattle.checkpoints.specs.Stored.{counts_in}
@@ -7,7 +7,8 @@ use Rattle.checkpoint_runs.specs.Kept.{waiting_in}
 use Rattle.checkpoint_runs.specs.Running.{resumed}
 use Rattle.edit_session.proofs.GivenUp.{leaves_given_up, stores_given_up}
 use Rattle.edit_session.proofs.Leaving.{given_up_stored, kept_starts}
-use Rattle.edit_session.specs.Editing.{Editing}
+use Rattle.checkpoint_runs.specs.Observing.{IsTold}
+use Rattle.edit_session.specs.Editing.{went_on_in, Editing}
 use Rattle.edit_session.specs.Sessions.{completed_of, editing_of}
 use Rattle.edit_session.proofs.session.Session.run.Goals as goal
 
@@ -30,3 +31,10 @@ returns-in-Err-clause-memory g c =
 pub returns-in-Err-clause-stood : goal.returns-in-Err-clause-stood
 returns-in-Err-clause-stood g c =
     stores_given_up g.C.Catalogue.behaviour (editing_of (λ b. (g.dyn-1.0.entry b.vtable).1) c.args.self.now) (editing_of (λ b. (g.dyn-1.0.entry b.vtable).1) c.run_through.new.self) (editing_of (λ b. (g.dyn-1.0.entry b.vtable).1) c.drop_run.new.self) c.args.limit c.run_through.new.self.runner.stood c.drop_run.new.self.runner.stood c.drop_run.ensures.stood c.drop_run.ensures.left c.run_through.ensures.stored
+
+pub returns-in-Err-clause-observed_until : goal.returns-in-Err-clause-observed_until
+returns-in-Err-clause-observed_until g c =
+    let b = g.C.Catalogue.behaviour in
+    let old = c.args.self.now in
+    subst (λ s. IsTold b (answers_of old.model) c.args.limit (went_on_in b (editing_of (λ b. (g.dyn-1.0.entry b.vtable).1) old) c.args.limit) g.W.Observer.told c.args.observer.now s c.run_through.new.observer) (sym c.drop_run.ensures.stood)
+    (rw c.in-Err.is at c.run_through.ensures.observed_until)

@@ -15,7 +15,10 @@ use Rattle.edit_session.proofs.GivenUp.{cut_back}
 use Rattle.edit_session.proofs.Leaving.{done_stored, kept_starts, within_limit}
 use Rattle.edit_session.proofs.Valid.{fresh_done, kept_done}
 use Rattle.edit_session.proofs.Waiting.{kept_at_position, kept_at_setup, kept_at_start, last_back, setup_known, waits_for}
+use Rattle.edit_session.specs.Editing.{observed_up_to, went_on_in}
 use Rattle.edit_session.specs.Sessions.{completed_of, editing_of}
+use Rattle.checkpoint_runs.specs.Telling.{AreTold}
+use Rattle.checkpoint_runs.proofs.Counting.{on_err}
 use Rattle.edit_session.proofs.session.Session.run_through.Goals.{in-Start, in-Setup, in-Position}
 use Rattle.edit_session.proofs.session.Session.run_through.Goals as goal
 
@@ -132,3 +135,27 @@ returns-in_ok-report-in-Done-clause-done g c =
     let mid = c.advance.new.self in
     let h = rw (c.in-Done.is, c.evaluated.ensures, c.give_up.ensures) at c.in_ok-wait.ensures.advances in
     fresh_done g.C.Catalogue.behaviour (editing_of (λ b. (g.dyn-1.0.entry b.vtable).1) c.args.self.now) _ c.args.limit c.in_ok-report-in-Done.report (world_in (λ b. (g.dyn-1.0.entry b.vtable).1) mid.kernel) (waiting_in (λ b. (g.dyn-1.0.entry b.vtable).1) mid) (counts_in mid.positions) c.in-Done.ended c.count-count.result h c.in_ok-report-in-Done.ensures c.count-count.ensures refl refl refl refl refl
+
+-- ---- what the observer is told
+
+pub returns-after-at-clause-observed : goal.returns-after-at-clause-observed
+returns-after-at-clause-observed g c =
+    let b = g.C.Catalogue.behaviour in
+    let old = c.args.self.now in
+    let h = rw (c.in-Waits.is, c.evaluated.ensures, c.give_up.ensures) at c.in_ok-wait.ensures.advances in
+    let told = rw (c.in-Waits.is, c.evaluated.ensures, c.give_up.ensures) at c.in_ok-wait.ensures.told in
+    subst (λ o. AreTold g.W.Observer.told c.args.observer.now (observed_up_to b old.model c.args.limit (went_on_in b (editing_of (λ b. (g.dyn-1.0.entry b.vtable).1) old) c.args.limit) o) c.advance.new.observer) (sym h.is) told
+
+pub returns-in_ok-report-in-Done-clause-observed : goal.returns-in_ok-report-in-Done-clause-observed
+returns-in_ok-report-in-Done-clause-observed g c =
+    let b = g.C.Catalogue.behaviour in
+    let old = c.args.self.now in
+    let h = rw (c.in-Done.is, c.evaluated.ensures, c.give_up.ensures) at c.in_ok-wait.ensures.advances in
+    let told = rw (c.in-Done.is, c.evaluated.ensures, c.give_up.ensures) at c.in_ok-wait.ensures.told in
+    subst (λ o. AreTold g.W.Observer.told c.args.observer.now (observed_up_to b old.model c.args.limit (went_on_in b (editing_of (λ b. (g.dyn-1.0.entry b.vtable).1) old) c.args.limit) o) c.advance.new.observer) (sym h.none) told
+
+pub returns-in_err-wait-clause-observed_until : goal.returns-in_err-wait-clause-observed_until
+returns-in_err-wait-clause-observed_until g c = on_err c.from_residual.result (rw (c.evaluated.ensures, c.give_up.ensures) at c.advance.ensures.until)
+
+pub returns-in_err-report-in-Done-clause-observed_until : goal.returns-in_err-report-in-Done-clause-observed_until
+returns-in_err-report-in-Done-clause-observed_until g c = on_err c.from_residual-in_err-report-in-Done.result (rw (c.evaluated.ensures, c.give_up.ensures) at c.advance.ensures.until)
