@@ -144,6 +144,15 @@ impl EntryIndex {
         })
     }
 
+    /// The entries along the chain.
+    pub fn entries<'a>(&'a self, lines: &'a [IniLine], chain: &[Text]) -> EntryList<'a>
+        requires { IsIndexOf lines.now chain.now self.now }
+        ensures { result ≡ entries_along chain.now lines.now }
+    {
+        let _chain = chain;
+        EntryList::new(lines, self.numbers.as_slice())
+    }
+
     /// The value of the first match for a path along the chain. A path that is no text has none.
     pub fn value_for<'a>(
         &'a self,
@@ -154,8 +163,7 @@ impl EntryIndex {
         requires { IsIndexOf lines.now chain.now self.now }
         ensures { option_copied result ≡ value_for path.now (entries_along chain.now lines.now) }
     {
-        let _chain = chain;
-        let entries = EntryList::new(lines, self.numbers.as_slice());
+        let entries = self.entries(lines, chain);
         let indexed = IndexedEntries {
             entries,
             heads: &self.heads,

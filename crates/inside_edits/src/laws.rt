@@ -1,9 +1,9 @@
 //! Laws of edits of the ini text. The functions do nothing: their contracts are the laws.
 
 ghost use Rattle.inside_edits.specs.Entries.{OnlyFirstMatchesChange, OnlyMatchedPathsChange};
-ghost use Rattle.inside_edits.specs.GivenBack.{GivenBackIsKept};
 ghost use Rattle.inside_edits.specs.Kept.{KeptOverIniEdit};
 ghost use Rattle.inside_edits.specs.Reads.{AsksAsBefore};
+ghost use Rattle.inside_edits.specs.Standing.{InsideStands};
 
 /// A key asks as before where another ini text says the same of the one path that it reads.
 pub fn asks_as_before()
@@ -24,9 +24,8 @@ pub fn kept_over_ini_edit()
     ensures { KeptOverIniEdit }
 {}
 
-/// The inside of a module that was given up may be kept with values of the edited text, where each
-/// value that it asked for is there: the one that it was, or another one of a parameter of an inner
-/// module.
-pub fn given_back_is_kept()
-    ensures { GivenBackIsKept }
+/// The inside of a module is what it was, where of each value that it asked for the edited text gives
+/// the same, or, of a parameter of an inner module, another one.
+pub fn inside_stands()
+    ensures { InsideStands }
 {}

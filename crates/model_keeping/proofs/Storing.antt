@@ -17,7 +17,7 @@ use Rattle.model_settings.specs.Standings.{setting_of}
 use Rattle.model_keeping.specs.Keeping.{KeptIsNew, told_by}
 use Rattle.model_keeping.specs.Paths.{path_of_key, path_of_place}
 use Rattle.model_keeping.specs.Storing.{AreValuesOfEdited}
-use Rattle.param_keeping.specs.Stores.{Keeping, Store, IsShaped, key_at, store_of}
+use Rattle.param_keeping.specs.Stores.{HasOnePlace, Keeping, Store, IsShaped, key_at, known_in, store_of}
 use Rattle.place_index.specs.Listing.{ListsMore}
 use Rattle.place_index.specs.Places.{AreListed, IsListed, Listing, PathsOf}
 use Rattle.rest_index.specs.Rests.{IsLeft}
@@ -26,6 +26,15 @@ use Rattle.rest_index.specs.declared.giving_up.Flags.{Flags}
 -- keys are compared as the definition says
 same_equal : same_key ≡ equal
 same_equal = fun_ext (λ a. fun_ext (λ b. sym (alike a b)))
+
+pub unknown_alike : (s : Store Key Found) (k : Key) → known_in equal s k ≡ None → known_in same_key s k ≡ None
+unknown_alike s k h = subst (λ (e : Key → Key → Bool). known_in e s k ≡ None) (sym same_equal) h
+
+pub known_as : (s : Store Key Found) (k : Key) (v : Found) → known_in equal s k ≡ Some v → known_in same_key s k ≡ Some v
+known_as s k v h = subst (λ (e : Key → Key → Bool). known_in e s k ≡ Some v) (sym same_equal) h
+
+pub apart_alike : (es : List (Key × Found)) → HasOnePlace same_key es → HasOnePlace equal es
+apart_alike es h = subst (λ (e : Key → Key → Bool). HasOnePlace e es) same_equal h
 
 pub shaped_alike : (s : Store Key Found) → IsShaped same_key s → IsShaped equal s
 shaped_alike s h = subst (λ (e : Key → Key → Bool). IsShaped e s) same_equal h

@@ -8,18 +8,25 @@ use inside_keys::found::Found;
 use inside_keys::key::Key;
 use param_keeping::table::Kept;
 use place_index::index::PlaceIndex;
+use sqlite_items::Items;
 
-/// Values that are kept, and their places by the paths that their keys read in the ini text. Which of
-/// them count is said by flags, of which there can be several.
+/// Values that are kept, and their places by the paths that their keys read in the ini text. They are
+/// those of a model, all of which count by the flags that stand beside them. Which of them count for
+/// a model that was edited is said by flags of its own.
 pub struct ValueStore {
-    pub kept: Kept<Key, Found>,
+    pub(crate) kept: Kept<Key, Found>,
     pub(crate) index: PlaceIndex,
+    pub(crate) live: Items<bool>,
     ghost listed: { AreListed (path_of_place kept.entries) (under_of index) },
 }
 
 // Written out, so that a crate which drops one need not prove what that does.
 impl Drop for ValueStore {
     fn drop(self) {
-        let ValueStore { kept: _, index: _ } = self;
+        let ValueStore {
+            kept: _,
+            index: _,
+            live: _,
+        } = self;
     }
 }

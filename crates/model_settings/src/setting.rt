@@ -2,11 +2,13 @@
 
 ghost use Rattle.std.specs.Prelude.{◌≡◌, ◌<◌, ◌^◌, IfSome, option_map, pos};
 ghost use Rattle.inside_parts.specs.Names.{position_of};
+ghost use Rattle.model_data.specs.Models.{entries_in};
 ghost use Rattle.model_settings.specs.Standings.{names_of_types};
 ghost use Rattle.model_settings.specs.Tables.{AreTablesOf};
 
 use crate::standings::{around_of, index_in, is_too_deep, name_in};
 use crate::tables::ModelTables;
+use ini_index::list::EntryList;
 use ini_trees::entry::EntryValue;
 use ini_trees::speaks::last_name;
 use inside_keys::key::Module;
@@ -69,6 +71,14 @@ impl<'m> ModelSetting<'m> {
         ensures { result.now ≡ self.now }
     {
         self.model
+    }
+
+    /// The entries along its chain.
+    pub fn entries(&self) -> EntryList<'m>
+        ensures { result ≡ entries_in self.now }
+    {
+        let index = self.tables.entries();
+        index.entries(self.model.ini.lines(), self.model.chain.as_slice())
     }
 }
 

@@ -4,6 +4,5 @@ pub mod Added
 mod Finding
 mod Inserting
 mod Same
-mod Steps
+pub mod Steps
 mod Room
-mod GivenBack

@@ -6,7 +6,7 @@ ghost use Rattle.std.specs.Option.{option_copied};
 ghost use Rattle.rest_index.specs.Rests.{asked_of, is_among, is_live, IsLeft};
 ghost use Rattle.param_keeping.specs.Added.{IsAdded, KnowsTheSame};
 ghost use Rattle.param_keeping.specs.Stores.{key_at, known_in, one_more, store_of, value_at};
-ghost use Rattle.param_keeping.specs.Stores.{AreOne, IsShaped, Keeping};
+ghost use Rattle.param_keeping.specs.Stores.{AreOne, HasOnePlace, IsShaped, Keeping};
 
 use indexmap::IndexMap;
 use rest_index::giving_up::{Flags, give_up, is_live, take_back};
@@ -91,6 +91,25 @@ impl<K: Eq + Hash + Drop, V: Drop> Kept<K, V> {
         Some(value)
     }
 
+    /// The place and the value of a key, where its place has its flag. Of places with flags nothing is
+    /// asked, so they need not be those that count.
+    pub fn look_up(&self, key: &K, flags: &[bool]) -> Option<(usize, &V)>
+        requires apart { HasOnePlace K.eq self.now.entries }
+        requires exact { AreOne K.eq }
+        ensures none { result ≡ None → known_in K.eq (store_of self.now flags.now) key.now ≡ None }
+        ensures value { IfSome result (λ found.
+            known_in K.eq (store_of self.now flags.now) key.now ≡ Some found.1.now) }
+        ensures there { IfSome result
+            (λ found. slice_get self.now.entries found.0 ≡ Some (key.now, found.1.now)) }
+        ensures flagged { IfSome result (λ found. is_live flags.now found.0 ≡ true) }
+    {
+        let (place, _, value) = self.entries.get_full(key)?;
+        if is_live(flags, place) {
+            return Some((place, value));
+        }
+        None
+    }
+
     /// The place and the value of a key, where it counts by these flags.
     pub fn find(&self, key: &K, live: &[bool]) -> Option<(usize, &V)>
         requires shaped { IsShaped K.eq (store_of self.now live.now) }
@@ -102,11 +121,7 @@ impl<K: Eq + Hash + Drop, V: Drop> Kept<K, V> {
             (λ found. slice_get self.now.entries found.0 ≡ Some (key.now, found.1.now)) }
         ensures counts { IfSome result (λ found. is_live live.now found.0 ≡ true) }
     {
-        let (place, _, value) = self.entries.get_full(key)?;
-        if is_live(live, place) {
-            return Some((place, value));
-        }
-        None
+        self.look_up(key, live)
     }
 
     /// Gives up the values at these places, with all that rest on them and no others. What is kept
@@ -129,21 +144,6 @@ impl<K: Eq + Hash + Drop, V: Drop> Kept<K, V> {
                 Err(error.into())
             }
         }
-    }
-
-    /// What stands at a place counts again, where all that it asked for counts. It takes no memory.
-    pub fn give_back(&self, live: &mut Items<bool>, place: usize)
-        requires shaped { IsShaped K.eq (store_of self.now live.old) }
-        requires there { place < length self.now.entries }
-        requires counts { (p : ℕ) → is_among p (asked_of self.now.rows place) ≡ true
-            → is_live live.old p ≡ true }
-        ensures live { live.new ≡ slice_set live.old place true }
-        ensures added { (k : K) (v : V) → slice_get self.now.entries place ≡ Some (k, v)
-            → IsAdded K.eq (store_of self.now live.old) place k v (asked_of self.now.rows place)
-            (store_of self.now live.new) }
-    {
-        let _count = self.entries.len();
-        live.set(place, true);
     }
 
     /// There is room for one place more.

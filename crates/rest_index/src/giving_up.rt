@@ -45,7 +45,7 @@ pub(crate) fn is_among(place: usize, places: &[usize]) -> bool
 }
 
 /// The places that a place asked for.
-pub(crate) fn asked_of(rows: &[Row], place: usize) -> &[usize]
+pub fn asked_of(rows: &[Row], place: usize) -> &[usize]
     ensures { result.now ≡ asked_of rows.now place }
 {
     match rows.get(place) {
