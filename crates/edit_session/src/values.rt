@@ -6,7 +6,7 @@ ghost use Rattle.edit_session.specs.Lasting.{touched_by, IsTouched};
 ghost use Rattle.same_entries.specs.Counted.{AreSaid};
 ghost use Rattle.model_agreement.specs.Models.{RestOnSame};
 
-use model_agreement::models::rest_on_same;
+use model_agreement::models::{is_ini_edited, rest_on_same};
 use model_answers::evaluated::EvaluatedModel;
 use model_data::model::Model;
 use model_edits::edit::Edit;
@@ -167,7 +167,7 @@ impl SessionModel {
     {
         let same = self.lasts(&model, touched);
         let is_read = self.stays_read(&model, touched);
-        let evaluated = self.with_values(alloc, model, touched, same)?;
+        let evaluated = self.with_values(alloc, model, touched, same, is_read)?;
         Ok(Following {
             model: SessionModel { evaluated, is_read },
             same,
@@ -182,16 +182,38 @@ impl SessionModel {
         model: Model,
         touched: Touched,
         same: bool,
+        is_read: bool,
     ) -> Result<EvaluatedModel, NoMemory>
         requires touched { IsTouched touched self.now model }
         requires same { same ≡ true → RestOnSame self.now model }
+        requires read { is_read ≡ true → AreSaid model.ini }
         ensures { IfOk result (λ evaluated. evaluated ≡ model) }
     {
         match touched {
             Touched::Messages => self.evaluated.with_same_text(model),
-            Touched::Lines => self.with_lines(alloc, model, same),
-            Touched::Selection => self.with_lines(alloc, model, same),
+            Touched::Lines => self.with_lines(alloc, model, same, is_read),
+            Touched::Selection => self.with_lines(alloc, model, same, is_read),
             Touched::Files => EvaluatedModel::new(alloc, model),
+        }
+    }
+
+    /// A model of the same types, which may have another ini text: with the values of this one that
+    /// its edit leaves, where both texts are known to be such that were read and the network is the
+    /// same.
+    fn with_text(
+        &self,
+        alloc: Global,
+        model: Model,
+        is_read: bool,
+    ) -> Result<EvaluatedModel, NoMemory>
+        requires types { self.now.types ≡ model.types }
+        requires read { is_read ≡ true → AreSaid model.ini }
+        ensures { IfOk result (λ evaluated. evaluated ≡ model) }
+    {
+        if self.is_read && is_read && is_ini_edited(self.evaluated.model(), &model) {
+            self.evaluated.with_edited_text(alloc, model)
+        } else {
+            self.evaluated.with_same_types(alloc, model)
         }
     }
 
@@ -201,15 +223,17 @@ impl SessionModel {
         alloc: Global,
         model: Model,
         same: bool,
+        is_read: bool,
     ) -> Result<EvaluatedModel, NoMemory>
         requires types { self.now.types ≡ model.types }
         requires same { same ≡ true → RestOnSame self.now model }
+        requires read { is_read ≡ true → AreSaid model.ini }
         ensures { IfOk result (λ evaluated. evaluated ≡ model) }
     {
         if same {
             self.evaluated.with_same_values(alloc, model)
         } else {
-            self.evaluated.with_same_types(alloc, model)
+            self.with_text(alloc, model, is_read)
         }
     }
 }

@@ -33,7 +33,7 @@ by_parts : (m : Model) → setting_of m ≡ setting_by m.types (network_of m) (�
 unfolding setting_of
 by_parts m = refl
 
-same_networks : (m n : Model) → m.types ≡ n.types → network_entry (entries_in m) ≡ network_entry (entries_in n) → network_of m ≡ network_of n
+pub same_networks : (m n : Model) → m.types ≡ n.types → network_entry (entries_in m) ≡ network_entry (entries_in n) → network_of m ≡ network_of n
 same_networks m n types name =
     ap (λ (ts : List TypeDeclaration). network_by ts (network_entry (entries_in m))) types
     ∙ ap (λ (o : Option (List ℕ)). network_by n.types o) name

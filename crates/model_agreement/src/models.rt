@@ -6,6 +6,7 @@ ghost use Rattle.ini_trees.specs.Entries.{network_entry};
 ghost use Rattle.ini_trees.specs.Sections.{entries_along};
 ghost use Rattle.same_entries.specs.Counted.{counted, AreSaid};
 ghost use Rattle.model_agreement.specs.Models.{RestOnSame};
+ghost use Rattle.model_keeping.specs.Keeping.{IsIniEdited};
 
 use crate::same::same_names;
 use ini_trees::entries::network_entry;
@@ -41,6 +42,15 @@ fn same_network(one: &Model, other: &Model) -> bool
         (Some(name), Some(named)) => name == named,
         _ => false,
     }
+}
+
+/// Whether one model is seen to be another one of the same types with another ini text: they run the
+/// same network.
+pub fn is_ini_edited(one: &Model, other: &Model) -> bool
+    requires { one.now.types ≡ other.now.types }
+    ensures { result ≡ true → IsIniEdited one.now other.now }
+{
+    same_network(one, other)
 }
 
 /// Whether the values of two models of the same types rest on the same, and the same network is run.

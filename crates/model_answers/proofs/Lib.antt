@@ -7,3 +7,4 @@ mod NoGates
 mod Placing
 mod Walks
 mod Keeping
+mod Holding

@@ -1,7 +1,8 @@
 -- Lines of records, and what was created in them.
 use Rattle.std.proofs.Common.{◌≡◌, ◌≢◌, ℕ, zero, suc, ◌-◌, true, List, [], ◌∷◌, ◌++◌, Option, Some, None, is_some, refl, ap, sym, subst, ◌∙◌, arith, append-nil, append_assoc}
 use Rattle.ned_trees.specs.declared.declarations.TypeDeclaration.{TypeDeclaration}
-use Rattle.param_engine.specs.Tables.{Entries, IsKept}
+use Rattle.model_keeping.specs.Held.{AreRight}
+use Rattle.model_keeping.specs.declared.values.ReadValues.{ReadValues}
 use Rattle.inside_keys.specs.declared.found.Found.{Found}
 use Rattle.inside_keys.specs.declared.key.Key.{Key}
 use Rattle.inside_keys.specs.declared.key.Module.{Module}
@@ -100,10 +101,10 @@ pub built_site : (line : Lineage) (m : Module) → created_in line ≡ 0 → m.c
 built_site line m none e f = ap (λ (c : ℕ). record { created = c; path = m.path }) (e ∙ sym none) ∙ ap (λ (p : List ℕ). record { created = created_in line; path = p }) f
 
 -- what is kept of a model are values where none was created
-pub kept_there : (r : RunSetting) (m : Model) (es : Entries Key Found) → r.model.now ≡ m → r.created ≡ [] → IsKept (rules_of (setting_of m)) es → IsKept (rules_of (rules_by r)) es
-kept_there r m es e f kept =
-    subst (λ (s : ModuleRules). IsKept (rules_of s) es)
-    (sym (ap (λ (n : Model). rules_with n r.created) e ∙ ap (rules_with m) f ∙ none_created m)) kept
+pub kept_there : (r : RunSetting) (m : Model) (v : ReadValues) → r.model.now ≡ m → r.created ≡ [] → AreRight (setting_of m) v → AreRight (rules_by r) v
+kept_there r m v e f right =
+    subst (λ (s : ModuleRules). AreRight s v)
+    (sym (ap (λ (n : Model). rules_with n r.created) e ∙ ap (rules_with m) f ∙ none_created m)) right
 
 -- ---- lines in which none was created
 

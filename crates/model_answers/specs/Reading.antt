@@ -9,6 +9,7 @@ use Rattle.inside_keys.specs.declared.found.Found.{Found}
 use Rattle.inside_keys.specs.declared.key.Key.{Key}
 use Rattle.inside_keys.specs.Settings.{ModuleRules}
 use Rattle.inside_keys.specs.Values.{rules_of}
+use Rattle.model_keeping.specs.Held.{AreRight, standing}
 use Rattle.model_settings.specs.Created.{rules_by}
 use Rattle.model_settings.specs.Standings.{setting_of}
 use Rattle.inside_run.specs.Scenes.{standing_by}
@@ -31,11 +32,11 @@ settings_of s = rules_by s.setting.now
 
 -- what is kept are such values
 abbrev pub IsRight : Sources → Type 0
-IsRight s = IsKept (rules_of (settings_of s)) s.kept.now.entries
+IsRight s = AreRight (settings_of s) s.kept
 
--- what stands at a place of the table that is kept, or of the other one
+-- what stands at a place among those that are kept, or of the table
 abbrev pub standing_at : Sources → Entries Key Found → Spot → Option Found
-standing_at s own (Kept place) = value_at s.kept.now.entries place
+standing_at s own (Kept place) = standing s.kept place
 standing_at s own (Own place) = value_at own place
 
 -- what an answer says
@@ -79,7 +80,7 @@ sought_seat from own (Some k) =
 
 -- what is kept are values of the model, where no module was created while it ran
 abbrev pub AreOfModel : ModelValues → Type 0
-AreOfModel v = IsKept (rules_of (setting_of v.setting.now)) v.kept.now.entries
+AreOfModel v = AreRight (setting_of v.setting.now) v.kept
 
 -- it is the module of that line, with what its values rest on
 pub record StandsAt (p : PlacedModule) (m : Model) (line : Lineage) : Type 0 where
@@ -95,5 +96,5 @@ IsPlaced (Some p) m line = StandsAt p m line
 
 -- what is kept for it are values of the model, where these modules were created
 pub record IsReadable (p : PlacedModule) : Type 0 where
-  pub kept_are : IfSome p.kept (λ t. IsKept (rules_of (rules_by p.setting)) t.now.entries)
+  pub kept_are : IfSome p.kept (AreRight (rules_by p.setting))
   pub fresh_are : IsKept (rules_of (rules_by p.setting)) p.fresh.entries

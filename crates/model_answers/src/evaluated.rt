@@ -1,18 +1,19 @@
 //! A model, with the values that its insides rest on.
 
-ghost use Rattle.param_engine.specs.Tables.{IsKept};
-ghost use Rattle.inside_keys.specs.Values.{rules_of};
+ghost use Rattle.model_data.specs.Models.{network_of};
+ghost use Rattle.model_keeping.specs.Held.{AreRight, HoldsValues};
+ghost use Rattle.model_keeping.specs.Keeping.{IsIniEdited};
 ghost use Rattle.model_settings.specs.Standings.{setting_of};
 ghost use Rattle.model_settings.specs.Tables.{AreTablesOf};
+ghost use Rattle.same_entries.specs.Counted.{AreSaid};
 ghost use Rattle.std.specs.Prelude.{◌≡◌, IfOk};
 
 use crate::kept::kept_values;
-use inside_keys::found::Found;
-use inside_keys::key::Key;
 use model_data::model::Model;
+use model_keeping::held::HeldValues;
+use model_keeping::values::ReadValues;
 use model_settings::setting::ModelSetting;
 use model_settings::tables::ModelTables;
-use param_engine::table::Table;
 use sim_values::NoMemory;
 use std::alloc::Global;
 use std::marker;
@@ -24,7 +25,7 @@ use std::rc::Rc;
 pub struct EvaluatedModel {
     model: Model,
     tables: ModelTables,
-    found: Rc<Table<Key, Found>>,
+    values: Rc<HeldValues>,
 }
 
 // Written out, so that a crate which drops one need not prove what that does.
@@ -33,16 +34,14 @@ impl Drop for EvaluatedModel {
         let EvaluatedModel {
             model: _,
             tables: _,
-            found: _,
+            values: _,
         } = self;
     }
 }
 
 // Contracts see the model.
 impl marker::Model for EvaluatedModel {
-    ghost use Rattle.param_engine.specs.Tables.{IsKept};
-    ghost use Rattle.inside_keys.specs.Values.{rules_of};
-    ghost use Rattle.model_settings.specs.Standings.{setting_of};
+    ghost use Rattle.model_keeping.specs.Held.{HoldsValues};
     ghost use Rattle.model_settings.specs.Tables.{AreTablesOf};
     ghost use Rattle.model_data.specs.declared.model.Model.{Model};
     ghost use Rattle.model_data.specs.contracts.model.Model.{the_row};
@@ -53,12 +52,11 @@ impl marker::Model for EvaluatedModel {
 
     ghost view = { λ a. a.model };
 
-    ghost invariant = { λ a. IsKept (rules_of (setting_of a.model)) a.found.value.entries
-        × AreTablesOf a.model a.tables };
+    ghost invariant = { λ a. HoldsValues a.model a.values.value × AreTablesOf a.model a.tables };
 }
 
 /// The values, in a place that models can share.
-fn shared(alloc: Global, values: Table<Key, Found>) -> Result<Rc<Table<Key, Found>>, NoMemory>
+fn shared(alloc: Global, values: HeldValues) -> Result<Rc<HeldValues>, NoMemory>
     ensures { IfOk result (λ place. place.value ≡ values) }
 {
     match Rc::new(alloc, values) {
@@ -68,15 +66,13 @@ fn shared(alloc: Global, values: Table<Key, Found>) -> Result<Rc<Table<Key, Foun
 }
 
 /// The insides of a model, and what they rest on.
-fn values_of(
-    alloc: Global,
-    model: &Model,
-    tables: &ModelTables,
-) -> Result<Rc<Table<Key, Found>>, NoMemory>
+fn values_of(alloc: Global, model: &Model, tables: &ModelTables) -> Result<Rc<HeldValues>, NoMemory>
     requires { AreTablesOf model.now tables.now }
-    ensures { IfOk result (λ found. IsKept (rules_of (setting_of model.now)) found.value.entries) }
+    ensures { IfOk result (λ values. HoldsValues model.now values.value) }
 {
-    let values = kept_values(alloc, &ModelSetting::new(model, tables))?;
+    let setting = ModelSetting::new(model, tables);
+    let found = kept_values(alloc, &setting)?;
+    let values = HeldValues::new(alloc, &setting, found)?;
     shared(alloc, values)
 }
 
@@ -86,11 +82,11 @@ impl EvaluatedModel {
         ensures { IfOk result (λ evaluated. evaluated ≡ model) }
     {
         let tables = ModelTables::new(alloc, &model)?;
-        let found = values_of(alloc, &model, &tables)?;
+        let values = values_of(alloc, &model, &tables)?;
         Ok(EvaluatedModel {
             model,
             tables,
-            found,
+            values,
         })
     }
 
@@ -101,26 +97,67 @@ impl EvaluatedModel {
         ensures { IfOk result (λ evaluated. evaluated ≡ model) }
     {
         let tables = self.tables.with_entries_of(alloc, &model)?;
-        let found = values_of(alloc, &model, &tables)?;
+        let values = values_of(alloc, &model, &tables)?;
         Ok(EvaluatedModel {
             model,
             tables,
-            found,
+            values,
         })
     }
 
     /// A model whose values rest on the same, with the values of this one. No value is found anew.
     pub fn with_same_values(&self, alloc: Global, model: Model) -> Result<EvaluatedModel, NoMemory>
         requires types { model.types ≡ self.now.types }
+        requires network { network_of model ≡ network_of self.now }
         requires same { setting_of model ≡ setting_of self.now }
         ensures { IfOk result (λ evaluated. evaluated ≡ model) }
     {
-        let found = self.found.clone()?;
+        let values = self.values.clone()?;
         let tables = self.tables.with_entries_of(alloc, &model)?;
         Ok(EvaluatedModel {
             model,
             tables,
-            found,
+            values,
+        })
+    }
+
+    /// The values of a model that an edit of the ini text made of this one: those that the edit leaves,
+    /// and those of its parameters that are found anew; or, where an inside may be another, all values,
+    /// found anew.
+    fn values_after(
+        &self,
+        alloc: Global,
+        model: &Model,
+        tables: &ModelTables,
+    ) -> Result<Rc<HeldValues>, NoMemory>
+        requires edited { IsIniEdited self.now model.now }
+        requires before { AreSaid self.now.ini }
+        requires after { AreSaid model.now.ini }
+        requires tables { AreTablesOf model.now tables.now }
+        ensures { IfOk result (λ values. HoldsValues model.now values.value) }
+    {
+        let before = self.setting();
+        let after = ModelSetting::new(model, tables);
+        match self.values.edited(alloc, &before, &after)? {
+            Some(values) => shared(alloc, values),
+            None => values_of(alloc, model, tables),
+        }
+    }
+
+    /// A model of the same types and the same network, with those values of this one that the edit of
+    /// the ini text leaves which made it of this one. Both ini texts are such that were read.
+    pub fn with_edited_text(&self, alloc: Global, model: Model) -> Result<EvaluatedModel, NoMemory>
+        requires edited { IsIniEdited self.now model }
+        requires before { AreSaid self.now.ini }
+        requires after { AreSaid model.ini }
+        ensures { IfOk result (λ evaluated. evaluated ≡ model) }
+    {
+        let tables = self.tables.with_entries_of(alloc, &model)?;
+        let values = self.values_after(alloc, &model, &tables)?;
+        Ok(EvaluatedModel {
+            model,
+            tables,
+            values,
         })
     }
 
@@ -130,15 +167,16 @@ impl EvaluatedModel {
         requires types { model.types ≡ self.now.types }
         requires ini { model.ini ≡ self.now.ini }
         requires chain { model.chain ≡ self.now.chain }
+        requires network { network_of model ≡ network_of self.now }
         requires same { setting_of model ≡ setting_of self.now }
         ensures { IfOk result (λ evaluated. evaluated ≡ model) }
     {
-        let found = self.found.clone()?;
+        let values = self.values.clone()?;
         let tables = self.tables.share()?;
         Ok(EvaluatedModel {
             model,
             tables,
-            found,
+            values,
         })
     }
 
@@ -150,10 +188,10 @@ impl EvaluatedModel {
     }
 
     /// The values that are known.
-    pub(crate) fn values(&self) -> &Table<Key, Found>
-        ensures { IsKept (rules_of (setting_of self.now)) result.now.entries }
+    pub(crate) fn values(&self) -> ReadValues<'_>
+        ensures { AreRight (setting_of self.now) result }
     {
-        &self.found
+        self.values.values()
     }
 
     /// What its values rest on, with what is looked up of it.

@@ -1,10 +1,14 @@
 //! What is inside of compound modules.
 
-ghost use Rattle.std.specs.Prelude.{◌≡◌, IfOk, IfSome, Ok};
+ghost use Rattle.std.specs.Prelude.{◌≡◌, IfOk, IfSome, Ok, Some};
 ghost use Rattle.param_engine.specs.Tables.{IsKept};
 ghost use Rattle.inside_keys.specs.Settings.{type_gates};
 ghost use Rattle.inside_keys.specs.Unconnected.{unconnected};
-ghost use Rattle.inside_keys.specs.Values.{rules_of};
+ghost use Rattle.inside_keys.specs.Keys.{key};
+ghost use Rattle.inside_keys.specs.Values.{rules_of, value_at};
+ghost use Rattle.inside_keys.specs.declared.key.What.TheVariants as what;
+ghost use Rattle.model_keeping.specs.Held.{standing};
+ghost use Rattle.param_engine.specs.Tables.{said};
 ghost use Rattle.inside_keys.specs.declared.found.Found.TheVariants as found_as;
 ghost use Rattle.model_answers.specs.Insides as insides;
 ghost use Rattle.model_answers.specs.Keyed as keyed;
@@ -19,6 +23,7 @@ use inside_parts::parts::Part;
 use inside_run::placed::placed;
 use inside_run::scene::ModuleSource;
 use model_inside::built::{built_parts, name_of_part};
+use model_keeping::values::{ValuePlace, known};
 use model_questions::answer::Answer;
 use ned_trees::declarations::{Submodule, TypeDeclaration, TypeKind};
 use param_engine::table::Table;
@@ -101,6 +106,20 @@ fn inside_found(
     placed(alloc, from.setting, own, site, stands.around.as_ref())
 }
 
+/// Where the inside of a module stands, where it is kept.
+fn inside_place(
+    alloc: Global,
+    from: Sources<'_>,
+    site: &Module,
+) -> Result<Option<ValuePlace>, NoMemory>
+    requires { IsRight from }
+    ensures { IfOk result (λ place. IfSome place (λ p. said (standing from.entry.kept p)
+        ≡ Some (value_at (settings_of from.entry) (key site.now what.Inside)))) }
+{
+    let key = site.key(alloc, What::Inside)?;
+    Ok(known(from.setting, from.kept, &key))
+}
+
 /// The inside of a module, where it is kept.
 fn kept_inside<'a>(
     alloc: Global,
@@ -111,10 +130,11 @@ fn kept_inside<'a>(
     ensures { IfOk result (λ kept. IfSome kept (λ i.
         insides.inside_found (settings_of from.entry) site.now ≡ Ok (found_as.Inside i.now))) }
 {
-    let key = site.key(alloc, What::Inside)?;
-    let _count = from.kept.len();
-    match from.kept.find(&key) {
-        Some((_, Found::Inside(inside))) => Ok(Some(inside)),
+    let Some(place) = inside_place(alloc, from, site)? else {
+        return Ok(None);
+    };
+    match from.kept.value(place) {
+        Some(Found::Inside(inside)) => Ok(Some(inside)),
         _ => Ok(None),
     }
 }

@@ -2,9 +2,8 @@
 
 ghost use Rattle.std.specs.Prelude.{◌≡◌, ◌+◌, ◌≤◌, ◌<◌, ◌^◌, ◌++◌, true, IfOk, IfSome, OnOk, map};
 ghost use Rattle.std.specs.Prelude.{is_some};
-ghost use Rattle.param_engine.specs.Tables.{IsKept};
-ghost use Rattle.inside_keys.specs.Values.{rules_of};
 ghost use Rattle.model_answers.specs.Lines as lines;
+ghost use Rattle.model_keeping.specs.Held.{AreRight};
 ghost use Rattle.model_answers.specs.Reading.{AreOfModel, IsPlaced, IsReadable, IsRight, StandsAt};
 ghost use Rattle.model_questions.specs.Records.{lineage_up, place_of, record_there};
 ghost use Rattle.model_settings.specs.Created.{rules_by};
@@ -15,6 +14,7 @@ use inside_keys::key::{Key, Module};
 use inside_keys::planned::Planned;
 use inside_run::scene::Stands;
 use inside_run::values::empty_table;
+use model_keeping::values::{ReadValues, of_table};
 use model_questions::record::{
     MAX_NESTING, Origin, Record, own_name, path_of, path_under, record_at,
 };
@@ -218,7 +218,7 @@ fn line_up(
 #[derive(Clone, Copy)]
 pub struct ModelValues<'a> {
     pub setting: &'a ModelSetting<'a>,
-    pub kept: &'a Table<Key, Found>,
+    pub kept: ReadValues<'a>,
 }
 
 /// A module of a run, with all that its values rest on.
@@ -228,20 +228,20 @@ pub struct PlacedModule<'a> {
     pub setting: RunSetting<'a>,
     /// The values that are kept; none where a module of its line was created while the run went
     /// on, about which nothing is kept.
-    pub kept: Option<&'a Table<Key, Found>>,
+    pub kept: Option<ReadValues<'a>>,
     /// In place of these.
     pub fresh: Table<Key, Found>,
 }
 
 impl<'a> PlacedModule<'a> {
-    /// The table that may be read.
-    fn table(&self) -> &Table<Key, Found>
+    /// The values that may be read.
+    fn values(&self) -> ReadValues<'_>
         requires { IsReadable self.now }
-        ensures { IsKept (rules_of (rules_by self.now.setting)) result.now.entries }
+        ensures { AreRight (rules_by self.now.setting) result }
     {
         match self.kept {
             Some(kept) => kept,
-            None => &self.fresh,
+            None => of_table(&self.fresh),
         }
     }
 
@@ -253,7 +253,7 @@ impl<'a> PlacedModule<'a> {
     {
         Sources {
             setting: &self.setting,
-            kept: self.table(),
+            kept: self.values(),
         }
     }
 }

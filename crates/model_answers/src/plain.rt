@@ -11,16 +11,14 @@ ghost use Rattle.model_questions.specs.Answers.{answer_of, gates_of, parameters_
 use crate::answering::{answer, gates_of, parameters_of, type_at, type_of_path, value_of_path};
 use crate::evaluated::EvaluatedModel;
 use crate::placed::ModelValues;
-use inside_keys::found::Found;
-use inside_keys::key::Key;
 use model_data::model::Model;
 use model_injections::injection::Injection;
+use model_keeping::values::ReadValues;
 use model_questions::answer::{Answer, Question};
 use model_questions::record::Record;
 use model_settings::setting::ModelSetting;
 use module_api::call::{Gate, Parameter};
 use ned_trees::declarations::TypeDeclaration;
-use param_engine::table::Table;
 use sim_values::NoMemory;
 use sqlite_items::Items;
 use std::alloc::Global;
@@ -30,7 +28,7 @@ use std::marker;
 pub struct PlainAnswers<'m> {
     setting: ModelSetting<'m>,
     /// The insides of its compound modules, and what these rest on.
-    kept: &'m Table<Key, Found>,
+    kept: ReadValues<'m>,
 }
 
 // Written out, so that a crate which drops one need not prove what that does.
@@ -45,8 +43,7 @@ impl<'m> Drop for PlainAnswers<'m> {
 
 // Contracts see the model that answers.
 impl<'m> marker::Model for PlainAnswers<'m> {
-    ghost use Rattle.param_engine.specs.Tables.{IsKept};
-    ghost use Rattle.inside_keys.specs.Values.{rules_of};
+    ghost use Rattle.model_keeping.specs.Held.{AreRight};
     ghost use Rattle.model_settings.specs.Standings.{setting_of};
     ghost use Rattle.model_data.specs.declared.model.Model.{Model};
     ghost use Rattle.model_data.specs.contracts.model.Model.{the_row};
@@ -57,7 +54,7 @@ impl<'m> marker::Model for PlainAnswers<'m> {
 
     ghost view = { λ a. a.setting };
 
-    ghost invariant = { λ a. IsKept (rules_of (setting_of a.setting)) a.kept.now.entries };
+    ghost invariant = { λ a. AreRight (setting_of a.setting) a.kept };
 }
 
 impl<'m> PlainAnswers<'m> {

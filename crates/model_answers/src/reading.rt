@@ -12,6 +12,7 @@ ghost use Rattle.model_answers.specs.Reading.{IsRight};
 use inside_keys::found::Found;
 use inside_keys::key::{Key, Module, What};
 use inside_run::values;
+use model_keeping::values::{ReadValues, ValuePlace, known};
 use model_settings::created::RunSetting;
 use param_engine::table::Table;
 use sim_values::NoMemory;
@@ -24,14 +25,14 @@ use std::alloc::Global;
 #[derive(Clone, Copy)]
 pub struct Sources<'a> {
     pub setting: &'a RunSetting<'a>,
-    pub kept: &'a Table<Key, Found>,
+    pub kept: ReadValues<'a>,
 }
 
-/// Where a value stands: at a place of the table that is kept, or of the one that was filled for a
+/// Where a value stands: at a place among those that are kept, or of the table that was filled for a
 /// question.
 #[derive(Clone, Copy)]
 pub enum Spot {
-    Kept(usize),
+    Kept(ValuePlace),
     Own(usize),
 }
 
@@ -56,7 +57,7 @@ pub fn find(
         ≡ Some (value_at (settings_of from.entry) key)) }
     ensures kept { IsKept (rules_of (settings_of from.entry)) own.new.entries }
 {
-    if let Some(place) = values::known(from.setting, from.kept, &key) {
+    if let Some(place) = known(from.setting, from.kept, &key) {
         return Ok(Ok(Spot::Kept(place)));
     }
     match values::value_of(alloc, from.setting, own, key)? {
